@@ -1,0 +1,2 @@
+-- What this crate's proofs and callers cite.
+pub mod Laws
