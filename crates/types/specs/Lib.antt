@@ -1,0 +1,3 @@
+pub mod Code
+pub mod Status
+pub mod Refusal

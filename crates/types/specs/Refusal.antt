@@ -1,0 +1,29 @@
+-- The numbers of the refusals.
+use Prim.Native.Nat.{ℕ}
+use Rattle.types.specs.declared.refusal.Refusal.{Refusal}
+use Rattle.types.specs.declared.refusal.Refusal.the-variants.{TooManyElements, TooManyCodes, ListLength, ShortStaging, ShortOutput, MalformedRequest, ShortArena, NotBuilt, InvalidAreaRange, InvalidRootAreaRange, NodeCodeOutOfRange, InvalidAreaAttribute, ChildAreaForbidden, UndefinedServiceAttribute, ServiceOutOfRange, AreaOutOfRange, OverlapKindMismatch, TableFull, NoParent, NoRoom, NoSuchBlock, NotAService, MalformedImage}
+
+abbrev pub refusalNumber : Refusal → ℕ
+refusalNumber TooManyElements = 1
+refusalNumber TooManyCodes = 2
+refusalNumber ListLength = 3
+refusalNumber ShortStaging = 4
+refusalNumber ShortOutput = 5
+refusalNumber MalformedRequest = 6
+refusalNumber ShortArena = 7
+refusalNumber NotBuilt = 8
+refusalNumber InvalidAreaRange = 11
+refusalNumber InvalidRootAreaRange = 12
+refusalNumber NodeCodeOutOfRange = 13
+refusalNumber InvalidAreaAttribute = 14
+refusalNumber ChildAreaForbidden = 15
+refusalNumber UndefinedServiceAttribute = 16
+refusalNumber ServiceOutOfRange = 17
+refusalNumber AreaOutOfRange = 18
+refusalNumber OverlapKindMismatch = 19
+refusalNumber TableFull = 20
+refusalNumber NoParent = 21
+refusalNumber NoRoom = 22
+refusalNumber NoSuchBlock = 23
+refusalNumber NotAService = 28
+refusalNumber MalformedImage = 30

@@ -1,0 +1,77 @@
+// Refusals: why a call is not carried out, each with its number.
+ghost use mathlib.Core.Path.{_≡_};
+ghost use Rattle.types.specs.Refusal.{refusalNumber};
+
+// Why a call is refused. Cases that the Rust knows have its names.
+pub enum Refusal {
+    // More than 512 elements.
+    TooManyElements,
+    // More than 16 service codes.
+    TooManyCodes,
+    // The list's bytes end before the counted elements do, or run on.
+    ListLength,
+    // The staging lent to a write is too short.
+    ShortStaging,
+    // The output lent to a read or a directory is too short.
+    ShortOutput,
+    // A malformed request line.
+    MalformedRequest,
+    // The arena is shorter than the blocks in use.
+    ShortArena,
+    // A card value that no accepted additions and limits produce.
+    NotBuilt,
+    InvalidAreaRange,
+    InvalidRootAreaRange,
+    NodeCodeOutOfRange,
+    InvalidAreaAttribute,
+    ChildAreaForbidden,
+    UndefinedServiceAttribute,
+    ServiceOutOfRange,
+    AreaOutOfRange,
+    OverlapKindMismatch,
+    // All 64 records are taken.
+    TableFull,
+    // No parent at that depth, or depth 0 or over 8.
+    NoParent,
+    // Unused usable blocks are fewer than the new store needs.
+    NoRoom,
+    // No such block on the card.
+    NoSuchBlock,
+    // A limit for a node that is no service.
+    NotAService,
+    // A malformed image line.
+    MalformedImage,
+}
+
+impl Refusal {
+    // The number of a refusal.
+    pub fn number(self) -> u8
+        ensures { λ r. ⌜ r ≡ refusalNumber self ⌝ }
+    {
+        match self {
+            Refusal::TooManyElements => 1,
+            Refusal::TooManyCodes => 2,
+            Refusal::ListLength => 3,
+            Refusal::ShortStaging => 4,
+            Refusal::ShortOutput => 5,
+            Refusal::MalformedRequest => 6,
+            Refusal::ShortArena => 7,
+            Refusal::NotBuilt => 8,
+            Refusal::InvalidAreaRange => 11,
+            Refusal::InvalidRootAreaRange => 12,
+            Refusal::NodeCodeOutOfRange => 13,
+            Refusal::InvalidAreaAttribute => 14,
+            Refusal::ChildAreaForbidden => 15,
+            Refusal::UndefinedServiceAttribute => 16,
+            Refusal::ServiceOutOfRange => 17,
+            Refusal::AreaOutOfRange => 18,
+            Refusal::OverlapKindMismatch => 19,
+            Refusal::TableFull => 20,
+            Refusal::NoParent => 21,
+            Refusal::NoRoom => 22,
+            Refusal::NoSuchBlock => 23,
+            Refusal::NotAService => 28,
+            Refusal::MalformedImage => 30,
+        }
+    }
+}
