@@ -1,0 +1,77 @@
+-- The purse rule. Manual, sections 3.4.4 (figures 3-15 to 3-17) and 3.4.4.1, 4.4.6 for direct access, 4.5.2, tables 4-11 and 4-12.
+use Prim.Native.Nat.{ℕ}
+use mathlib.Core.List.{List}
+use mathlib.Core.Bool.{Bool, cond, _&&_}
+use lib.Dec.{eqb}
+use lib.ListN.{drop}
+use lib.IntN.{ℤ, pos, _+ℤ_, _-ℤ_}
+use lib.Signed.{ltZ, leZ}
+use Rattle.types.specs.declared.status.Fault.{Fault}
+use Rattle.types.specs.declared.status.Fault.the-variants.{PurseRaised, CashbackRaised, SumTooLarge, OutsideLimits, OutsideWord, CashbackExceeds}
+use Rattle.spans.specs.Part.{put}
+use Rattle.word.specs.Word.{wordAt, wordBytes, wordOf, signedOf}
+use Rattle.blocks.specs.declared.purse.PurseOperation.{PurseOperation}
+use Rattle.blocks.specs.declared.purse.PurseOperation.the-variants.{Direct, Decrement, Cashback}
+use Rattle.blocks.specs.declared.purse.Limit.{Limit}
+use Rattle.blocks.specs.declared.purse.Limit.the-variants.{Unlimited, Limited}
+use Rattle.blocks.specs.declared.purse.PurseData.{PurseData}
+use Rattle.blocks.specs.declared.purse.PurseWrite.{PurseWrite}
+use Rattle.blocks.specs.declared.purse.PurseWrite.the-variants.{Unchanged, Whole, Stored, Failed}
+use Rattle.blocks.specs.declared.purse.Sum.{Sum}
+use Rattle.blocks.specs.declared.purse.Sum.the-variants.{Inside, Outside}
+use Rattle.blocks.specs.Outcome.{Outcome, passed, failed}
+
+-- signed 32 bits if the service has a limit, else unsigned
+unfoldable pub valueOf : Limit → ℕ → ℤ
+valueOf Unlimited n = pos n
+valueOf (Limited u l g) n = signedOf n
+
+-- lower to upper, or 0 to 4,294,967,295, ends included
+unfoldable pub insideOf : Limit → ℤ → Bool
+insideOf Unlimited v = leZ (pos 0) v && leZ v (pos 4294967295)
+insideOf (Limited u l g) v = leZ l v && leZ v u
+
+-- outside is 03 with a limit, 01 without
+unfoldable pub outsideOf : Limit → Fault
+outsideOf Unlimited = OutsideWord
+outsideOf (Limited u l g) = OutsideLimits
+
+-- a value in range as its 32 bits
+unfoldable pub sumOf : Limit → ℤ → Sum
+sumOf limit v = cond (insideOf limit v) (Inside (wordOf v)) Outside
+
+-- a sum in range is the new purse, stored with a new cashback
+unfoldable pub storedOf : Limit → ℕ → Sum → PurseWrite
+storedOf limit cashback (Inside n) = Stored n cashback
+storedOf limit cashback Outside = Failed (outsideOf limit)
+
+unfoldable pub purseRule : PurseOperation → Limit → PurseData → PurseData → PurseWrite
+-- purse or cashback above stored, or stored purse + new cashback over 4,294,967,295; then the range of the new purse
+purseRule Direct limit s c =
+    cond (ltZ (valueOf limit (s .purse)) (valueOf limit (c .purse))) (Failed PurseRaised)
+    (cond (ltZ (valueOf limit (s .cashback)) (valueOf limit (c .cashback))) (Failed CashbackRaised)
+    (cond (ltZ (pos 4294967295) (valueOf limit (s .purse) +ℤ valueOf limit (c .cashback))) (Failed SumTooLarge)
+    (cond (insideOf limit (valueOf limit (c .purse))) Whole (Failed (outsideOf limit)))))
+-- equal execution ids change nothing; else purse becomes stored less amount, cashback the amount
+purseRule Decrement limit s c =
+    cond (eqb (c .id) (s .id)) Unchanged
+    (storedOf limit (c .purse) (sumOf limit (valueOf limit (s .purse) -ℤ valueOf limit (c .purse))))
+-- equal execution ids change nothing; an amount above stored cashback fails; else purse becomes stored plus amount, cashback 0
+purseRule Cashback limit s c =
+    cond (eqb (c .id) (s .id)) Unchanged
+    (cond (ltZ (valueOf limit (s .cashback)) (valueOf limit (c .purse))) (Failed CashbackExceeds)
+    (storedOf limit 0 (sumOf limit (valueOf limit (s .purse) +ℤ valueOf limit (c .purse)))))
+
+-- figure 3-15: purse bytes 0-3, cashback 4-7, execution id 12-15
+unfoldable pub purseDataOf : List ℕ → PurseData
+purseDataOf s = record { purse = wordAt s 0; cashback = wordAt s 4; id = wordAt s 12 }
+
+-- the block to store: stored bytes 8-11 are kept, 12-15 come from the command
+unfoldable pub blockOf : List ℕ → List ℕ → PurseWrite → Outcome
+blockOf s c Unchanged = passed s
+blockOf s c Whole = passed (put s 0 16 c)
+blockOf s c (Stored p k) = passed (put (put (put s 0 4 (wordBytes p)) 4 4 (wordBytes k)) 12 4 (drop 12 c))
+blockOf s c (Failed f) = failed f
+
+unfoldable pub purseOf : PurseOperation → Limit → List ℕ → List ℕ → Outcome
+purseOf operation limit s c = blockOf s c (purseRule operation limit (purseDataOf s) (purseDataOf c))

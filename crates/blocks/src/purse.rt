@@ -1,0 +1,264 @@
+// The purse rule: a stored value that is lowered, given back, or written outright.
+use crate::Written;
+use types::status::Fault;
+ghost use mathlib.Core.Path.{_≡_};
+ghost use mathlib.Core.Bool.{true};
+ghost use Prim.Native.Nat.{_+_, _≤_, _<_, _^_};
+ghost use lib.ListN.{length};
+ghost use lib.IntN.{pos, _+ℤ_, _-ℤ_};
+ghost use lib.Signed.{mag, ltZ};
+ghost use Rattle.blocks.specs.Outcome.{writtenOf, bytesAfter};
+ghost use Rattle.blocks.specs.Purse.{valueOf, insideOf, outsideOf, sumOf, purseRule, purseDataOf, purseOf};
+
+// What a write to a purse block does, by the service's attribute and the access mode.
+pub enum PurseOperation {
+    Direct,
+    Decrement,
+    Cashback,
+}
+
+// The limits of a purse service, if it has any.
+pub enum Limit {
+    Unlimited,
+    Limited {
+        upper: i32,
+        lower: i32,
+        generation: u8,
+    },
+}
+
+// The fields of a block that the rule reads: purse, cashback, execution id.
+pub struct PurseData {
+    pub purse: u32,
+    pub cashback: u32,
+    pub id: u32,
+}
+
+// What becomes of a block: left as it is, replaced whole, two of its fields replaced; or the write fails.
+pub enum PurseWrite {
+    Unchanged,
+    Whole,
+    Stored { purse: u32, cashback: u32 },
+    Failed(Fault),
+}
+
+// A sum or a difference as its 32 bits, or outside the range.
+enum Sum {
+    Inside(u32),
+    Outside,
+}
+
+// What a field stands for: with a sign if the service has limits.
+fn value(limit: Limit, raw: u32) -> i64
+    ensures { λ r. ⌜ (r ≡ valueOf limit raw) × (mag r < 2 ^ 32) ⌝ }
+{
+    match limit {
+        Limit::Unlimited => raw as i64,
+        Limit::Limited {
+            upper: _,
+            lower: _,
+            generation: _,
+        } => word::signed(raw),
+    }
+}
+
+// Whether a purse may hold a value.
+fn inside(limit: Limit, v: i64) -> bool
+    ensures { λ r. ⌜ (r ≡ insideOf limit v) × (r ≡ true → mag v < 2 ^ 32) ⌝ }
+{
+    match limit {
+        Limit::Unlimited => {
+            if v < 0 {
+                return false;
+            }
+            v <= 0xffff_ffff
+        }
+        Limit::Limited {
+            upper,
+            lower,
+            generation: _,
+        } => {
+            if v < lower as i64 {
+                return false;
+            }
+            v <= upper as i64
+        }
+    }
+}
+
+// The fault of a value outside the range.
+fn outside(limit: Limit) -> Fault
+    ensures { λ r. ⌜ r ≡ outsideOf limit ⌝ }
+{
+    match limit {
+        Limit::Unlimited => Fault::OutsideWord,
+        Limit::Limited {
+            upper: _,
+            lower: _,
+            generation: _,
+        } => Fault::OutsideLimits,
+    }
+}
+
+// Whether one field is below another.
+fn below(limit: Limit, a: u32, b: u32) -> bool
+    ensures { λ r. ⌜ r ≡ ltZ (valueOf limit a) (valueOf limit b) ⌝ }
+{
+    let x = value(limit, a);
+    let y = value(limit, b);
+    x < y
+}
+
+// Whether two fields add up to more than four bytes hold.
+fn over(limit: Limit, a: u32, b: u32) -> bool
+    ensures { λ r. ⌜ r ≡ ltZ (pos 4294967295) (valueOf limit a +ℤ valueOf limit b) ⌝ }
+{
+    let x = value(limit, a);
+    let y = value(limit, b);
+    0xffff_ffff < x + y
+}
+
+// A value as its 32 bits, if a purse may hold it.
+fn ranged(limit: Limit, v: i64) -> Sum
+    ensures { λ r. ⌜ r ≡ sumOf limit v ⌝ }
+{
+    if inside(limit, v) {
+        Sum::Inside(word::unsigned(v))
+    } else {
+        Sum::Outside
+    }
+}
+
+// One field more than another.
+fn more(limit: Limit, a: u32, b: u32) -> Sum
+    ensures { λ r. ⌜ r ≡ sumOf limit (valueOf limit a +ℤ valueOf limit b) ⌝ }
+{
+    let x = value(limit, a);
+    let y = value(limit, b);
+    ranged(limit, x + y)
+}
+
+// One field less another.
+fn less(limit: Limit, a: u32, b: u32) -> Sum
+    ensures { λ r. ⌜ r ≡ sumOf limit (valueOf limit a -ℤ valueOf limit b) ⌝ }
+{
+    let x = value(limit, a);
+    let y = value(limit, b);
+    ranged(limit, x - y)
+}
+
+// Whether a purse may hold a field.
+fn fits(limit: Limit, a: u32) -> bool
+    ensures { λ r. ⌜ r ≡ insideOf limit (valueOf limit a) ⌝ }
+{
+    inside(limit, value(limit, a))
+}
+
+// A direct write: the whole block, but neither purse nor cashback may rise.
+fn direct(limit: Limit, stored: PurseData, command: PurseData) -> PurseWrite
+    ensures { λ r. ⌜ r ≡ purseRule PurseOperation.Direct limit stored command ⌝ }
+{
+    if below(limit, stored.purse, command.purse) {
+        return PurseWrite::Failed(Fault::PurseRaised);
+    }
+    if below(limit, stored.cashback, command.cashback) {
+        return PurseWrite::Failed(Fault::CashbackRaised);
+    }
+    if over(limit, stored.purse, command.cashback) {
+        return PurseWrite::Failed(Fault::SumTooLarge);
+    }
+    if fits(limit, command.purse) {
+        PurseWrite::Whole
+    } else {
+        PurseWrite::Failed(outside(limit))
+    }
+}
+
+// A decrement: the amount leaves the purse and becomes the cashback.
+fn decrement(limit: Limit, stored: PurseData, command: PurseData) -> PurseWrite
+    ensures { λ r. ⌜ r ≡ purseRule PurseOperation.Decrement limit stored command ⌝ }
+{
+    if command.id == stored.id {
+        return PurseWrite::Unchanged;
+    }
+    match less(limit, stored.purse, command.purse) {
+        Sum::Inside(purse) => PurseWrite::Stored {
+            purse,
+            cashback: command.purse,
+        },
+        Sum::Outside => PurseWrite::Failed(outside(limit)),
+    }
+}
+
+// A cashback: an amount up to the stored cashback goes back into the purse.
+fn cashback(limit: Limit, stored: PurseData, command: PurseData) -> PurseWrite
+    ensures { λ r. ⌜ r ≡ purseRule PurseOperation.Cashback limit stored command ⌝ }
+{
+    if command.id == stored.id {
+        return PurseWrite::Unchanged;
+    }
+    if below(limit, stored.cashback, command.purse) {
+        return PurseWrite::Failed(Fault::CashbackExceeds);
+    }
+    match more(limit, stored.purse, command.purse) {
+        Sum::Inside(purse) => PurseWrite::Stored { purse, cashback: 0 },
+        Sum::Outside => PurseWrite::Failed(outside(limit)),
+    }
+}
+
+// What a write makes of a purse block, on the blocks' fields.
+pub fn purse_write(
+    operation: PurseOperation,
+    limit: Limit,
+    stored: PurseData,
+    command: PurseData,
+) -> PurseWrite
+    ensures { λ r. ⌜ r ≡ purseRule operation limit stored command ⌝ }
+{
+    match operation {
+        PurseOperation::Direct => direct(limit, stored, command),
+        PurseOperation::Decrement => decrement(limit, stored, command),
+        PurseOperation::Cashback => cashback(limit, stored, command),
+    }
+}
+
+// The fields of a block.
+fn purse_data(block: &[u8]) -> PurseData
+    requires { ⌜ 16 ≤ length (now block) ⌝ }
+    ensures { λ r. ⌜ r ≡ purseDataOf (now (block .entry)) ⌝ }
+{
+    PurseData {
+        purse: word::word(block, 0),
+        cashback: word::word(block, 4),
+        id: word::word(block, 12),
+    }
+}
+
+// The same rule on a block's sixteen bytes, in place.
+pub fn apply_purse_write(
+    block: &mut [u8],
+    command: &[u8],
+    operation: PurseOperation,
+    limit: Limit,
+) -> Written
+    requires { ⌜ (16 ≤ length (now block)) × (16 ≤ length (now command)) ⌝ }
+    ensures { λ r. ⌜ r ≡ writtenOf (purseOf operation limit (now (block .entry)) (now (command .entry))) ⌝ }
+    ensures { λ r. ⌜ now (block .exit) ≡ bytesAfter (now (block .entry)) (purseOf operation limit (now (block .entry)) (now (command .entry))) ⌝ }
+{
+    let stored = purse_data(block);
+    let asked = purse_data(command);
+    match purse_write(operation, limit, stored, asked) {
+        PurseWrite::Unchanged => Written::Done,
+        PurseWrite::Whole => {
+            spans::copy(block, 0, command, 0, 16);
+            Written::Done
+        }
+        PurseWrite::Stored { purse, cashback } => {
+            word::put_word(block, 0, purse);
+            word::put_word(block, 4, cashback);
+            spans::copy(block, 12, command, 12, 4);
+            Written::Done
+        }
+        PurseWrite::Failed(fault) => Written::Failed(fault),
+    }
+}
