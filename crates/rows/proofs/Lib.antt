@@ -1,0 +1,2 @@
+-- The worked rows.
+pub mod Rows

@@ -1,0 +1,1 @@
+// The worked rows of the rules, proved together in proofs/Rows.antt: no code.
