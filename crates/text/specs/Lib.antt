@@ -1,0 +1,4 @@
+pub mod Decimal
+pub mod Digit
+pub mod Field
+pub mod Hex
