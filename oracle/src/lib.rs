@@ -1,0 +1,26 @@
+//! The oracle of Uluvoli: the Rust emulator that the card is a port of, unchanged, answering
+//! questions. `README.md` says what is carried, what is stood in for, and the line formats.
+//!
+//! From the bottom up: `felica_standard` is the Rust with our stand-ins around it. What its
+//! emulator hides from the outside is asked through `emulator::doors`. `refusal` has document
+//! 01's numbers, `tree` grows a card by its rules, `request` serves a request on it, and `replay`
+//! answers a whole text. `leaves` asks the questions that need no card, `trees` those about
+//! growing one, `requests` those about requests; `draw` draws what they ask about. `random`,
+//! `hex`, `lines`, `files`, `cause`, `counts` and `program` are tools.
+
+pub mod cause;
+pub mod counts;
+pub mod draw;
+pub mod felica_standard;
+pub mod files;
+pub mod hex;
+pub mod leaves;
+pub mod lines;
+pub mod program;
+pub mod random;
+pub mod refusal;
+pub mod replay;
+pub mod request;
+pub mod requests;
+pub mod tree;
+pub mod trees;

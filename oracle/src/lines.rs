@@ -1,0 +1,40 @@
+//! The lines that make a card, which several lists have in common. `README.md` describes them.
+
+use crate::refusal::Refusal;
+use crate::tree::{Addition, Card};
+
+/// The line that starts a card, lent an arena of this many bytes.
+pub fn start(card: &Card, arena: usize) -> String {
+    let (system, version) = (card.rust().system_code(), card.key_version(0xFFFF));
+    format!("T {system:04X} {version:04X} {arena:08X}\n")
+}
+
+/// The line that lends an arena of another length from there on.
+pub fn lent(arena: usize) -> String {
+    format!("m {arena:08X}\n")
+}
+
+/// The line of an addition with the answer, 0 if it was accepted, and the blocks then in use.
+pub fn addition(addition: Addition, refusal: Refusal, used: u32) -> String {
+    match addition {
+        Addition::Area {
+            depth,
+            code,
+            end,
+            version,
+        } => format!("a {depth:08X} {code:04X} {end:04X} {version:04X} {refusal:02X}\n"),
+        Addition::Service {
+            depth,
+            code,
+            blocks,
+            version,
+        } => format!(
+            "s {depth:08X} {code:04X} {blocks:08X} {version:04X} {refusal:02X} {used:04X}\n"
+        ),
+        Addition::Limit(limit) => {
+            let (upper, lower) = (limit.upper_limit, limit.lower_limit);
+            let generation = limit.generation_number;
+            format!("l {upper:08X} {lower:08X} {generation:02X} {refusal:02X}\n")
+        }
+    }
+}
