@@ -1,14 +1,10 @@
 // Questions on service codes.
+use stored::number16;
 use types::code::Decoded;
 use types::code::DecodedKind;
 use types::code::ServiceAttribute;
 use types::code::ServiceCode;
 use types::code::ServiceKind;
-
-// A number of 16 bits, high byte first.
-pub(crate) fn number16(high: u8, low: u8) -> u16 {
-    high as u16 * 256 + low as u16
-}
 
 // A bool as the list has it.
 fn bit(b: bool) -> u8 {

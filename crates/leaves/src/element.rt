@@ -1,6 +1,6 @@
 // Questions on list elements and places.
-use crate::code::number16;
 use lists::element::BlockListElement;
+use stored::number16;
 use types::status;
 
 // A line `P`: number, index, mode, and the packed bytes.

@@ -1,10 +1,10 @@
 // Questions on the purse rule and the cyclic rule.
-use crate::code::number16;
 use blocks::Written;
 use blocks::cyclic;
 use blocks::purse;
 use blocks::purse::Limit;
 use blocks::purse::PurseOperation;
+use stored::number32;
 
 // Status flag 2 of how a rule ended.
 fn flag2(w: Written) -> u8 {
@@ -12,11 +12,6 @@ fn flag2(w: Written) -> u8 {
         Written::Done => 0,
         Written::Failed(fault) => fault.status_flag2(),
     }
-}
-
-// A number of 32 bits in two's complement, high byte first.
-fn number32(a: u8, b: u8, c: u8, d: u8) -> i32 {
-    word::signed32(number16(a, b) as u32 * 0x1_0000 + number16(c, d) as u32)
 }
 
 // The operation of a number in the list.
@@ -37,8 +32,8 @@ fn limit(b: &[u8]) -> Limit {
         return Limit::Unlimited;
     }
     Limit::Limited {
-        upper: number32(b[2], b[3], b[4], b[5]),
-        lower: number32(b[6], b[7], b[8], b[9]),
+        upper: word::signed32(number32(b[2], b[3], b[4], b[5])),
+        lower: word::signed32(number32(b[6], b[7], b[8], b[9])),
         generation: 0,
     }
 }

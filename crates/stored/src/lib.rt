@@ -1,7 +1,9 @@
 // Stored answers: files 0001.in, 0002.in, .. of a program's folder, and lines of hex in them.
+use text::field;
 use text::hex;
 use text::hex::Code;
-ghost use Prim.Native.Nat.{_+_, _≤_, _<_};
+ghost use mathlib.Core.Path.{_≡_};
+ghost use Prim.Native.Nat.{_+_, _*_, _≤_, _<_};
 ghost use lib.ListN.{length};
 
 // The digit of a number's last decimal place.
@@ -70,6 +72,28 @@ pub fn bytes_of(line: &[u8], out: &mut [u8]) -> usize
         i += 2;
     }
     n
+}
+
+// Where the line that starts at an index ends.
+pub fn line_end(text: &[u8], from: usize) -> usize
+    requires { ⌜ from ≤ length (now text) ⌝ }
+    ensures { λ r. ⌜ (from ≤ r) × (r ≤ length (now (text .entry))) ⌝ }
+{
+    field::field_end(text, from, b'\n')
+}
+
+// A number of 16 bits, high byte first.
+pub fn number16(high: u8, low: u8) -> u16
+    ensures { λ r. ⌜ r ≡ high * 256 + low ⌝ }
+{
+    high as u16 * 256 + low as u16
+}
+
+// A number of 32 bits, high byte first.
+pub fn number32(a: u8, b: u8, c: u8, d: u8) -> u32
+    ensures { λ r. ⌜ r ≡ (a * 256 + b) * 65536 + (c * 256 + d) ⌝ }
+{
+    number16(a, b) as u32 * 65536 + number16(c, d) as u32
 }
 
 // Prints a line of a label and a number.

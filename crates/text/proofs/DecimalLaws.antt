@@ -194,6 +194,10 @@ dec-long (suc (suc k)) n z h =
           omega arith
     ]
 
+-- A number of 64 bits has at most 20.
+pub dec-room : (n : ℕ) → n < 2 ^ 64 → length (decText n) ≤ 20
+dec-room n h = dec-long 20 n (omega arith) (omega arith)
+
 -- A decimal that was printed has no leading zero.
 pub dec-plain : (n : ℕ) → plain (decText n) ≡ true
 unfolding plain

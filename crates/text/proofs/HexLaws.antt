@@ -77,16 +77,22 @@ toHex-at (x ∷ s) zero h = (refl, refl)
 toHex-at (x ∷ s) (suc i) h = rw (odd i, even i) (toHex-at s i (omega arith))
 
 -- No bytes are printed as `-`.
-pub text-none : (s : List ℕ) → length s ≡ 0 → hexText s ≡ 45 ∷ []
+pub hexText-none : (s : List ℕ) → length s ≡ 0 → hexText s ≡ 45 ∷ []
 unfolding hexText
-text-none [] h = refl
-text-none (x ∷ s) h = absurd (omega arith)
+hexText-none [] h = refl
+hexText-none (x ∷ s) h = absurd (omega arith)
 
 -- Others as their digits.
-pub text-some : (s : List ℕ) → (length s ≡ 0 → ⊥) → hexText s ≡ toHex s
+pub hexText-some : (s : List ℕ) → (length s ≡ 0 → ⊥) → hexText s ≡ toHex s
 unfolding hexText
-text-some [] h = absurd (h refl)
-text-some (x ∷ s) h = refl
+hexText-some [] h = absurd (h refl)
+hexText-some (x ∷ s) h = refl
+
+-- A hex field takes two bytes for each byte, and one for none.
+pub hexText-long : (s : List ℕ) → length (hexText s) ≤ length s * 2 + 1
+unfolding hexText
+hexText-long [] = omega arith
+hexText-long (x ∷ s) = omega (arith, length-toHex (x ∷ s))
 
 -- The number that four hex digits spell.
 pub spelt-four
@@ -146,18 +152,18 @@ pub digits-field : (s : List ℕ) → 1 < length s → length s % 2 ≡ 0 → di
 digits-field s h e d = rw (field-many s h, eq-eqb (length s % 2) 0 e, d)
 
 -- What is printed as a hex field is one.
-pub text-field : (s : List ℕ) → ((i : ℕ) → getD s i 0 < 256) → hexField (hexText s) ≡ true
+pub hexText-field : (s : List ℕ) → ((i : ℕ) → getD s i 0 < 256) → hexField (hexText s) ≡ true
 unfolding hexText hexField
-text-field [] b = refl
-text-field (x ∷ s) b =
+hexText-field [] b = refl
+hexText-field (x ∷ s) b =
     let n = length-toHex (x ∷ s) in
     digits-field (toHex (x ∷ s)) (omega arith) (omega arith) (toHex-digits (x ∷ s) b)
 
 -- Read again it is the same bytes.
-pub text-back : (s : List ℕ) → ((i : ℕ) → getD s i 0 < 256) → unhex (hexText s) ≡ s
+pub hexText-back : (s : List ℕ) → ((i : ℕ) → getD s i 0 < 256) → unhex (hexText s) ≡ s
 unfolding hexText unhex
-text-back [] b = refl
-text-back (x ∷ s) b = hex-back (x ∷ s) b
+hexText-back [] b = refl
+hexText-back (x ∷ s) b = hex-back (x ∷ s) b
 
 -- Two bytes.
 two-bytes : (a b : ℕ) → a < 256 → b < 256 → (i : ℕ) → getD (a ∷ b ∷ []) i 0 < 256

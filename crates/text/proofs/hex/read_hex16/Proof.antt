@@ -1,12 +1,13 @@
 -- `text::hex::read_hex16` meets its contract: the tests are those of `hex16`. Assumes nothing.
 use borrow.Author.Needs.{needs}
 use native.Mathlib.Omega.{arith}
-use mathlib.Core.Path.{_≡_, sym, _∙_}
+use mathlib.Core.Path.{_≡_, sym, ap, _∙_}
 use borrow.Author.Tests.{not-true, not-false}
 use denote.Ref.{now}
 use Prim.Native.Nat.{_+_, _*_}
 use Rattle.text.specs.Digit.{spelt}
 use Rattle.text.specs.Hex.{hex16}
+use Rattle.text.specs.declared.hex.Code.the-variants.{Is}
 use Rattle.text.proofs.DigitLaws.{digit-at}
 use Rattle.text.proofs.HexLaws.{spelt-four, hex16-four}
 use Rattle.text.proofs.Shared.{tests}
@@ -42,7 +43,7 @@ returns-3 c =
     let d = sym (t .before .is-hex .ensures) ∙ not-false _ (t .if2 .left) in
     let n : c .before .before .before .byte .result * 256 + c .byte2 .result ≡ spelt 16 0 s =
     rw (c .before .before .before .byte .ensures, c .byte2 .ensures) (sym (spelt-four s (omega arith))) in
-    rw n (sym (hex16-four s (omega arith) d))
+    ap Is n ∙ sym (hex16-four s (omega arith) d)
 
 pub read-hex16-spec : {M : Type 1} → statement M
 read-hex16-spec =

@@ -1,0 +1,17 @@
+-- A field ends no earlier than it begins, and no later than the text.
+use native.Mathlib.Omega.{arith}
+use borrow.Author.Needs.{needs}
+use denote.Ref.{now}
+use Rattle.text.proofs.FieldLaws.{end-from, end-bound}
+use Rattle.stored.proofs.line_end.Statement.{statement}
+use Rattle.stored.proofs.line_end.Tie as tie
+
+returns : tie.Need-returns
+returns c =
+    let from = c .before .before .args .from in
+    let s = now (c .before .before .args .text) in
+    let e = c .field-end .ensures in
+    (omega (arith, end-from 10 from s), omega (arith, end-bound 10 from s (omega arith)))
+
+pub line-end-spec : {M : Type 1} → statement M
+line-end-spec = tie.close (tie.spec (λ c κs. search needs) returns)
