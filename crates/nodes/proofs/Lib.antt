@@ -1,0 +1,5 @@
+pub mod Scan
+mod Turns
+pub mod Searches
+pub mod Records
+pub mod Growth

@@ -1,0 +1,82 @@
+// One record: an area or a service.
+use blocks::purse::Limit;
+ghost use mathlib.Core.Path.{_≡_};
+ghost use Rattle.nodes.specs.Node.{rootNode, isArea, isService, endOf};
+
+// What a node is: an area to the end of its codes, or a service over a store of blocks.
+pub enum Entry {
+    Area {
+        end: u16,
+    },
+    Service {
+        start: u16,
+        blocks: u16,
+        limit: Limit,
+    },
+}
+
+// A node of the tree, at its depth; the root's is 0.
+pub struct Node {
+    pub depth: u8,
+    pub code: u16,
+    pub version: u16,
+    pub entry: Entry,
+}
+
+impl Node {
+    // Area 0, which holds all others, and what an unused record reads.
+    pub fn root() -> Self
+        ensures { λ r. ⌜ r ≡ rootNode ⌝ }
+    {
+        Node {
+            depth: 0,
+            code: 0,
+            version: 0,
+            entry: Entry::Area { end: 0xfffe },
+        }
+    }
+}
+
+impl Entry {
+    // Whether a node is an area.
+    pub fn is_area(self) -> bool
+        ensures { λ r. ⌜ r ≡ isArea self ⌝ }
+    {
+        match self {
+            Entry::Area { end: _ } => true,
+            Entry::Service {
+                start: _,
+                blocks: _,
+                limit: _,
+            } => false,
+        }
+    }
+
+    // Whether a node is a service.
+    pub fn is_service(self) -> bool
+        ensures { λ r. ⌜ r ≡ isService self ⌝ }
+    {
+        match self {
+            Entry::Area { end: _ } => false,
+            Entry::Service {
+                start: _,
+                blocks: _,
+                limit: _,
+            } => true,
+        }
+    }
+
+    // The last code of an area; a service has none.
+    pub fn end(self) -> u16
+        ensures { λ r. ⌜ r ≡ endOf self ⌝ }
+    {
+        match self {
+            Entry::Area { end } => end,
+            Entry::Service {
+                start: _,
+                blocks: _,
+                limit: _,
+            } => 0,
+        }
+    }
+}
