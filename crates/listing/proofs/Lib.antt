@@ -1,0 +1,7 @@
+pub mod Under
+pub mod Worded
+mod Summing
+mod Found
+mod Laid
+mod Answered
+mod Lists

@@ -1,0 +1,17 @@
+-- FFFF, or an area that was found.
+use mathlib.Core.Path.{_∙_, ap}
+use borrow.Author.Needs.{needs}
+use Rattle.nodes.proofs.Scan.{tests}
+use Rattle.listing.specs.Keys.{isFound, areaOrSystem}
+use Rattle.listing.proofs.keys.area_or_system.Statement.{statement}
+use Rattle.listing.proofs.keys.area_or_system.Tie as tie
+
+pub area-or-system-spec : {M : Type 1} → statement M
+unfolding areaOrSystem
+area-or-system-spec =
+    tie.close
+    (tie.spec
+    (λ c. search tests)
+    (λ c κs. search needs)
+    (λ c κs. search needs)
+    (λ c. c .is-found .ensures ∙ ap isFound (c .before .find-area .ensures) ∙ search tests))

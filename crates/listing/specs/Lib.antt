@@ -1,0 +1,5 @@
+pub mod Under
+pub mod Directory
+pub mod Total
+pub mod Keys
+pub mod Worded
