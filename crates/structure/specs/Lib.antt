@@ -1,0 +1,5 @@
+pub mod Card
+pub mod Grow
+pub mod Built
+pub mod Build
+pub mod Query
