@@ -1,10 +1,10 @@
-//! A list of texts as numbered files of bounded size.
+//! Numbered files, and a list of texts joined to files of bounded size.
 
 use std::fs;
 use std::io;
 use std::path::Path;
 
-/// No file is longer than this many bytes.
+/// No file of joined texts is longer than this many bytes.
 pub const MOST_BYTES: usize = 60_000;
 
 /// The parts joined to texts of at most `MOST_BYTES` bytes; no part is cut.
@@ -24,18 +24,29 @@ pub fn joined(parts: &[String]) -> Vec<String> {
 }
 
 /// Writes the joined parts as `folder`/0001.in, 0002.in and so on and gives the number of files.
-/// The folder is made if need be; files that a longer list left behind there are removed.
 pub fn write(parts: &[String], folder: &Path) -> io::Result<usize> {
-    fs::create_dir_all(folder)?;
     let texts = joined(parts);
-    let name = |number: usize| folder.join(format!("{number:04}.in"));
-    for (at, text) in texts.iter().enumerate() {
-        fs::write(name(at + 1), text)?;
-    }
-    let mut number = texts.len() + 1;
-    while name(number).exists() {
-        fs::remove_file(name(number))?;
-        number += 1;
-    }
+    numbered(folder, "in", texts.iter().map(String::as_bytes))?;
     Ok(texts.len())
+}
+
+/// Writes these files as `folder`/0001.`ending`, 0002.`ending` and so on. The folder is made if
+/// need be; files that a longer list left behind there are removed.
+pub fn numbered<'a>(
+    folder: &Path,
+    ending: &str,
+    files: impl Iterator<Item = &'a [u8]>,
+) -> io::Result<()> {
+    fs::create_dir_all(folder)?;
+    let name = |number: usize| folder.join(format!("{number:04}.{ending}"));
+    let mut next = 1;
+    for file in files {
+        fs::write(name(next), file)?;
+        next += 1;
+    }
+    while name(next).exists() {
+        fs::remove_file(name(next))?;
+        next += 1;
+    }
+    Ok(())
 }

@@ -5,8 +5,9 @@
 //! emulator hides from the outside is asked through `emulator::doors`. `refusal` has document
 //! 01's numbers, `tree` grows a card by its rules, `request` serves a request on it, and `replay`
 //! answers a whole text. `leaves` asks the questions that need no card, `trees` those about
-//! growing one, `requests` those about requests; `draw` draws what they ask about. `random`,
-//! `hex`, `lines`, `files`, `cause`, `counts` and `program` are tools.
+//! growing one, `requests` those about requests, `texts` those about whole texts; `draw` draws
+//! what they ask about. `random`, `hex`, `lines`, `files`, `cause`, `counts` and `program` are
+//! tools.
 
 pub mod cause;
 pub mod counts;
@@ -22,5 +23,6 @@ pub mod refusal;
 pub mod replay;
 pub mod request;
 pub mod requests;
+pub mod texts;
 pub mod tree;
 pub mod trees;

@@ -3,14 +3,28 @@
 use crate::counts::Counts;
 use crate::files;
 use std::io::{self, Write};
-use std::path::Path;
+use std::path::PathBuf;
 
 /// A list drawn to a length and a seed: its texts, none of which may be cut, and what it met.
 pub type List = (Vec<String>, Counts);
 
-/// Reads the words `N SEED [DIR | --counts]`, where `--small` may stand in place of `N SEED`,
-/// draws that list and prints it, writes it to the folder or prints its counts.
-pub fn run(name: &str, small: (usize, u64), draw: impl Fn(usize, u64) -> List) -> io::Result<()> {
+/// What a program is asked for.
+pub struct Words {
+    pub length: usize,
+    pub seed: u64,
+    pub wanted: Wanted,
+}
+
+/// Where a list goes: to standard output, into a folder, or nowhere but into its counts.
+pub enum Wanted {
+    Print,
+    Folder(PathBuf),
+    Counts,
+}
+
+/// Reads the words `N SEED [DIR | --counts]`, where `--small` may stand in place of `N SEED` and
+/// means these two.
+pub fn words(name: &str, small: (usize, u64)) -> io::Result<Words> {
     let words: Vec<String> = std::env::args().skip(1).collect();
     let usage = || io::Error::other(format!("usage: {name} (N SEED | --small) [DIR | --counts]"));
     let ((length, seed), rest) = match words.as_slice() {
@@ -22,20 +36,35 @@ pub fn run(name: &str, small: (usize, u64), draw: impl Fn(usize, u64) -> List) -
         }
         _ => return Err(usage()),
     };
+    let wanted = match rest {
+        [] => Wanted::Print,
+        [word] if word == "--counts" => Wanted::Counts,
+        [folder] => Wanted::Folder(folder.into()),
+        _ => return Err(usage()),
+    };
+    Ok(Words {
+        length,
+        seed,
+        wanted,
+    })
+}
+
+/// Draws the list that the words ask for, and prints it, writes it or prints its counts.
+pub fn run(name: &str, small: (usize, u64), draw: impl Fn(usize, u64) -> List) -> io::Result<()> {
+    let words = words(name, small)?;
+    let (texts, counts) = draw(words.length, words.seed);
     let mut out = io::BufWriter::new(io::stdout().lock());
-    match rest {
-        [] => {
-            for text in draw(length, seed).0 {
+    match words.wanted {
+        Wanted::Print => {
+            for text in texts {
                 out.write_all(text.as_bytes())?;
             }
         }
-        [word] if word == "--counts" => write!(out, "{}", draw(length, seed).1)?,
-        [folder] => {
-            let texts = draw(length, seed).0;
-            let count = files::write(&texts, Path::new(folder))?;
+        Wanted::Folder(folder) => {
+            let count = files::write(&texts, &folder)?;
             writeln!(out, "{count} files")?;
         }
-        _ => return Err(usage()),
+        Wanted::Counts => write!(out, "{counts}")?,
     }
     out.flush()
 }

@@ -52,7 +52,7 @@ fn plan(random: &mut Random) -> Plan {
     match random.below(100) {
         0..3 => {
             plan.habit.spoilt = 12;
-            plan.additions = 3 + random.below(8);
+            plan.additions = 4 + random.below(10);
             plan.full = true;
         }
         3..7 => {
@@ -62,8 +62,8 @@ fn plan(random: &mut Random) -> Plan {
             plan.additions = 16 + random.below(35);
         }
         7..25 => {
-            plan.habit.spoilt = 5;
-            plan.habit.areas = 6;
+            plan.habit.spoilt = 4;
+            plan.habit.areas = 7;
             plan.habit.deep = true;
         }
         25..45 => plan.lent = 6,
@@ -74,7 +74,7 @@ fn plan(random: &mut Random) -> Plan {
 
 /// The text of one tree.
 fn tree(random: &mut Random, counts: &mut Counts) -> String {
-    let plan = plan(random);
+    let mut plan = plan(random);
     let (system, version) = (random.word() as u16, random.word() as u16);
     let mut arena = if plan.full || plan.habit.stores == Stores::OneLarge {
         65_536
@@ -88,6 +88,11 @@ fn tree(random: &mut Random, counts: &mut Counts) -> String {
     let mut text = lines::start(&card, arena);
     let mut left = plan.additions;
     while left > 0 {
+        if card.nodes().len() == MOST_NODES {
+            // From here on 20 is met; now and then what comes before it, or what would after it.
+            plan.habit.spoilt = 2;
+            plan.lent = 5;
+        }
         let short = usable(arena) < card.used();
         if random.once_in(if short { 2 } else { plan.lent }) {
             arena = additions::other_arena(random, &card);

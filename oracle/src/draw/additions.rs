@@ -182,15 +182,15 @@ fn spoil(random: &mut Random, card: &Card, arena: usize, parent: &Node, addition
     match addition {
         Addition::Area {
             depth, code, end, ..
-        } => match random.below(9) {
-            0 => *depth = no_depth(random, *depth),
-            1 => *code = 0xFFFF,
-            2 => *end = 0xFFFF,
-            3 => *code = 0x0000,
-            4 => (*code, *end) = (0x0000, 0xFFFE),
-            5 => *code ^= random.below(64) as u16,
-            6 => *end = random.below(usize::from(*code) + 1) as u16,
-            7 => *end = beyond,
+        } => match random.below(10) {
+            0 | 1 => *depth = no_depth(random, card, *depth),
+            2 => *code = 0xFFFF,
+            3 => *end = 0xFFFF,
+            4 => *code = 0x0000,
+            5 => (*code, *end) = (0x0000, 0xFFFE),
+            6 => *code ^= random.below(64) as u16,
+            7 => *end = random.below(usize::from(*code) + 1) as u16,
+            8 => *end = beyond,
             _ => *code = before & 0xFFC0,
         },
         Addition::Service {
@@ -198,27 +198,28 @@ fn spoil(random: &mut Random, card: &Card, arena: usize, parent: &Node, addition
             code,
             blocks,
             ..
-        } => match random.below(7) {
-            0 => *depth = no_depth(random, *depth),
-            1 => *code = 0xFFFF,
-            2 => *code ^= random.below(64) as u16,
-            3 => *code = codes::defined(random, beyond >> 6),
-            4 => *code = codes::defined(random, before >> 6),
-            5 => *code = codes::of_other_kind(random, card, *code),
+        } => match random.below(8) {
+            0 | 1 => *depth = no_depth(random, card, *depth),
+            2 => *code = 0xFFFF,
+            3 => *code ^= random.below(64) as u16,
+            4 => *code = codes::defined(random, beyond >> 6),
+            5 => *code = codes::defined(random, before >> 6),
+            6 => *code = codes::of_other_kind(random, card, *code),
             _ => *blocks = usable(arena) - usable(arena).min(card.used()) + 1,
         },
         Addition::Limit(_) => {}
     }
 }
 
-/// A depth that is likely to have no parent.
-fn no_depth(random: &mut Random, depth: u32) -> u32 {
-    match random.below(6) {
+/// A depth that is likely to have no parent: none at all, too deep, below a node that is a service
+/// or that others have shut.
+fn no_depth(random: &mut Random, card: &Card, depth: u32) -> u32 {
+    match random.below(8) {
         0 => 0,
         1 => DEEPEST + 1,
-        2 => depth + 1,
-        3 => random.below(12) as u32,
-        4 => random.pick(&[0x100, 0x101, 0x1_0001, 0x8000_0001, u32::MAX]),
+        2 | 3 => depth + 1,
+        4 | 5 => card.nodes()[random.below(card.nodes().len())].depth + 1,
+        6 => random.pick(&[0x100, 0x101, 0x1_0001, 0x8000_0001, u32::MAX]),
         _ => random.word(),
     }
 }

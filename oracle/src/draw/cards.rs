@@ -17,7 +17,7 @@ const HABIT: Habit = Habit {
 };
 
 /// The additions of a card, all of which it accepts with an arena of this many bytes. Every third
-/// purse has a limit.
+/// purse has a limit, at times in place of an earlier one.
 pub fn additions(random: &mut Random, arena: usize) -> Vec<Addition> {
     let mut card = Card::new(0x0000, 0x0000);
     let mut additions = Vec::new();
@@ -33,10 +33,12 @@ pub fn additions(random: &mut Random, arena: usize) -> Vec<Addition> {
             continue;
         }
         additions.push(addition);
-        if is_purse(addition) && random.once_in(3) {
+        let mut limited = is_purse(addition) && random.once_in(3);
+        while limited {
             let limit = Addition::Limit(values::limit(random));
             card.add(arena, limit).expect("a service takes a limit");
             additions.push(limit);
+            limited = random.once_in(4);
         }
     }
     additions

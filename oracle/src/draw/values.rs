@@ -7,7 +7,8 @@ use crate::random::Random;
 /// The upper and the lower bound of a purse, as bits.
 pub type Bounds = (u32, u32);
 
-/// Bounds of limits as (upper, lower): wide, narrow, one value, ends of the range, lower above upper.
+/// Bounds of limits as (upper, lower): wide, narrow, one value, ends of the range, lower above
+/// upper.
 const LIMITS: [(i32, i32); 16] = [
     (i32::MAX, 0),
     (200, -50),

@@ -10,7 +10,7 @@ use crate::tree::Card;
 use line::Image;
 
 /// The length in bytes of the arena that is lent.
-const ARENA: usize = 65_536;
+pub const ARENA: usize = 65_536;
 
 /// The length in bytes of the staging or output that is lent: enough for every request.
 const ROOM: usize = 65_536;

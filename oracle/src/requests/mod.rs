@@ -14,7 +14,7 @@ use crate::request::{self, Request, Told};
 use crate::tree::{Card, usable};
 
 /// Length and seed of the list that is small enough to be stored.
-pub const SMALL: (usize, u64) = (2_000, 34);
+pub const SMALL: (usize, u64) = (2_000, 1);
 
 /// A card gets no further request once its text is this long, so that it fits one file.
 const LONG_TEXT: usize = 20_000;
@@ -50,12 +50,12 @@ fn card(random: &mut Random, most: usize, counts: &mut Counts) -> (String, usize
     let mut served = 0;
     let mut last = None;
     while served < wanted && text.len() < LONG_TEXT {
-        let short = usable(arena) < card.used();
-        if random.once_in(if short { 2 } else { 40 }) {
+        let short = |arena| usable(arena) < card.used();
+        if random.once_in(if short(arena) { 2 } else { 40 }) {
             arena = additions::other_arena(random, &card);
             text += &lines::lent(arena);
         }
-        if random.once_in(6) {
+        if random.once_in(6) && !short(arena) {
             set(random, &mut card, &mut text);
         }
         // Now and then a request is sent again.
@@ -63,7 +63,7 @@ fn card(random: &mut Random, most: usize, counts: &mut Counts) -> (String, usize
             Some(request) if random.once_in(12) => request,
             _ => requests::request(random, &card),
         };
-        let room = requests::room(random, &card, &request);
+        let room = requests::room(random, &card, arena, &request);
         text += &serve(&mut card, arena, room, &request, counts);
         last = Some(request);
         served += 1;

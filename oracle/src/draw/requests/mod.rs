@@ -4,10 +4,10 @@ mod spoil;
 
 use super::{codes, values};
 use crate::felica_standard::emulator::doors::{self, Block, PurseStep};
-use crate::felica_standard::{ServiceAttribute, ServiceCode, ServiceKind};
+use crate::felica_standard::{BLOCK_SIZE, ServiceAttribute, ServiceCode, ServiceKind};
 use crate::random::Random;
 use crate::request::{MOST_CODES, MOST_ELEMENTS, Request};
-use crate::tree::Card;
+use crate::tree::{Card, usable};
 
 /// A request before it is packed.
 struct Draft<'a> {
@@ -236,18 +236,22 @@ fn packed(random: &mut Random, draft: &Draft) -> Request {
     }
 }
 
-/// A length of staging or output lent with a request: mostly enough, often just so.
-pub fn room(random: &mut Random, card: &Card, request: &Request) -> usize {
-    let needed = 16
-        * if request.write {
-            card.used() as usize
-        } else {
-            request.count.min(MOST_ELEMENTS) as usize
+/// A length of staging or output lent with a request and an arena of this many bytes: mostly
+/// enough, often just so; more often too short where another test of the request fails as well.
+pub fn room(random: &mut Random, card: &Card, arena: usize, request: &Request) -> usize {
+    let blocks = request.count.min(MOST_ELEMENTS) as usize;
+    let needed = BLOCK_SIZE
+        * match request.write {
+            true => card.used() as usize,
+            false => blocks,
         };
-    match random.below(60) {
+    let arena_short = usable(arena) < card.used();
+    let data_short = request.write && request.data.len() < blocks * BLOCK_SIZE;
+    let times = if arena_short || data_short { 8 } else { 60 };
+    match random.below(times) {
         0 => needed.saturating_sub(1),
         1 => random.below(needed + 1),
-        2..30 => needed,
+        how if how < times / 2 => needed,
         _ => needed + random.below(100),
     }
 }

@@ -7,7 +7,8 @@ use crate::random::Random;
 use crate::request::{MOST_CODES, MOST_ELEMENTS, Request};
 use crate::tree::Card;
 
-/// Changes one element, often one about the 255th, so that its check or its rule may fail.
+/// Changes one element, often one about the 255th, so that its check or its rule may fail; now
+/// and then twice, so that it may fail by two tests.
 pub fn element(random: &mut Random, draft: &mut Draft) {
     let elements = draft.elements.len();
     let at = if elements > 252 && !random.once_in(4) {
@@ -15,6 +16,14 @@ pub fn element(random: &mut Random, draft: &mut Draft) {
     } else {
         random.below(elements)
     };
+    change(random, draft, at);
+    if random.once_in(4) {
+        change(random, draft, at);
+    }
+}
+
+/// Changes the element at this place, or a cyclic run.
+fn change(random: &mut Random, draft: &mut Draft, at: usize) {
     let services = codes::services(draft.card);
     match random.below(11) {
         0 => draft.elements[at].index = (draft.codes.len() + random.below(3)).min(15) as u8,
@@ -53,8 +62,8 @@ fn name(draft: &mut Draft, at: usize, code: u16) {
     }
 }
 
-/// Lets a cyclic run name another block than 0, or makes it longer than its store; does nothing
-/// if there is no such run.
+/// Lets a cyclic run name another block than 0, makes it longer than its store, or both; does
+/// nothing if there is no such run.
 fn ring(random: &mut Random, draft: &mut Draft) {
     let rings: Vec<usize> = (0..draft.elements.len())
         .filter(|&at| {
@@ -69,15 +78,26 @@ fn ring(random: &mut Random, draft: &mut Draft) {
     let element = draft.elements[at];
     let count = draft.card.store(draft.codes[usize::from(element.index)]);
     let count = count.unwrap_or(0) as usize;
-    if random.once_in(2) {
-        draft.elements[at].number = random.below(count.max(1)).max(1) as u16;
-    } else if draft.elements.len() + count <= MOST_ELEMENTS as usize {
+    let how = random.below(5);
+    if how < 3 && draft.elements.len() + count <= MOST_ELEMENTS as usize {
         draft.elements.splice(at..at, vec![element; count]);
+    }
+    if how > 1 {
+        draft.elements[at].number = random.below(count.max(1)).max(1) as u16;
     }
 }
 
-/// Changes a request so that it is refused with 1, 2 or 3, or its data are too short.
+/// Changes a request so that it is refused with 1, 2 or 3, or its data are too short; now and then
+/// twice.
 pub fn request(random: &mut Random, card: &Card, request: &mut Request) {
+    refuse(random, card, request);
+    if random.once_in(4) {
+        refuse(random, card, request);
+    }
+}
+
+/// Changes one part of a request.
+fn refuse(random: &mut Random, card: &Card, request: &mut Request) {
     match random.below(9) {
         0 => request.count = random.pick(&[513, 514, 0xFFFF, 0x1_0000, 0x1_0001, u32::MAX]),
         1 => {
@@ -86,7 +106,7 @@ pub fn request(random: &mut Random, card: &Card, request: &mut Request) {
                 request.codes.push(codes::any(random, card));
             }
         }
-        2 => request.count += 1,
+        2 => request.count = request.count.saturating_add(1),
         3 => request.count = request.count.saturating_sub(1),
         4 => request.list.truncate(request.list.len().saturating_sub(1)),
         5 => request.list.push(random.word() as u8),
