@@ -1,9 +1,9 @@
-//! The refusal numbers of document 01 that the oracle gives. Those from 11 to 19 are the Rust's
+//! The refusal numbers of docs/RULES.md that the oracle gives. Those from 11 to 19 are the Rust's
 //! own errors; the others are refusals that the Rust does not have.
 
 use crate::felica_standard::emulator::EmulatorConfigError;
 
-/// A refusal's number in document 01.
+/// A refusal's number in docs/RULES.md.
 pub type Refusal = u8;
 
 pub const TOO_MANY_ELEMENTS: Refusal = 1;

@@ -1,5 +1,5 @@
 //! The doors lead where they say: the list checks, totals, versions, reads and writes answer
-//! on a small card as document 01 has it.
+//! on a small card as docs/RULES.md has it.
 
 use uluvoli_oracle::felica_standard::emulator::{
     EmulatedArea, EmulatedService, EmulatedSystem, doors,
@@ -77,7 +77,7 @@ fn totals_and_versions() {
     assert_eq!(doors::key_version(&card, 0x2000), 0xFFFF);
 }
 
-/// The whole case of document 01: a write by one service is read by another that joins it.
+/// The whole case of docs/RULES.md: a write by one service is read by another that joins it.
 #[test]
 fn whole_case() {
     let card = card();

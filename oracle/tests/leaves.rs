@@ -68,7 +68,7 @@ fn every_kind_has_its_lines() {
     assert!(leaves.len() > 20_000);
 }
 
-/// The rows of document 01 that are leaves stand in the list or follow its form.
+/// The rows of docs/RULES.md that are leaves stand in the list or follow its form.
 #[test]
 fn known_rows() {
     let lines: Vec<String> = leaves::all().into_iter().map(|leaf| leaf.line).collect();

@@ -1,4 +1,4 @@
-//! Replay prints what document 01 and the readings settled for it say.
+//! Replay prints what docs/RULES.md and the readings settled for it say.
 
 use uluvoli_oracle::random::Random;
 use uluvoli_oracle::replay::replay;
@@ -35,7 +35,7 @@ fn request_line(line: &str) -> String {
     fields[1..4].join(" ")
 }
 
-/// The whole case of document 01.
+/// The whole case of docs/RULES.md.
 #[test]
 fn whole_case() {
     let printed = lines(&[

@@ -1,5 +1,5 @@
 //! Requests on small cards: our refusals and their order, the length test, and the answers that
-//! document 01 spells out.
+//! docs/RULES.md spells out.
 
 use uluvoli_oracle::felica_standard::BlockListElement;
 use uluvoli_oracle::felica_standard::emulator::LimitPurseProperty;
@@ -124,7 +124,7 @@ fn data_length() {
     assert_eq!(pair(&mut card, &write(&[], &[], &[])), (0, 0));
 }
 
-/// The element check gives its bytes in document 01's order.
+/// The element check gives its bytes in the order of docs/RULES.md.
 #[test]
 fn elements() {
     let mut card = card(&[(0x1048, 2), (0x104B, 2), (0x2053, 1), (0x2051, 1)]);

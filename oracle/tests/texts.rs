@@ -75,7 +75,7 @@ fn long_lines() {
     assert!(carried_out);
 }
 
-/// The first text is document 01's whole case, each output is replay's, and the list is the same
+/// The first text is The whole case of docs/RULES.md, each output is replay's, and the list is the same
 /// each time.
 #[test]
 fn outputs() {

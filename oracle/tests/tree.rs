@@ -201,7 +201,7 @@ fn directory_room() {
     assert_eq!(card.directory(7).as_deref(), Ok(&pairs[..]));
 }
 
-/// The difference of document 01: the Rust keeps a service that it refuses with
+/// The difference of docs/RULES.md: the Rust keeps a service that it refuses with
 /// `OverlapKindMismatch`, and refuses everything after it; our card does neither.
 #[test]
 fn the_rust_keeps_what_it_refuses_with_19() {

@@ -1,4 +1,4 @@
--- The definitions over the flat table say what document 01 words by the children of an area.
+-- The definitions over the flat table say what docs/RULES.md words by the children of an area.
 use mathlib.Core.Path.{_≡_, refl, sym, _∙_, ap}
 use mathlib.Core.List.{List, [], _∷_, _++_}
 use mathlib.Core.Logic.{⊎-elim}

@@ -1,4 +1,4 @@
--- The two recursions over the tree as document 01 words them: by the children of an area.
+-- The two recursions over the tree as docs/RULES.md words them: by the children of an area.
 use Prim.Native.Nat.{ℕ, zero, suc, _+_}
 use mathlib.Core.List.{List, [], _∷_, _++_}
 use mathlib.Core.Bool.{cond}

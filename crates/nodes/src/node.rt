@@ -39,7 +39,7 @@ impl Node {
 
 impl Entry {
     // Whether a node is an area.
-    pub fn is_area(self) -> bool
+    pub(crate) fn is_area(self) -> bool
         ensures { λ r. ⌜ r ≡ isArea self ⌝ }
     {
         match self {
@@ -53,7 +53,7 @@ impl Entry {
     }
 
     // Whether a node is a service.
-    pub fn is_service(self) -> bool
+    pub(crate) fn is_service(self) -> bool
         ensures { λ r. ⌜ r ≡ isService self ⌝ }
     {
         match self {
@@ -67,7 +67,7 @@ impl Entry {
     }
 
     // The last code of an area; a service has none.
-    pub fn end(self) -> u16
+    pub(crate) fn end(self) -> u16
         ensures { λ r. ⌜ r ≡ endOf self ⌝ }
     {
         match self {

@@ -2,7 +2,7 @@
 
 /// The texts, with `|` for a tab.
 pub const TEXTS: [&str; 48] = [
-    // Document 01's whole case.
+    // The whole case of docs/RULES.md.
     "card|0001|0000\nsvc|1|1049|2|0000\nsvc|1|104B|5|0000\n\
      W|O|1049|1|8001|11111111111111111111111111111111\nR|O|104B|1|8001\nR|O|104B|1|8002\n",
     // Empty input, empty lines, line ends.

@@ -36,7 +36,7 @@ const DECIMALS: [&str; 22] = [
     "340282366920938463463374607431768211457",
 ];
 
-/// First fields that are nearly one of document 01's.
+/// First fields that are nearly one of the rules'.
 const NAMES: [&str; 20] = [
     "", "r", "w", "RW", "R ", " R", "W\r", "Card", "CARD", "card ", "cards", "car", "Area",
     "areas", "SVC", "sv", "Lim", "limit", "blk\0", "bl",

@@ -2,7 +2,7 @@
 //!
 //! Each addition is tried on a Rust tree that is built anew from the records so far and the new
 //! one (`rust`). The Rust's error is the refusal; 7, 20, 21, 22 and 28, which the Rust does not
-//! have, are decided here, in document 01's order. A refused addition leaves the card as it was:
+//! have, are decided here, in the order of docs/RULES.md. A refused addition leaves the card as it was:
 //! the tree it was tried on is dropped. The Rust itself keeps a node that it refuses with 19.
 
 mod rust;
