@@ -77,7 +77,7 @@ fn lines(tally: Tally, text: &[u8]) -> Tally {
     let mut t = tally;
     let mut from = 0;
     while from < text.len() {
-        let end = stored::line_end(text, from);
+        let end = stored::end_of(text, from, b'\n');
         t = one_line(t, &text[from..end]);
         from = end + 1;
     }

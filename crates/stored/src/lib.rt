@@ -74,12 +74,12 @@ pub fn bytes_of(line: &[u8], out: &mut [u8]) -> usize
     n
 }
 
-// Where the line that starts at an index ends.
-pub fn line_end(text: &[u8], from: usize) -> usize
+// Where the line or field that starts at an index ends.
+pub fn end_of(text: &[u8], from: usize, separator: u8) -> usize
     requires { ⌜ from ≤ length (now text) ⌝ }
     ensures { λ r. ⌜ (from ≤ r) × (r ≤ length (now (text .entry))) ⌝ }
 {
-    field::field_end(text, from, b'\n')
+    field::field_end(text, from, separator)
 }
 
 // A number of 16 bits, high byte first.

@@ -1,0 +1,178 @@
+// Replays the Rust's stored answers on cards, a line each, through the proved card: growing one, asking about its tree,
+// and serving requests. Prints how many lines of each kind agree and how many lines do not.
+use grow::Grown;
+use structure::card::Card;
+
+mod ask;
+mod codes;
+mod fields;
+mod grow;
+mod request;
+
+// How many lines agree, and how many do not.
+struct Tally {
+    cards: u64,
+    additions: u64,
+    questions: u64,
+    blocks: u64,
+    requests: u64,
+    wrong: u64,
+}
+
+// What is kept from line to line.
+struct Kept {
+    grown: Grown,
+    tally: Tally,
+}
+
+// One more, up to a number that no list reaches.
+fn more(n: u64) -> u64 {
+    if n < 1_000_000_000 { n + 1 } else { n }
+}
+
+// Counts a line of a kind.
+fn counted(t: Tally, kind: u8, agrees: bool) -> Tally {
+    let mut next = t;
+    if !agrees {
+        next.wrong = more(t.wrong);
+        return next;
+    }
+    match kind {
+        b'T' => {
+            next.cards = more(t.cards);
+        }
+        b'a' | b's' | b'l' | b'm' => {
+            next.additions = more(t.additions);
+        }
+        b'b' => {
+            next.blocks = more(t.blocks);
+        }
+        b'R' | b'W' => {
+            next.requests = more(t.requests);
+        }
+        _ => {
+            next.questions = more(t.questions);
+        }
+    }
+    next
+}
+
+// Whether a line that leaves the card as it is agrees.
+fn asked(
+    card: Card,
+    kind: u8,
+    line: &[u8],
+    b: &[u8],
+    arena: &mut [u8],
+    room: &mut [u8],
+    copy: &mut [u8],
+) -> bool {
+    match kind {
+        b'b' => request::set(card, arena, b),
+        b'R' | b'W' => request::request(card, arena, line, room, copy),
+        _ => ask::agrees(card, kind, b),
+    }
+}
+
+// Counts a line.
+fn one_line(kept: Kept, line: &[u8], arena: &mut [u8], room: &mut [u8], copy: &mut [u8]) -> Kept {
+    let mut bytes = [0u8; 1024];
+    let n = stored::bytes_of(line, &mut bytes);
+    let kind = if 0 < line.len() { line[0] } else { 0 };
+    let mut grown = kept.grown;
+    let tally = kept.tally;
+    match kind {
+        b'T' | b'a' | b's' | b'l' | b'm' => {
+            grown = grow::line(grown, kind, &bytes[0..n], arena);
+        }
+        _ => {
+            let long = grown.long;
+            let card = grown.card;
+            grown.agrees = lent(card, long, kind, line, &bytes[0..n], arena, room, copy);
+        }
+    }
+    Kept {
+        grown,
+        tally: counted(tally, kind, grown.agrees),
+    }
+}
+
+// The same with as much of the arena as is lent.
+fn lent(
+    card: Card,
+    long: usize,
+    kind: u8,
+    line: &[u8],
+    b: &[u8],
+    arena: &mut [u8],
+    room: &mut [u8],
+    copy: &mut [u8],
+) -> bool {
+    if arena.len() < long {
+        return false;
+    }
+    if copy.len() < long {
+        return false;
+    }
+    asked(
+        card,
+        kind,
+        line,
+        b,
+        &mut arena[0..long],
+        room,
+        &mut copy[0..long],
+    )
+}
+
+// Counts every line of a text.
+fn lines(kept: Kept, text: &[u8], arena: &mut [u8], room: &mut [u8], copy: &mut [u8]) -> Kept {
+    let mut k = kept;
+    let mut from = 0;
+    while from < text.len() {
+        let end = stored::end_of(text, from, b'\n');
+        k = one_line(k, &text[from..end], arena, room, copy);
+        from = end + 1;
+    }
+    k
+}
+
+// Counts every line of every file.
+fn files(arena: &mut [u8], room: &mut [u8], copy: &mut [u8]) -> Tally {
+    let mut k = Kept {
+        grown: grow::start(0, 0, 0),
+        tally: Tally {
+            cards: 0,
+            additions: 0,
+            questions: 0,
+            blocks: 0,
+            requests: 0,
+            wrong: 0,
+        },
+    };
+    let mut text = io::large_buffer();
+    let mut n = 1u32;
+    while n < 10000 {
+        let got = stored::load(n, &mut text);
+        if got == 0 {
+            break;
+        }
+        k = lines(k, &text[0..got], arena, room, copy);
+        n += 1;
+    }
+    let t = k.tally;
+    t
+}
+
+fn main() {
+    let mut arena = [0u8; 70000];
+    let mut room = [0u8; 70000];
+    let mut copy = [0u8; 70000];
+    let t = files(&mut arena, &mut room, &mut copy);
+    stored::report(b"cards", t.cards);
+    stored::report(b"additions", t.additions);
+    stored::report(b"questions", t.questions);
+    stored::report(b"blocks", t.blocks);
+    stored::report(b"requests", t.requests);
+    stored::report(b"wrong", t.wrong);
+}

@@ -1,0 +1,73 @@
+-- The invariant: the answer for all elements is the answer for those that are left from `at`, the first of them number i.
+use mathlib.Core.Path.{_≡_, sym, _∙_}
+use Prim.Native.Nat.{_-_, _≤_}
+use native.Mathlib.Omega.{arith}
+use native.Mathlib.Nat.{sub-zero}
+use lib.ListN.{take}
+use borrow.Author.Needs.{needs}
+use Rattle.lists.specs.Element.{elementsFrom}
+use Rattle.checks.specs.Check.{checkedFrom}
+use Rattle.checks.proofs.Steps.{none-left, cut-short, fails, passes}
+use Rattle.checks.proofs.check.check_all.Statement.{statement}
+use Rattle.checks.proofs.check.check_all.Tie as tie
+
+abbrev Inv-loop : tie.InvT-loop
+Inv-loop table write keyless list count at₀ i₀ at i =
+    let rows = take (table .count) (table .rows) in
+    (i ≤ count)
+    × (checkedFrom rows write keyless 0 (elementsFrom list count 0) ≡ checkedFrom rows write keyless i (elementsFrom list (count - i) at))
+
+abbrev μ-loop : tie.MeasureT-loop
+μ-loop table write keyless list count at₀ i₀ at i = count - i
+
+loop-holds : tie.Need-loop-holds Inv-loop μ-loop
+loop-holds c = (omega arith, rw sub-zero)
+
+returns : tie.Need-returns Inv-loop μ-loop
+returns c =
+    let u = c .before .before in
+    let l = u .before .before .loop in
+    sym (l .inv .1 ∙ cut-short _ _ _ _ _ _ (u .unpack .ensures) _ (omega arith) (c .enum-told .given .1))
+
+returns-2 : tie.Need-returns-2 Inv-loop μ-loop
+returns-2 c =
+    let k = c .before .before .before in
+    let e = k .before .before in
+    let u = e .before .before in
+    let l = u .before .before .loop in
+    sym (l .inv .1
+    ∙ fails _ _ _ _ _ _ (u .unpack .ensures) (e .e .given .1) (k .element-check .ensures) (omega arith) (c .before .fault .given .1))
+
+loop-again : tie.Need-loop-again Inv-loop μ-loop
+loop-again c =
+    let k = c .before .before in
+    let e = k .before .before in
+    let u = e .before .before in
+    let l = u .before .before .loop in (
+      omega arith,
+      l .inv .1
+          ∙ passes _ _ _ _ _ _ (u .unpack .ensures) (e .e .given .1) (k .element-check .ensures) (omega arith) (c .enum-told2 .given .1),
+    )
+
+returns-3 : tie.Need-returns-3 Inv-loop μ-loop
+returns-3 c = sym (c .before .loop .inv .1 ∙ none-left _ _ _ _ _ _ _ (omega arith))
+
+pub check-all-spec : {M : Type 1} → statement M
+check-all-spec =
+    tie.close
+    (tie.spec
+    Inv-loop
+    μ-loop
+    loop-holds
+    (λ c κs. search needs)
+    (λ c. search needs)
+    (λ c. search needs)
+    returns
+    (λ c κs. search needs)
+    (λ c. search needs)
+    returns-2
+    (λ c. search needs)
+    (λ c. omega arith)
+    (λ c. omega arith)
+    loop-again
+    returns-3)

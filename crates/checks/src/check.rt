@@ -1,0 +1,126 @@
+// The checks of a block list element, in their order (`validate_block_element` of the Rust).
+use crate::row::Row;
+use crate::row::Table;
+use lists::element;
+use lists::element::BlockListElement;
+use lists::element::Unpacked;
+use types::code::Decoded;
+use types::code::ServiceAttribute;
+use types::code::ServiceCode;
+use types::status::Fault;
+ghost use mathlib.Core.Path.{_≡_};
+ghost use mathlib.Core.Bool.{_&&_};
+ghost use lib.ListN.{take};
+ghost use Rattle.types.specs.Code.{requiresKey};
+ghost use Rattle.lists.specs.Element.{elementsFrom};
+ghost use Rattle.checks.specs.Check.{modeAllowed, attributeCheck, rowCheck, elementCheck, checkedFrom};
+
+// How an element's check ended.
+pub enum Check {
+    Passed,
+    Failed(Fault),
+}
+
+// How the check of all elements ended: the first that fails is named by its index, from 0.
+pub enum Checked {
+    Passed,
+    Failed { index: usize, fault: Fault },
+}
+
+// Whether a request may use an access mode: 0, or 1 too on a write.
+fn mode_allowed(write: bool, mode: u8) -> bool
+    ensures { λ r. ⌜ r ≡ modeAllowed write mode ⌝ }
+{
+    if write { mode < 2 } else { mode == 0 }
+}
+
+// What a write may do with an attribute in an access mode.
+fn attribute_check(write: bool, attribute: ServiceAttribute, mode: u8) -> Check
+    ensures { λ r. ⌜ r ≡ attributeCheck write attribute mode ⌝ }
+{
+    if !write {
+        return Check::Passed;
+    }
+    if !attribute.allows_write() {
+        return Check::Failed(Fault::ReadOnly);
+    }
+    if mode != 1 {
+        return Check::Passed;
+    }
+    if attribute.allows_cashback() {
+        Check::Passed
+    } else {
+        Check::Failed(Fault::NoCashback)
+    }
+}
+
+// Whether a request without a key meets a service that needs one.
+fn key_missing(keyless: bool, code: u16) -> bool
+    ensures { λ r. ⌜ r ≡ (keyless && requiresKey code) ⌝ }
+{
+    if keyless {
+        ServiceCode(code).requires_key()
+    } else {
+        false
+    }
+}
+
+// The checks of an element against the row that it names.
+fn row_check(row: Row, write: bool, keyless: bool, number: u16, mode: u8) -> Check
+    ensures { λ r. ⌜ r ≡ rowCheck row write keyless number mode ⌝ }
+{
+    if !mode_allowed(write, mode) {
+        return Check::Failed(Fault::AccessMode);
+    }
+    let decoded = row.attribute;
+    let Decoded::Defined(attribute) = decoded else {
+        return Check::Failed(Fault::Attribute);
+    };
+    if !row.found {
+        return Check::Failed(Fault::NoService);
+    }
+    if key_missing(keyless, row.code) {
+        return Check::Failed(Fault::KeyNeeded);
+    }
+    if let Check::Failed(fault) = attribute_check(write, attribute, mode) {
+        return Check::Failed(fault);
+    }
+    if number < row.blocks {
+        Check::Passed
+    } else {
+        Check::Failed(Fault::BlockNumber)
+    }
+}
+
+// The check of one element.
+pub fn element_check(table: Table, write: bool, keyless: bool, e: BlockListElement) -> Check
+    ensures { λ r. ⌜ r ≡ elementCheck (take (table .count) (table .rows)) write keyless e ⌝ }
+{
+    let index = e.index as usize;
+    if 16 <= index {
+        return Check::Failed(Fault::ListIndex);
+    }
+    if table.count <= index {
+        return Check::Failed(Fault::ListIndex);
+    }
+    row_check(table.row(e.index), write, keyless, e.number, e.mode)
+}
+
+// The check of the counted elements of a list, in order.
+pub fn check_all(table: Table, write: bool, keyless: bool, list: &[u8], count: usize) -> Checked
+    ensures { λ r. ⌜ r ≡ checkedFrom (take (table .count) (table .rows)) write keyless 0 (elementsFrom (now (list .entry)) count 0) ⌝ }
+{
+    let mut at = 0;
+    let mut i = 0;
+    while i < count {
+        let Unpacked::Element { element: e, next } = element::unpack(list, at) else {
+            return Checked::Passed;
+        };
+        if let Check::Failed(fault) = element_check(table, write, keyless, e) {
+            return Checked::Failed { index: i, fault };
+        }
+        at = next;
+        i += 1;
+    }
+    Checked::Passed
+}

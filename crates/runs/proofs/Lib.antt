@@ -1,0 +1,4 @@
+-- What the proofs cite.
+mod Lent
+mod RunLaws
+mod Walking

@@ -1,0 +1,4 @@
+pub mod Runs
+pub mod Lens
+pub mod Rules
+pub mod Ready

@@ -1,0 +1,68 @@
+// The runs of a write: longest stretches of consecutive elements of equal service number.
+use crate::rule;
+use blocks::Written;
+use checks::row::Row;
+use checks::row::Table;
+use lists::element;
+use lists::element::Unpacked;
+use types::code::ServiceCode;
+use types::status::Fault;
+ghost use mathlib.Core.Path.{_≡_};
+ghost use Prim.Native.Nat.{_*_, _≤_};
+ghost use lib.ListN.{length, take};
+ghost use Rattle.types.specs.Code.{numberOf};
+ghost use Rattle.lists.specs.Element.{elementsFrom};
+ghost use Rattle.runs.specs.Rules.{staged};
+ghost use Rattle.runs.specs.Ready.{AllReady, walkedTo};
+
+// How the runs ended: the element that failed is named by its index, from 0.
+pub enum Applied {
+    Done,
+    Failed { index: usize, fault: Fault },
+}
+
+// The service number that a row's code has.
+fn number_of(row: Row) -> u16
+    ensures { λ r. ⌜ r ≡ numberOf (row .code) ⌝ }
+{
+    ServiceCode(row.code).number()
+}
+
+// The runs of the counted elements of a list, on the staged stores. After a failure nothing is said of the stage.
+pub fn apply(stage: &mut [u8], table: Table, list: &[u8], count: usize, input: &[u8]) -> Applied
+    requires { ⌜ (16 * count ≤ length (now input)) × AllReady (take (table .count) (table .rows)) (length (now stage)) (elementsFrom (now list) count 0) ⌝ }
+    ensures { λ r. ⌜ staged (take (table .count) (table .rows)) (now (input .entry)) (elementsFrom (now (list .entry)) count 0) (now (stage .entry)) ≡ walkedTo r (now (stage .exit)) ⌝ }
+{
+    let mut ended = Applied::Done;
+    let mut at = 0;
+    let mut end = 0;
+    'runs: while end < count {
+        let Unpacked::Element { element, next: _ } = element::unpack(list, at) else {
+            break 'runs;
+        };
+        let row = table.row(element.index);
+        let number = number_of(row);
+        let from = end;
+        'scan: while end < count {
+            let Unpacked::Element { element: f, next } = element::unpack(list, at) else {
+                break 'scan;
+            };
+            let own = table.row(f.index);
+            if number_of(own) != number {
+                break 'scan;
+            }
+            let block = &input[16 * end..16 * end + 16];
+            if let Written::Failed(fault) = rule::element_on(stage, block, own, f.number, f.mode) {
+                ended = Applied::Failed { index: end, fault };
+                break 'runs;
+            }
+            at = next;
+            end += 1;
+        }
+        if let Written::Failed(fault) = rule::end_on(stage, &input[16 * from..16 * end], row) {
+            ended = Applied::Failed { index: from, fault };
+            break 'runs;
+        }
+    }
+    ended
+}

@@ -1,0 +1,178 @@
+-- What a whole write comes to: the stores are staged, the runs work on them, the arena takes them over, the staging is zeroed.
+use mathlib.Core.Path.{_≡_, refl, sym, ap, _∙_}
+use mathlib.Core.Bool.{true}
+use mathlib.Core.List.{List, _++_}
+use Prim.Native.Nat.{ℕ, _+_, _-_, _*_, _≤_}
+use native.Mathlib.Omega.{arith}
+use native.Mathlib.Nat.{sub-zero, zero-add}
+use lib.Dec.{ltb}
+use lib.ListN.{length, take, drop, replicate, length-replicate}
+use lib.Seq.{length-take-le, take-at, drop-at}
+use borrow.Author.Tests.{ltb-false}
+use Rattle.types.specs.declared.refusal.Refusal.{Refusal}
+use Rattle.types.specs.declared.refusal.Refusal.the-variants.{TooManyElements, TooManyCodes, ListLength, ShortStaging, ShortArena, NotBuilt}
+use Rattle.types.specs.declared.status.Fault.{Fault}
+use Rattle.lists.specs.Element.{endsAfter}
+use Rattle.spans.specs.Part.{put}
+use Rattle.spans.proofs.Part.{put-split, put-take}
+use Rattle.structure.specs.declared.card.Card.{Card}
+use Rattle.structure.specs.Card.{nodesOf, isSound}
+use Rattle.checks.specs.declared.row.Table.{Table}
+use Rattle.checks.specs.declared.check.Checked.{Checked}
+use Rattle.checks.specs.declared.check.Checked.the-variants.{Passed as AllPassed, Failed as FailedAt}
+use Rattle.checks.specs.Row.{tableOf}
+use Rattle.checks.specs.Check.{checkedFrom}
+use Rattle.checks.proofs.Laws.{table-rows}
+use Rattle.runs.specs.declared.run.Applied.{Applied}
+use Rattle.runs.specs.declared.run.Applied.the-variants.{Done as AllDone, Failed as RunFailed}
+use Rattle.runs.specs.Runs.{Walked, bad, good}
+use Rattle.runs.specs.Rules.{staged}
+use Rattle.runs.specs.Ready.{AllReady, walkedTo}
+use Rattle.system.specs.declared.plan.Lengths.{Lengths}
+use Rattle.system.specs.declared.plan.Judged.the-variants.{Refused as NotFit, ShortData as NoData, Fit}
+use Rattle.system.specs.declared.plan.Reply.{Reply}
+use Rattle.system.specs.declared.plan.Reply.the-variants.{Done, Failed}
+use Rattle.system.specs.Request.{Request}
+use Rattle.system.specs.Plan.{lentJudged, judgedBy, lengthsOf, judgedOf, rowsIn, elementsIn, checkedPlan, planOf}
+use Rattle.system.specs.Serve.{Served, told, committed, carried, planServed, serve, stagingBy}
+use Rattle.system.proofs.Tests.{held, unheld}
+use Rattle.system.proofs.Ready.{Fitting, fits, all-ready}
+use Rattle.system.proofs.Serves.{failed, passed}
+
+-- the staging s, once `size` bytes of the arena a were copied over its old bytes g
+module _ (a g s : List ℕ) (size : ℕ) (fa : size ≤ length a) (fg : size ≤ length g) (e : s ≡ put g 0 size (drop 0 a)) where
+  -- the arena's front, then the old rest
+  split : s ≡ take size a ++ drop size g
+  split = e ∙ put-split g 0 size a (omega arith) fa ∙ rw (zero-add size)
+
+  -- it holds the arena's front
+  front : take (size - 0) s ≡ take size a
+  front = rw (sub-zero size, split) (take-at (take size a) (drop size g) size (length-take-le size a fa))
+
+  -- what is lent to the runs is as long as the blocks in use
+  pub lent-long : length (take (size - 0) (drop 0 s)) ≡ size
+  lent-long = rw front (length-take-le size a fa)
+
+  -- the part lent comes back as t
+  module _ (t : List ℕ) (l : length t ≡ length (take (size - 0) (drop 0 s))) where
+    -- beyond it the staging is as it was
+    pub rest-kept : drop size (take 0 s ++ (t ++ drop (size - 0) (drop 0 s))) ≡ drop size g
+    rest-kept =
+        rw (sub-zero size, drop-at t (drop size s) size (l ∙ lent-long), split)
+        (drop-at (take size a) (drop size g) size (length-take-le size a fa))
+
+    module _ (f : List ℕ → Walked (List ℕ)) {r : Applied} (h : f (take (size - 0) (drop 0 s)) ≡ walkedTo r t) where
+      -- what the runs come to, on the arena's front
+      walked : {x : Applied} → r ≡ x → f (take size a) ≡ walkedTo x t
+      walked k = rw k at (rw front at h)
+
+      -- a run that fails leaves the arena
+      pub run-failed : {i : ℕ} {x : Fault} → r ≡ RunFailed i x →
+          (Failed i x ≡ committed size a (f (take size a)) .reply) × (a ≡ committed size a (f (take size a)) .arena)
+      unfolding committed
+      run-failed k = rw (walked k) (refl, refl)
+
+      -- all runs pass: the arena takes the staged stores over
+      pub runs-done : {new : List ℕ} → r ≡ AllDone → new ≡ put a 0 size (drop 0 (take 0 s ++ (t ++ drop (size - 0) (drop 0 s)))) →
+          (Done ≡ committed size a (f (take size a)) .reply) × (new ≡ committed size a (f (take size a)) .arena)
+      unfolding committed
+      runs-done k n =
+          let w = t ++ drop (size - 0) s in
+          rw (walked k)
+          (refl, n ∙ sym (put-take a 0 size w) ∙ ap (put a 0 size) (take-at t (drop (size - 0) s) size (l ∙ lent-long)))
+
+-- a reply that changes nothing leaves the arena
+pub unchanged : {a : List ℕ} {x : Reply} {s : Served} → s ≡ told a x → (x ≡ s .reply) × (a ≡ s .arena)
+unchanged e = rw e (refl, refl)
+
+module _ (c : Card) (a : List ℕ) (r : Request) (j : judgedOf c (length a) r ≡ Fit) where
+  -- what fits
+  fit : Fitting c (r .write) (r .count) (r .list) (lengthsOf (length a) r)
+  fit = fits c (r .write) (r .count) (r .list) (lengthsOf (length a) r) j
+
+  -- a write that fits has its stores in arena and staging
+  pub stores-fit : r .write ≡ true → (16 * c .used ≤ length a) × (16 * c .used ≤ r .room)
+  stores-fit w = (fit .arena, fit .staging w)
+
+  module _ {t : Table} (made : t ≡ tableOf (nodesOf c) (r .codes)) {k : Checked}
+      (e : k ≡ checkedFrom (take (t .count) (t .rows)) (r .write) (r .keyless) 0 (elementsIn r)) where
+    -- the table's rows are the request's
+    rows : take (t .count) (t .rows) ≡ rowsIn c r
+    rows = table-rows (nodesOf c) (r .codes) (fit .codes) made
+
+    -- so the elements are checked against those
+    checked : {x : Checked} → k ≡ x → checkedFrom (rowsIn c r) (r .write) (r .keyless) 0 (elementsIn r) ≡ x
+    checked h = sym (rw rows at e) ∙ h
+
+    -- an element that fails
+    pub write-failed : {i : ℕ} {f : Fault} → k ≡ FailedAt i f → (Failed i f ≡ serve c a r .reply) × (a ≡ serve c a r .arena)
+    write-failed h = unchanged (failed c a r j (checked h))
+
+    module _ (w : r .write ≡ true) (p : k ≡ AllPassed) where
+      -- all pass: the stores are there, and each element names a block of one
+      pub write-ready : length (c .nodes) ≡ 64 →
+          (16 * c .used ≤ length a) × (16 * c .used ≤ r .room) × (16 * r .count ≤ length (r .sent))
+          × AllReady (take (t .count) (t .rows)) (16 * c .used) (elementsIn r)
+      write-ready h = (
+        fit .arena,
+        fit .staging w,
+        fit .sent w,
+        rw rows (all-ready c h (fit .sound) (r .codes) (r .write) (r .keyless) (elementsIn r) (checked p) (16 * c .used) (omega arith)),
+      )
+
+      -- the runs are carried out
+      pub write-done : {x : Reply} {new : List ℕ} →
+          let s = committed (16 * c .used) a (staged (take (t .count) (t .rows)) (r .sent) (elementsIn r) (take (16 * c .used) a)) in
+          x ≡ s .reply → new ≡ s .arena → (x ≡ serve c a r .reply) × (new ≡ serve c a r .arena)
+      unfolding carried
+      write-done m n = rw (passed c a r j (checked p), w) (rw rows at m, rw rows at n)
+
+-- after a status pair the staging is zero where stores were staged
+abbrev Zeroes : Reply → Type 0
+Zeroes x = (size : ℕ) (g : List ℕ) → stagingBy x size g ≡ put g 0 size (replicate size 0)
+
+-- so after the runs
+committed-zeroes : (size : ℕ) (a : List ℕ) (w : Walked (List ℕ)) → Zeroes (committed size a w .reply)
+unfolding committed
+committed-zeroes size a (bad i f) = λ n g. refl
+committed-zeroes size a (good s) = λ n g. refl
+
+-- and after the checks
+checked-zeroes : (c : Card) (a : List ℕ) (r : Request) (k : Checked) → r .write ≡ true →
+    Zeroes (planServed c a r (checkedPlan (elementsIn r) k) .reply)
+unfolding carried
+checked-zeroes c a r (FailedAt i f) w = λ n g. refl
+checked-zeroes c a r AllPassed w =
+    rw w (committed-zeroes (16 * c .used) a (staged (rowsIn c r) (r .sent) (elementsIn r) (take (16 * c .used) a)))
+
+-- a write that fits gets a status pair
+fit-zeroes : (c : Card) (a : List ℕ) (r : Request) → judgedOf c (length a) r ≡ Fit → r .write ≡ true → Zeroes (serve c a r .reply)
+unfolding serve planOf
+fit-zeroes c a r j w = rw j (checked-zeroes c a r (checkedFrom (rowsIn c r) (r .write) (r .keyless) 0 (elementsIn r)) w)
+
+-- the staging s, zeroed to t, is the old one g, zeroed
+pub wiped : (c : Card) (a : List ℕ) (r : Request) → judgedOf c (length a) r ≡ Fit → r .write ≡ true → (g s t : List ℕ) {x : Reply} →
+    x ≡ serve c a r .reply → length g ≡ r .room → length s ≡ length g → drop (16 * c .used) s ≡ drop (16 * c .used) g →
+    t ≡ put s 0 (16 * c .used) (replicate (16 * c .used) 0) → t ≡ stagingBy x (16 * c .used) g
+wiped c a r j w g s t m l k d e =
+    let size = 16 * c .used in
+    let f : size ≤ length g = omega (arith, stores-fit c a r j w) in
+    let z : size ≤ length {A = ℕ} (replicate size 0) = simp length-replicate (omega arith) in
+    rw (m, fit-zeroes c a r j w size g)
+    (e ∙ put-split s 0 size (replicate size 0) (omega arith) z ∙ rw (zero-add size, d)
+    (sym (put-split g 0 size (replicate size 0) (omega arith) z ∙ rw (zero-add size))))
+
+-- a refusal is not short data
+not-short : (r : Refusal) → NotFit r ≡ NoData → ⊥
+not-short r e = let z : _≡_ {A = ℕ} 0 1 = cc in (omega arith)
+
+-- a write with too few data has room for its stores
+pub short-fits : (c : Card) (count : ℕ) (list : List ℕ) (n : Lengths) → judgedBy c true count list n ≡ NoData →
+    (16 * c .used ≤ n .arena) × (16 * c .used ≤ n .room)
+unfolding judgedBy lentJudged
+short-fits c count list n e =
+    let m = unheld (not-short TooManyElements) (ltb 512 count) _ (held (not-short NotBuilt) (isSound c) _ e .1) in
+    let k = unheld (not-short TooManyCodes) (ltb 16 (n .codes)) _ (m .1) in
+    let a = unheld (not-short ShortArena) (ltb (n .arena) (16 * c .used)) _ (held (not-short ListLength) (endsAfter list count) _ (k .1) .1) in
+    let s = unheld (not-short ShortStaging) (ltb (n .room) (16 * c .used)) _ (a .1) in
+    (ltb-false (n .arena) (16 * c .used) (a .0), ltb-false (n .room) (16 * c .used) (s .0))

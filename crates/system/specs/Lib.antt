@@ -1,0 +1,4 @@
+pub mod Request
+pub mod Plan
+pub mod Serve
+pub mod Block

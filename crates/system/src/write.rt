@@ -1,0 +1,116 @@
+// Writing: all elements are checked, then the runs work on staged stores, which are committed only if every run passes.
+use crate::plan;
+use crate::plan::Judged;
+use crate::plan::Lengths;
+use crate::plan::Reply;
+use checks::check;
+use checks::check::Checked;
+use checks::row;
+use checks::row::Table;
+use runs::run;
+use runs::run::Applied;
+use structure::card::Card;
+ghost use mathlib.Core.Path.{_≡_};
+ghost use Prim.Native.Nat.{_*_, _≤_};
+ghost use lib.ListN.{length, take, drop};
+ghost use Rattle.lists.specs.Element.{elementsFrom};
+ghost use Rattle.runs.specs.Rules.{staged};
+ghost use Rattle.runs.specs.Ready.{AllReady};
+ghost use Rattle.system.specs.declared.plan.Judged.the-variants.{Fit};
+ghost use Rattle.system.specs.Request.{writeRequest};
+ghost use Rattle.system.specs.Plan.{judgedOf};
+ghost use Rattle.system.specs.Serve.{serve, committed, stagingBy};
+
+// The runs on the staged stores; the arena takes them over if every run passes.
+fn carry_out(
+    arena: &mut [u8],
+    staging: &mut [u8],
+    size: usize,
+    table: Table,
+    list: &[u8],
+    count: usize,
+    input: &[u8],
+) -> Reply
+    requires { ⌜ (size ≤ length (now arena)) × (size ≤ length (now staging)) × (16 * count ≤ length (now input)) × AllReady (take (table .count) (table .rows)) size (elementsFrom (now list) count 0) ⌝ }
+    ensures { λ r. ⌜ r ≡ committed size (now (arena .entry)) (staged (take (table .count) (table .rows)) (now (input .entry)) (elementsFrom (now (list .entry)) count 0) (take size (now (arena .entry)))) .reply ⌝ }
+    ensures { λ _. ⌜ now (arena .exit) ≡ committed size (now (arena .entry)) (staged (take (table .count) (table .rows)) (now (input .entry)) (elementsFrom (now (list .entry)) count 0) (take size (now (arena .entry)))) .arena ⌝ }
+    ensures { λ _. ⌜ drop size (now (staging .exit)) ≡ drop size (now (staging .entry)) ⌝ }
+{
+    spans::copy(staging, 0, arena, 0, size);
+    match run::apply(&mut staging[0..size], table, list, count, input) {
+        Applied::Failed { index, fault } => Reply::Failed { index, fault },
+        Applied::Done => {
+            spans::copy(arena, 0, staging, 0, size);
+            Reply::Done
+        }
+    }
+}
+
+// The elements' checks, then the runs.
+fn checked_write(
+    card: Card,
+    arena: &mut [u8],
+    staging: &mut [u8],
+    keyless: bool,
+    codes: &[u16],
+    list: &[u8],
+    count: usize,
+    input: &[u8],
+) -> Reply
+    requires { ⌜ judgedOf card (length (now arena)) (writeRequest keyless (now codes) count (now list) (now input) (length (now staging))) ≡ Fit ⌝ }
+    ensures { λ r. ⌜ r ≡ serve card (now (arena .entry)) (writeRequest keyless (now (codes .entry)) count (now (list .entry)) (now (input .entry)) (length (now (staging .entry)))) .reply ⌝ }
+    ensures { λ _. ⌜ now (arena .exit) ≡ serve card (now (arena .entry)) (writeRequest keyless (now (codes .entry)) count (now (list .entry)) (now (input .entry)) (length (now (staging .entry)))) .arena ⌝ }
+    ensures { λ _. ⌜ drop (16 * card .used) (now (staging .exit)) ≡ drop (16 * card .used) (now (staging .entry)) ⌝ }
+{
+    let nodes = card.nodes;
+    let table = row::table_of(nodes, card.count, codes);
+    match check::check_all(table, true, keyless, list, count) {
+        Checked::Failed { index, fault } => Reply::Failed { index, fault },
+        Checked::Passed => carry_out(arena, staging, 16 * card.used, table, list, count, input),
+    }
+}
+
+// A whole write. The arena changes only where the reply is `Done`; after a refusal the staging is as it was, else zero
+// where the stores were staged.
+pub fn write(
+    card: Card,
+    arena: &mut [u8],
+    staging: &mut [u8],
+    keyless: bool,
+    codes: &[u16],
+    count: u32,
+    list: &[u8],
+    input: &[u8],
+) -> Reply
+    ensures { λ r. ⌜ r ≡ serve card (now (arena .entry)) (writeRequest keyless (now (codes .entry)) count (now (list .entry)) (now (input .entry)) (length (now (staging .entry)))) .reply ⌝ }
+    ensures { λ _. ⌜ now (arena .exit) ≡ serve card (now (arena .entry)) (writeRequest keyless (now (codes .entry)) count (now (list .entry)) (now (input .entry)) (length (now (staging .entry)))) .arena ⌝ }
+    ensures { λ r. ⌜ now (staging .exit) ≡ stagingBy r (16 * card .used) (now (staging .entry)) ⌝ }
+{
+    let lengths = Lengths {
+        arena: arena.len(),
+        codes: codes.len(),
+        sent: input.len(),
+        room: staging.len(),
+    };
+    match plan::judge(card, true, count, list, lengths) {
+        Judged::Refused(refusal) => Reply::Refused(refusal),
+        Judged::ShortData => {
+            spans::zero(staging, 0, 16 * card.used);
+            Reply::ShortData
+        }
+        Judged::Fit => {
+            let reply = checked_write(
+                card,
+                arena,
+                staging,
+                keyless,
+                codes,
+                list,
+                count as usize,
+                input,
+            );
+            spans::zero(staging, 0, 16 * card.used); // what was staged
+            reply
+        }
+    }
+}
