@@ -8,6 +8,14 @@ struct Bounds {
     end: usize,
 }
 
+// Where the field after one that ends at a place starts.
+fn after(long: usize, end: usize) -> usize
+    requires { ⌜ end ≤ long ⌝ }
+    ensures { λ r. ⌜ r ≤ long ⌝ }
+{
+    if end < long { end + 1 } else { end }
+}
+
 // Field number k, from 0; beyond the last one an empty field at the end.
 fn span(line: &[u8], k: usize) -> Bounds
     ensures { λ r. ⌜ (r .from ≤ r .end) × (r .end ≤ length (now (line .entry))) ⌝ }
@@ -16,11 +24,7 @@ fn span(line: &[u8], k: usize) -> Bounds
     let mut end = stored::end_of(line, 0, b' ');
     let mut i = 0;
     while i < k {
-        if end < line.len() {
-            from = end + 1;
-        } else {
-            from = end;
-        }
+        from = after(line.len(), end);
         end = stored::end_of(line, from, b' ');
         i += 1;
     }

@@ -74,29 +74,6 @@ fn asked(
     }
 }
 
-// Counts a line.
-fn one_line(kept: Kept, line: &[u8], arena: &mut [u8], room: &mut [u8], copy: &mut [u8]) -> Kept {
-    let mut bytes = [0u8; 1024];
-    let n = stored::bytes_of(line, &mut bytes);
-    let kind = if 0 < line.len() { line[0] } else { 0 };
-    let mut grown = kept.grown;
-    let tally = kept.tally;
-    match kind {
-        b'T' | b'a' | b's' | b'l' | b'm' => {
-            grown = grow::line(grown, kind, &bytes[0..n], arena);
-        }
-        _ => {
-            let long = grown.long;
-            let card = grown.card;
-            grown.agrees = lent(card, long, kind, line, &bytes[0..n], arena, room, copy);
-        }
-    }
-    Kept {
-        grown,
-        tally: counted(tally, kind, grown.agrees),
-    }
-}
-
 // The same with as much of the arena as is lent.
 fn lent(
     card: Card,
@@ -125,14 +102,67 @@ fn lent(
     )
 }
 
+// Counts a line that makes a card, adds to it, or sets the arena's length.
+fn step(kept: Kept, kind: u8, b: &[u8], arena: &mut [u8]) -> Kept {
+    let before = kept.grown;
+    let tally = kept.tally;
+    let grown = grow::line(before, kind, b, arena);
+    Kept {
+        grown,
+        tally: counted(tally, kind, grown.agrees),
+    }
+}
+
+// Counts a line that leaves the card as it is.
+fn question(kept: Kept, kind: u8, agrees: bool) -> Kept {
+    let grown = kept.grown;
+    let tally = kept.tally;
+    Kept {
+        grown,
+        tally: counted(tally, kind, agrees),
+    }
+}
+
+// Whether a line makes a card, adds to it, or sets the arena's length.
+fn is_step(kind: u8) -> bool {
+    match kind {
+        b'T' | b'a' | b's' | b'l' | b'm' => true,
+        _ => false,
+    }
+}
+
+// Counts a line.
+fn one_line(kept: Kept, line: &[u8], arena: &mut [u8], room: &mut [u8], copy: &mut [u8]) -> Kept {
+    let mut bytes = [0u8; 1024];
+    let n = stored::bytes_of(line, &mut bytes);
+    let kind = if 0 < line.len() { line[0] } else { 0 };
+    if is_step(kind) {
+        return step(kept, kind, &bytes[0..n], arena);
+    }
+    let grown = kept.grown;
+    let card = grown.card;
+    let agrees = lent(
+        card,
+        grown.long,
+        kind,
+        line,
+        &bytes[0..n],
+        arena,
+        room,
+        copy,
+    );
+    question(kept, kind, agrees)
+}
+
 // Counts every line of a text.
 fn lines(kept: Kept, text: &[u8], arena: &mut [u8], room: &mut [u8], copy: &mut [u8]) -> Kept {
     let mut k = kept;
     let mut from = 0;
     while from < text.len() {
-        let end = stored::end_of(text, from, b'\n');
-        k = one_line(k, &text[from..end], arena, room, copy);
+        let start = from;
+        let end = stored::end_of(text, start, b'\n');
         from = end + 1;
+        k = one_line(k, &text[start..end], arena, room, copy);
     }
     k
 }

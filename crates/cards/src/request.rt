@@ -12,9 +12,18 @@ use system::write;
 // Whether a reply is the one told: two status bytes, or the number of a refusal.
 fn told(reply: Reply, answer: &[u8]) -> bool {
     if let Reply::Refused(refusal) = reply {
-        return answer.len() == 1 && refusal.number() == answer[0];
+        if answer.len() != 1 {
+            return false;
+        }
+        return refusal.number() == answer[0];
     }
-    answer.len() == 2 && reply.status_flag1() == answer[0] && reply.status_flag2() == answer[1]
+    if answer.len() != 2 {
+        return false;
+    }
+    if reply.status_flag1() != answer[0] {
+        return false;
+    }
+    reply.status_flag2() == answer[1]
 }
 
 // Whether all bytes have a value.
@@ -148,10 +157,16 @@ fn written_right(
     let n = fields::bytes(line, 7, &mut answer);
     let mut last = [0u8; 16384];
     let m = fields::bytes(line, 8, &mut last);
-    told(reply, &answer[0..n])
-        && put_changed(copy, &last[0..m])
-        && spans::same(arena, copy)
-        && staging_right(reply, card.used, staging)
+    if !told(reply, &answer[0..n]) {
+        return false;
+    }
+    if !staging_right(reply, card.used, staging) {
+        return false;
+    }
+    if !put_changed(copy, &last[0..m]) {
+        return false;
+    }
+    spans::same(arena, copy)
 }
 
 // A line `R` or `W`.

@@ -2,8 +2,8 @@ use Prim.Native.Nat.{ℕ, _≤_, _<_, _-_, _+_, _*_, _/_}
 use mathlib.Core.Path.{_≡_}
 use lib.ListN.{length}
 use borrow.Author.Needs.{needs}
-use Rattle.trees.proofs.ask.same_pairs.Statement.{statement}
-use Rattle.trees.proofs.ask.same_pairs.Tie as tie
+use Rattle.cards.proofs.ask.same_pairs.Statement.{statement}
+use Rattle.cards.proofs.ask.same_pairs.Tie as tie
 
 abbrev Inv-loop : tie.InvT-loop
 Inv-loop pairs b i₀ i = i ≤ length pairs

@@ -1,46 +1,15 @@
+use Prim.Native.Nat.{ℕ, _≤_, _<_, _-_, _+_, _*_, _/_}
+use mathlib.Core.Path.{_≡_}
+use lib.ListN.{length}
+use borrow.Author.Needs.{needs}
 use Rattle.cards.proofs.fields.span.Statement.{statement}
 use Rattle.cards.proofs.fields.span.Tie as tie
-use Rattle.cards.proofs.fields.span.Reads as reads
-use Rattle.cards.proofs.fields.span.Lts as lts
-use Rattle.stored.proofs.end_of.Reads as end-of-reads
 
 abbrev Inv-loop : tie.InvT-loop
-Inv-loop line k from₀ end₀ i₀ from end i = ?
+Inv-loop line k from₀ end₀ i₀ from end i = (from ≤ end) × (end ≤ length line) × (i ≤ k)
 
 abbrev μ-loop : tie.MeasureT-loop
-μ-loop line k from₀ end₀ i₀ from end i = ?
-
--- src/fields.rt:16:9
-end-of-requires : tie.Need-end-of-requires Inv-loop μ-loop
-end-of-requires c κs = ?
-
--- src/fields.rt:18:5
-loop-holds : tie.Need-loop-holds Inv-loop μ-loop
-loop-holds c = ?
-
--- src/fields.rt:20:20
-add-from : tie.Need-add-from Inv-loop μ-loop
-add-from c = ?
-
--- src/fields.rt:24:9
-end-of-requires-2 : tie.Need-end-of-requires-2 Inv-loop μ-loop
-end-of-requires-2 c κs = ?
-
--- src/fields.rt:25:9
-add-i : tie.Need-add-i Inv-loop μ-loop
-add-i c = ?
-
--- src/fields.rt:18:5
-loop-less : tie.Need-loop-less Inv-loop μ-loop
-loop-less c = ?
-
--- src/fields.rt:18:5
-loop-again : tie.Need-loop-again Inv-loop μ-loop
-loop-again c = ?
-
--- src/fields.rt:12:1
-returns : tie.Need-returns Inv-loop μ-loop
-returns c = ?
+μ-loop line k from₀ end₀ i₀ from end i = k - i
 
 pub span-spec : {M : Type 1} → statement M
 span-spec =
@@ -48,11 +17,11 @@ span-spec =
     (tie.spec
     Inv-loop
     μ-loop
-    end-of-requires
-    loop-holds
-    add-from
-    end-of-requires-2
-    add-i
-    loop-less
-    loop-again
-    returns)
+    (λ c. search needs)  -- end-of-requires
+    (λ c. search needs)  -- loop-holds
+    (λ c. search needs)  -- after-requires
+    (λ c. search needs)  -- end-of-requires-2
+    (λ c. search needs)  -- add-i
+    (λ c. search needs)  -- loop-less
+    (λ c. search needs)  -- loop-again
+    (λ c. search needs))  -- returns

@@ -1,41 +1,15 @@
+use Prim.Native.Nat.{ℕ, _≤_, _<_, _-_, _+_, _*_, _/_}
+use mathlib.Core.Path.{_≡_}
+use lib.ListN.{length}
+use borrow.Author.Needs.{needs}
 use Rattle.cards.proofs.request.fill.Statement.{statement}
 use Rattle.cards.proofs.request.fill.Tie as tie
-use Rattle.cards.proofs.request.fill.Reads as reads
-use Rattle.cards.proofs.request.fill.Lts as lts
 
 abbrev Inv-loop : tie.InvT-loop
-Inv-loop s₀ value i₀ s i = ?
+Inv-loop s₀ value i₀ s i = (i ≤ length s₀) × (length s ≡ length s₀)
 
 abbrev μ-loop : tie.MeasureT-loop
-μ-loop s₀ value i₀ s i = ?
-
--- src/request.rt:35:5
-loop-holds : tie.Need-loop-holds Inv-loop μ-loop
-loop-holds c = ?
-
--- src/request.rt:36:9
-slice-write-s : tie.Need-slice-write-s Inv-loop μ-loop
-slice-write-s c = ?
-
--- src/request.rt:37:9
-add-i : tie.Need-add-i Inv-loop μ-loop
-add-i c = ?
-
--- src/request.rt:35:5
-loop-less : tie.Need-loop-less Inv-loop μ-loop
-loop-less c = ?
-
--- src/request.rt:35:5
-loop-again : tie.Need-loop-again Inv-loop μ-loop
-loop-again c = ?
-
--- src/request.rt:33:1
-same-length : tie.Need-same-length Inv-loop μ-loop
-same-length c = ?
-
--- src/request.rt:33:1
-returns : tie.Need-returns Inv-loop μ-loop
-returns c = ?
+μ-loop s₀ value i₀ s i = length s₀ - i
 
 pub fill-spec : {M : Type 1} → statement M
 fill-spec =
@@ -43,10 +17,10 @@ fill-spec =
     (tie.spec
     Inv-loop
     μ-loop
-    loop-holds
-    slice-write-s
-    add-i
-    loop-less
-    loop-again
-    same-length
-    returns)
+    (λ c. search needs)  -- loop-holds
+    (λ c. search needs)  -- slice-write-s
+    (λ c. search needs)  -- add-i
+    (λ c. search needs)  -- loop-less
+    (λ c. search needs)  -- loop-again
+    (λ c. search needs)  -- same-length
+    (λ c. search needs))  -- returns
