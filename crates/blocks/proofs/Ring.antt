@@ -10,7 +10,7 @@ use mathlib.Core.List.{List}
 use lib.ListN.{length, getD, set, take, drop, length-drop}
 use lib.Seq.{drop-cons, take-all, take-length}
 use borrow.Author.Tests.{lt-ltb, le-ltb}
-use Rattle.types.specs.declared.status.Fault.the-variants.{CyclicTooLong}
+use Rattle.answers.specs.declared.status.Fault.the-variants.{CyclicTooLong}
 use Rattle.spans.specs.Part.{part, put, sameBytes}
 use Rattle.spans.proofs.Part.{put-cons, put-split, length-put, part-put, getD-put-apart}
 use Rattle.blocks.specs.Outcome.{passed, failed}

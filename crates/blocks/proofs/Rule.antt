@@ -9,8 +9,8 @@ use lib.Signed.{ltZ}
 use borrow.Author.Tests.{eq-eqb, ne-eqb}
 use Rattle.spans.specs.Part.{put}
 use Rattle.word.specs.Word.{wordBytes}
-use Rattle.types.specs.declared.status.Fault.{Fault}
-use Rattle.types.specs.declared.status.Fault.the-variants.{PurseRaised, CashbackRaised, SumTooLarge, CashbackExceeds}
+use Rattle.answers.specs.declared.status.Fault.{Fault}
+use Rattle.answers.specs.declared.status.Fault.the-variants.{PurseRaised, CashbackRaised, SumTooLarge, CashbackExceeds}
 use Rattle.blocks.specs.declared.purse.PurseOperation.the-variants.{Direct, Decrement, Cashback}
 use Rattle.blocks.specs.declared.purse.Limit.{Limit}
 use Rattle.blocks.specs.declared.purse.PurseData.{PurseData}

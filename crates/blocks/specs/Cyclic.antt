@@ -4,7 +4,7 @@ use mathlib.Core.List.{List, _++_}
 use mathlib.Core.Bool.{cond}
 use lib.Dec.{ltb}
 use lib.ListN.{length, take}
-use Rattle.types.specs.declared.status.Fault.the-variants.{CyclicTooLong}
+use Rattle.answers.specs.declared.status.Fault.the-variants.{CyclicTooLong}
 use Rattle.spans.specs.Part.{sameBytes}
 use Rattle.blocks.specs.Outcome.{Outcome, passed, failed}
 

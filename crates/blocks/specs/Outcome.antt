@@ -1,7 +1,7 @@
 -- What a rule makes of the bytes of a block or a store: the bytes to store, or a fault.
 use Prim.Native.Nat.{ℕ}
 use mathlib.Core.List.{List}
-use Rattle.types.specs.declared.status.Fault.{Fault}
+use Rattle.answers.specs.declared.status.Fault.{Fault}
 use Rattle.blocks.specs.declared.Written.{Written}
 use Rattle.blocks.specs.declared.Written.the-variants.{Done, Failed}
 

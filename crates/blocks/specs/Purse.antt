@@ -6,8 +6,8 @@ use lib.Dec.{eqb}
 use lib.ListN.{drop}
 use lib.IntN.{ℤ, pos, _+ℤ_, _-ℤ_}
 use lib.Signed.{ltZ, leZ}
-use Rattle.types.specs.declared.status.Fault.{Fault}
-use Rattle.types.specs.declared.status.Fault.the-variants.{PurseRaised, CashbackRaised, SumTooLarge, OutsideLimits, OutsideWord, CashbackExceeds}
+use Rattle.answers.specs.declared.status.Fault.{Fault}
+use Rattle.answers.specs.declared.status.Fault.the-variants.{PurseRaised, CashbackRaised, SumTooLarge, OutsideLimits, OutsideWord, CashbackExceeds}
 use Rattle.spans.specs.Part.{put}
 use Rattle.word.specs.Word.{wordAt, wordBytes, wordOf, signedOf}
 use Rattle.blocks.specs.declared.purse.PurseOperation.{PurseOperation}

@@ -1,6 +1,6 @@
 // The cyclic rule: a run of blocks goes in front of a store.
 use crate::Written;
-use types::status::Fault;
+use answers::status::Fault;
 ghost use mathlib.Core.Path.{_≡_};
 ghost use Prim.Native.Nat.{_-_, _≤_};
 ghost use lib.ListN.{length};

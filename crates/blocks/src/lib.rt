@@ -1,5 +1,5 @@
 // What a write does to the blocks of a purse service and of a cyclic one, as `blocks.rs` of the Rust has it.
-use types::status::Fault;
+use answers::status::Fault;
 
 pub mod cyclic;
 pub mod purse;

@@ -1,6 +1,6 @@
 // The purse rule: a stored value that is lowered, given back, or written outright.
 use crate::Written;
-use types::status::Fault;
+use answers::status::Fault;
 ghost use mathlib.Core.Path.{_≡_};
 ghost use mathlib.Core.Bool.{true};
 ghost use Prim.Native.Nat.{_+_, _≤_, _<_, _^_};

@@ -10,8 +10,8 @@ use Rattle.lists.specs.declared.element.BlockListElement.{BlockListElement}
 use Rattle.types.specs.declared.code.Decoded.the-variants.{Defined, Undefined}
 use Rattle.types.specs.declared.code.ServiceAttribute.{ServiceAttribute}
 use Rattle.types.specs.Code.{requiresKey}
-use Rattle.types.specs.declared.status.Fault.{Fault}
-use Rattle.types.specs.declared.status.Fault.the-variants.{ListIndex, AccessMode, Attribute, NoService, KeyNeeded, BlockNumber}
+use Rattle.answers.specs.declared.status.Fault.{Fault}
+use Rattle.answers.specs.declared.status.Fault.the-variants.{ListIndex, AccessMode, Attribute, NoService, KeyNeeded, BlockNumber}
 use Rattle.checks.specs.declared.row.Row.{Row}
 use Rattle.checks.specs.declared.check.Check.{Check}
 use Rattle.checks.specs.declared.check.Check.the-variants.{Passed, Failed}

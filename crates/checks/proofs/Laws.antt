@@ -11,8 +11,8 @@ use borrow.Author.Tests.{leb-false, ltb-true}
 use Rattle.types.specs.declared.code.Decoded.{Decoded}
 use Rattle.types.specs.declared.code.Decoded.the-variants.{Defined, Undefined}
 use Rattle.types.specs.declared.code.ServiceAttribute.{ServiceAttribute}
-use Rattle.types.specs.declared.status.Fault.{Fault}
-use Rattle.types.specs.declared.status.Fault.the-variants.{ListIndex, AccessMode, NoService, KeyNeeded, ReadOnly, BlockNumber}
+use Rattle.answers.specs.declared.status.Fault.{Fault}
+use Rattle.answers.specs.declared.status.Fault.the-variants.{ListIndex, AccessMode, NoService, KeyNeeded, ReadOnly, BlockNumber}
 use Rattle.types.specs.Code.{requiresKey, allowsWrite}
 use Rattle.lists.specs.declared.element.BlockListElement.{BlockListElement}
 use Rattle.nodes.specs.declared.node.Node.{Node}

@@ -4,7 +4,7 @@ use mathlib.Core.Bool.{Bool}
 use mathlib.Core.List.{List}
 use Prim.Native.Nat.{ℕ, zero, suc, _+_, _-_, _<_}
 use native.Mathlib.Omega.{arith}
-use Rattle.types.specs.declared.status.Fault.{Fault}
+use Rattle.answers.specs.declared.status.Fault.{Fault}
 use Rattle.lists.specs.declared.element.BlockListElement.{BlockListElement}
 use Rattle.lists.specs.declared.element.Unpacked.{Unpacked}
 use Rattle.lists.specs.declared.element.Unpacked.the-variants.{Element, Short}

@@ -8,7 +8,7 @@ use Rattle.types.specs.declared.code.Decoded.{Decoded}
 use Rattle.types.specs.declared.code.Decoded.the-variants.{Defined, Undefined}
 use Rattle.types.specs.declared.code.ServiceAttribute.{ServiceAttribute}
 use Rattle.lists.specs.declared.element.BlockListElement.{BlockListElement}
-use Rattle.types.specs.declared.status.Fault.the-variants.{ListIndex, AccessMode, Attribute, NoService, KeyNeeded, ReadOnly, NoCashback, BlockNumber}
+use Rattle.answers.specs.declared.status.Fault.the-variants.{ListIndex, AccessMode, Attribute, NoService, KeyNeeded, ReadOnly, NoCashback, BlockNumber}
 use Rattle.types.specs.Code.{requiresKey, allowsWrite, allowsCashback}
 use Rattle.checks.specs.declared.row.Row.{Row}
 use Rattle.checks.specs.declared.check.Check.{Check}

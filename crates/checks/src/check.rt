@@ -1,13 +1,13 @@
 // The checks of a block list element, in their order (`validate_block_element` of the Rust).
 use crate::row::Row;
 use crate::row::Table;
+use answers::status::Fault;
 use lists::element;
 use lists::element::BlockListElement;
 use lists::element::Unpacked;
 use types::code::Decoded;
 use types::code::ServiceAttribute;
 use types::code::ServiceCode;
-use types::status::Fault;
 ghost use mathlib.Core.Path.{_≡_};
 ghost use mathlib.Core.Bool.{_&&_};
 ghost use lib.ListN.{take};

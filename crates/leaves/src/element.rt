@@ -1,7 +1,7 @@
 // Questions on list elements and places.
+use answers::status;
 use lists::element::BlockListElement;
 use stored::number16;
-use types::status;
 
 // A line `P`: number, index, mode, and the packed bytes.
 pub(crate) fn pack(b: &[u8]) -> bool {

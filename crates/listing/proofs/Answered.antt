@@ -5,7 +5,7 @@ use Prim.Native.Nat.{ℕ, _+_, _*_, _≤_, _<_, min}
 use native.Mathlib.Omega.{arith}
 use lib.ListN.{length, take, drop, getD, length-take}
 use borrow.Author.Tests.{lt-ltb, le-ltb}
-use Rattle.types.specs.declared.refusal.Refusal.the-variants.{ShortOutput}
+use Rattle.answers.specs.declared.refusal.Refusal.the-variants.{ShortOutput}
 use Rattle.nodes.specs.declared.node.Node.{Node}
 use Rattle.nodes.specs.Node.{rootNode}
 use Rattle.nodes.proofs.Scan.{next, over}

@@ -5,7 +5,7 @@ use mathlib.Core.Bool.{cond}
 use lib.Dec.{leb, ltb}
 use lib.ListN.{length}
 use lib.Seq.{sets}
-use Rattle.types.specs.declared.refusal.Refusal.the-variants.{ShortOutput}
+use Rattle.answers.specs.declared.refusal.Refusal.the-variants.{ShortOutput}
 use Rattle.nodes.specs.declared.node.Entry.{Entry}
 use Rattle.nodes.specs.declared.node.Entry.the-variants.{Area, Service}
 use Rattle.nodes.specs.declared.node.Node.{Node}

@@ -1,8 +1,8 @@
 // The directory: each area, then its children in order, an area within starting the same again.
+use answers::refusal::Refusal;
 use nodes::find;
 use nodes::node::Entry;
 use nodes::node::Node;
-use types::refusal::Refusal;
 ghost use mathlib.Core.Path.{_≡_};
 ghost use Prim.Native.Nat.{_+_, _*_, _≤_, _<_};
 ghost use mathlib.Core.List.{[], _∷_};

@@ -4,7 +4,7 @@ use mathlib.Core.List.{List}
 use mathlib.Core.Bool.{Bool, true, false, cond, not}
 use lib.Dec.{eqb, ltb, leb}
 use lib.ListN.{length, getD}
-use Rattle.types.specs.declared.refusal.Refusal.the-variants.{InvalidAreaRange, InvalidRootAreaRange, NodeCodeOutOfRange, InvalidAreaAttribute, ChildAreaForbidden, UndefinedServiceAttribute, ServiceOutOfRange, AreaOutOfRange, OverlapKindMismatch, TableFull, NoParent, NoRoom}
+use Rattle.answers.specs.declared.refusal.Refusal.the-variants.{InvalidAreaRange, InvalidRootAreaRange, NodeCodeOutOfRange, InvalidAreaAttribute, ChildAreaForbidden, UndefinedServiceAttribute, ServiceOutOfRange, AreaOutOfRange, OverlapKindMismatch, TableFull, NoParent, NoRoom}
 use Rattle.types.specs.declared.code.ServiceKind.the-variants.{Random, Cyclic, Purse}
 use Rattle.types.specs.declared.code.Decoded.{Decoded}
 use Rattle.types.specs.declared.code.Decoded.the-variants.{Defined, Undefined}

@@ -5,11 +5,11 @@ use mathlib.Core.Bool.{true}
 use mathlib.Core.List.{List, [], _∷_, _++_}
 use lib.ListN.{replicate}
 use lib.IntN.{pos, negsuc}
-use Rattle.types.specs.declared.status.Fault.the-variants.{OutsideLimits, OutsideWord, CashbackExceeds, CyclicTooLong}
+use Rattle.answers.specs.declared.status.Fault.the-variants.{OutsideLimits, OutsideWord, CashbackExceeds, CyclicTooLong}
 use Rattle.types.specs.declared.code.Decoded.the-variants.{Defined}
 use Rattle.types.specs.declared.code.ServiceAttribute.the-variants.{RandomReadWrite}
 use Rattle.types.specs.Code.{numberOf, attributesOf, tableOf, decodedOf, attributeOf, requiresKey}
-use Rattle.types.specs.Status.{sf1Of, sf2Of}
+use Rattle.answers.specs.Status.{sf1Of, sf2Of}
 use Rattle.lists.specs.Element.{packOf}
 use Rattle.places.specs.Bitmap.{placesFrom, placesOf}
 use Rattle.spans.specs.Part.{put, sameBytes}

@@ -9,7 +9,7 @@ use mathlib.Core.List.{List, [], _∷_}
 use lib.Dec.{eqb}
 use lib.ListN.{length}
 use borrow.Author.Tests.{eq-eqb, ne-eqb}
-use Rattle.types.specs.declared.status.Fault.{Fault}
+use Rattle.answers.specs.declared.status.Fault.{Fault}
 use Rattle.runs.specs.Runs.{Walked, bad, good, then, push, runsOf, scan, walk}
 
 -- one step after another

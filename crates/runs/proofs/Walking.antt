@@ -6,7 +6,7 @@ use mathlib.Core.Path.{_≡_, refl, sym, ap, _∙_}
 use mathlib.Core.List.{List, [], _∷_}
 use lib.Arith.{lt-of-le-ne}
 use lib.ListN.{length, take, drop}
-use Rattle.types.specs.declared.status.Fault.{Fault}
+use Rattle.answers.specs.declared.status.Fault.{Fault}
 use Rattle.types.specs.Code.{numberOf}
 use Rattle.spans.specs.Part.{part}
 use Rattle.lists.specs.declared.element.BlockListElement.{BlockListElement}

@@ -8,7 +8,7 @@ use Rattle.types.specs.declared.code.Decoded.{Decoded}
 use Rattle.types.specs.declared.code.Decoded.the-variants.{Defined, Undefined}
 use Rattle.types.specs.declared.code.ServiceAttribute.the-variants.{RandomReadWrite, RandomReadOnly, CyclicReadWrite, CyclicReadOnly, PurseDirect, PurseCashback, PurseDecrement, PurseReadOnly}
 use Rattle.lists.specs.declared.element.BlockListElement.{BlockListElement}
-use Rattle.types.specs.declared.status.Fault.the-variants.{Attribute, ReadOnly, CyclicBlock}
+use Rattle.answers.specs.declared.status.Fault.the-variants.{Attribute, ReadOnly, CyclicBlock}
 use Rattle.spans.specs.Part.{part, put}
 use Rattle.blocks.specs.declared.purse.PurseOperation.{PurseOperation}
 use Rattle.blocks.specs.declared.purse.PurseOperation.the-variants.{Direct, Decrement, Cashback}

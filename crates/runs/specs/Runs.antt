@@ -4,7 +4,7 @@ use mathlib.Core.List.{List, [], _∷_}
 use mathlib.Core.Bool.{cond}
 use lib.Dec.{eqb}
 use lib.ListN.{length}
-use Rattle.types.specs.declared.status.Fault.{Fault}
+use Rattle.answers.specs.declared.status.Fault.{Fault}
 
 -- a state, or the index of the element that failed first and its fault
 pub data Walked (S : Type 0) : Type 0 where

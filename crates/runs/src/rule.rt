@@ -1,4 +1,5 @@
 // What an element, and the end of a run, do to one store; and to that store where it lies in the stage.
+use answers::status::Fault;
 use blocks::Written;
 use blocks::cyclic;
 use blocks::purse;
@@ -7,7 +8,6 @@ use blocks::purse::PurseOperation;
 use checks::row::Row;
 use types::code::Decoded;
 use types::code::ServiceAttribute;
-use types::status::Fault;
 ghost use mathlib.Core.Path.{_≡_};
 ghost use Prim.Native.Nat.{_+_, _*_, _≤_};
 ghost use lib.ListN.{length};

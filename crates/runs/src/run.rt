@@ -1,12 +1,12 @@
 // The runs of a write: longest stretches of consecutive elements of equal service number.
 use crate::rule;
+use answers::status::Fault;
 use blocks::Written;
 use checks::row::Row;
 use checks::row::Table;
 use lists::element;
 use lists::element::Unpacked;
 use types::code::ServiceCode;
-use types::status::Fault;
 ghost use mathlib.Core.Path.{_≡_};
 ghost use Prim.Native.Nat.{_*_, _≤_};
 ghost use lib.ListN.{length, take};

@@ -6,7 +6,7 @@ use Prim.Native.Nat.{ℕ}
 use native.Mathlib.Omega.{arith}
 use lib.IntN.{ℤ}
 use lib.ListN.{length}
-use Rattle.types.specs.declared.refusal.Refusal.the-variants.{NotBuilt}
+use Rattle.answers.specs.declared.refusal.Refusal.the-variants.{NotBuilt}
 use Rattle.blocks.specs.declared.purse.Limit.{Limit}
 use Rattle.blocks.specs.declared.purse.Limit.the-variants.{Unlimited, Limited}
 use Rattle.nodes.specs.declared.node.Entry.the-variants.{Area, Service}

@@ -9,8 +9,8 @@ use lib.IntN.{ℤ}
 use lib.ListN.{length, set, getD, replicate, length-append}
 use lib.Seq.{append-snoc, take-append-seam, set-append-seam, set-at, getD-at}
 use borrow.Author.Tests.{ltb-false, le-ltb}
-use Rattle.types.specs.declared.refusal.Refusal.{Refusal}
-use Rattle.types.specs.declared.refusal.Refusal.the-variants.{ShortArena}
+use Rattle.answers.specs.declared.refusal.Refusal.{Refusal}
+use Rattle.answers.specs.declared.refusal.Refusal.the-variants.{ShortArena}
 use Rattle.blocks.specs.declared.purse.Limit.{Limit}
 use Rattle.blocks.specs.declared.purse.Limit.the-variants.{Unlimited, Limited}
 use Rattle.nodes.specs.declared.node.Entry.the-variants.{Area, Service}

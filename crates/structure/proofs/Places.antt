@@ -8,7 +8,7 @@ use native.Mathlib.Omega.{arith}
 use lib.Dec.{eqb, ltb, leb}
 use lib.ListN.{length, getD}
 use borrow.Author.Tests.{eqb-true, eqb-false, ltb-false}
-use Rattle.types.specs.declared.refusal.Refusal.the-variants.{NodeCodeOutOfRange, UndefinedServiceAttribute, TableFull}
+use Rattle.answers.specs.declared.refusal.Refusal.the-variants.{NodeCodeOutOfRange, UndefinedServiceAttribute, TableFull}
 use Rattle.types.specs.declared.code.ServiceAttribute.{ServiceAttribute}
 use Rattle.types.specs.declared.code.ServiceKind.the-variants.{Random, Cyclic, Purse}
 use Rattle.types.specs.declared.code.Decoded.{Decoded}

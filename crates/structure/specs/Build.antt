@@ -4,7 +4,7 @@ use mathlib.Core.List.{List}
 use mathlib.Core.Bool.{cond}
 use lib.IntN.{ℤ}
 use lib.ListN.{replicate}
-use Rattle.types.specs.declared.refusal.Refusal.the-variants.{NotBuilt}
+use Rattle.answers.specs.declared.refusal.Refusal.the-variants.{NotBuilt}
 use Rattle.spans.specs.Part.{put}
 use Rattle.structure.specs.declared.card.Card.{Card}
 use Rattle.structure.specs.declared.card.Added.{Added}

@@ -4,7 +4,7 @@ use mathlib.Core.Bool.{cond}
 use lib.Dec.{ltb}
 use lib.IntN.{ℤ}
 use lib.ListN.{getD, set}
-use Rattle.types.specs.declared.refusal.Refusal.the-variants.{ShortArena, NotAService}
+use Rattle.answers.specs.declared.refusal.Refusal.the-variants.{ShortArena, NotAService}
 use Rattle.blocks.specs.declared.purse.Limit.{Limit}
 use Rattle.blocks.specs.declared.purse.Limit.the-variants.{Unlimited, Limited}
 use Rattle.nodes.specs.declared.node.Entry.{Entry}

@@ -2,7 +2,7 @@
 use Prim.Native.Nat.{ℕ}
 use mathlib.Core.List.{List}
 use mathlib.Core.Bool.{Bool, true, false, cond}
-use Rattle.types.specs.declared.refusal.Refusal.the-variants.{NotBuilt}
+use Rattle.answers.specs.declared.refusal.Refusal.the-variants.{NotBuilt}
 use Rattle.listing.specs.declared.directory.Listing.{Listing}
 use Rattle.listing.specs.declared.directory.Listing.the-variants.{Refused as NotListed}
 use Rattle.listing.specs.Directory.{listingOf, outAfter}

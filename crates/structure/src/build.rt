@@ -1,13 +1,13 @@
 // Building a card: each addition takes the card and hands it back, grown or as it was.
 use crate::card::Added;
 use crate::card::Card;
+use answers::refusal::Refusal;
 use blocks::purse::Limit;
 use nodes::grow;
 use nodes::grow::Answer;
 use nodes::grow::Placed;
 use nodes::node::Entry;
 use nodes::node::Node;
-use types::refusal::Refusal;
 ghost use mathlib.Core.Path.{_≡_};
 ghost use Prim.Native.Nat.{_<_};
 ghost use lib.ListN.{length};

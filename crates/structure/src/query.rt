@@ -1,10 +1,10 @@
 // What can be asked of a card's tree.
 use crate::card::Card;
+use answers::refusal::Refusal;
 use listing::directory;
 use listing::directory::Listing;
 use listing::keys;
 use listing::total;
-use types::refusal::Refusal;
 ghost use mathlib.Core.Path.{_≡_};
 ghost use lib.ListN.{length};
 ghost use Rattle.structure.specs.Query.{directoryAnswer, directoryOut, totalAnswer, versionAnswer, areaListAnswer, serviceListAnswer};

@@ -7,8 +7,8 @@ use native.Mathlib.Omega.{arith}
 use lib.Dec.{ltb}
 use lib.ListN.{length, getD}
 use borrow.Author.Tests.{ltb-false}
-use Rattle.types.specs.declared.refusal.Refusal.{Refusal}
-use Rattle.types.specs.declared.refusal.Refusal.the-variants.{TooManyElements, TooManyCodes, ListLength, ShortStaging, ShortOutput, ShortArena, NotBuilt}
+use Rattle.answers.specs.declared.refusal.Refusal.{Refusal}
+use Rattle.answers.specs.declared.refusal.Refusal.the-variants.{TooManyElements, TooManyCodes, ListLength, ShortStaging, ShortOutput, ShortArena, NotBuilt}
 use Rattle.lists.specs.declared.element.BlockListElement.{BlockListElement}
 use Rattle.lists.specs.Element.{endsAfter}
 use Rattle.nodes.specs.declared.node.Entry.{Entry}

@@ -9,9 +9,9 @@ use lib.Dec.{ltb}
 use lib.ListN.{length, take, drop, replicate, length-replicate}
 use lib.Seq.{length-take-le, take-at, drop-at}
 use borrow.Author.Tests.{ltb-false}
-use Rattle.types.specs.declared.refusal.Refusal.{Refusal}
-use Rattle.types.specs.declared.refusal.Refusal.the-variants.{TooManyElements, TooManyCodes, ListLength, ShortStaging, ShortArena, NotBuilt}
-use Rattle.types.specs.declared.status.Fault.{Fault}
+use Rattle.answers.specs.declared.refusal.Refusal.{Refusal}
+use Rattle.answers.specs.declared.refusal.Refusal.the-variants.{TooManyElements, TooManyCodes, ListLength, ShortStaging, ShortArena, NotBuilt}
+use Rattle.answers.specs.declared.status.Fault.{Fault}
 use Rattle.lists.specs.Element.{endsAfter}
 use Rattle.spans.specs.Part.{put}
 use Rattle.spans.proofs.Part.{put-split, put-take}

@@ -4,7 +4,7 @@ use mathlib.Core.List.{List, []}
 use mathlib.Core.Bool.{Bool, true, false, cond, _&&_}
 use lib.Dec.{ltb}
 use lib.ListN.{length}
-use Rattle.types.specs.declared.refusal.Refusal.the-variants.{ShortArena, NoSuchBlock, NotBuilt}
+use Rattle.answers.specs.declared.refusal.Refusal.the-variants.{ShortArena, NoSuchBlock, NotBuilt}
 use Rattle.spans.specs.Part.{part, put}
 use Rattle.nodes.specs.declared.grow.Answer.{Answer}
 use Rattle.nodes.specs.declared.grow.Answer.the-variants.{Done, Refused}

@@ -2,8 +2,8 @@
 use Prim.Native.Nat.{ℕ}
 use mathlib.Core.List.{List, []}
 use mathlib.Core.Bool.{Bool, true, false}
-use Rattle.types.specs.declared.status.Fault.{Fault}
-use Rattle.types.specs.Status.{sf1Of, sf2Of}
+use Rattle.answers.specs.declared.status.Fault.{Fault}
+use Rattle.answers.specs.Status.{sf1Of, sf2Of}
 use Rattle.system.specs.declared.plan.Reply.{Reply}
 use Rattle.system.specs.declared.plan.Reply.the-variants.{Refused, Done, ShortData, Failed}
 

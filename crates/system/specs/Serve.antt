@@ -4,7 +4,7 @@ use mathlib.Core.List.{List, [], _∷_, _++_}
 use mathlib.Core.Bool.{Bool, true, false}
 use lib.ListN.{length, take, replicate}
 use Rattle.lists.specs.declared.element.BlockListElement.{BlockListElement}
-use Rattle.types.specs.declared.refusal.Refusal.{Refusal}
+use Rattle.answers.specs.declared.refusal.Refusal.{Refusal}
 use Rattle.spans.specs.Part.{part, put}
 use Rattle.structure.specs.declared.card.Card.{Card}
 use Rattle.checks.specs.declared.row.Row.{Row}

@@ -1,8 +1,8 @@
 // One stored block: as the caller's own arena bytes, and set.
+use answers::refusal::Refusal;
 use checks::row;
 use nodes::grow::Answer;
 use structure::card::Card;
-use types::refusal::Refusal;
 ghost use mathlib.Core.Path.{_≡_};
 ghost use lib.ListN.{length};
 ghost use Rattle.system.specs.Block.{blockJudged, storedBlock, arenaSet};

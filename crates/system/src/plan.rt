@@ -1,9 +1,9 @@
 // What is settled of a request before its elements are looked at.
+use answers::refusal::Refusal;
+use answers::status;
+use answers::status::Fault;
 use lists::element;
 use structure::card::Card;
-use types::refusal::Refusal;
-use types::status;
-use types::status::Fault;
 ghost use mathlib.Core.Path.{_≡_};
 ghost use Rattle.system.specs.Request.{flag1, flag2};
 ghost use Rattle.system.specs.Plan.{lentJudged, judgedBy};

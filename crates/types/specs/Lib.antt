@@ -1,3 +1,1 @@
 pub mod Code
-pub mod Status
-pub mod Refusal

@@ -1,4 +1,2 @@
-// Codes, status bytes and refusals, as `types.rs` of the Rust has them.
+// Service codes, as `types.rs` of the Rust has them.
 pub mod code;
-pub mod refusal;
-pub mod status;

@@ -3,7 +3,7 @@ use mathlib.Core.Path.{_≡_}
 use Prim.Native.Nat.{ℕ, _+_, _<_, _≤_}
 use native.Mathlib.Omega.{arith}
 use borrow.Author.Needs.{needs}
-use Rattle.types.specs.declared.refusal.Refusal.the-variants.{NoRoom}
+use Rattle.answers.specs.declared.refusal.Refusal.the-variants.{NoRoom}
 use Rattle.nodes.specs.declared.grow.Placed.the-variants.{Store, Refused}
 use Rattle.nodes.specs.Grow.{newStore, usable}
 use Rattle.nodes.proofs.Scan.{tests}

@@ -1,7 +1,7 @@
 -- Each arm gives its own case's number.
 use borrow.Author.Needs.{needs}
-use Rattle.types.proofs.refusal.Refusal.number.Statement.{statement}
-use Rattle.types.proofs.refusal.Refusal.number.Tie as tie
+use Rattle.answers.proofs.refusal.Refusal.number.Statement.{statement}
+use Rattle.answers.proofs.refusal.Refusal.number.Tie as tie
 
 pub number-spec : {M : Type 1} → statement M
 number-spec =

@@ -1,6 +1,6 @@
 // Refusals: why a call is not carried out, each with its number.
 ghost use mathlib.Core.Path.{_≡_};
-ghost use Rattle.types.specs.Refusal.{refusalNumber};
+ghost use Rattle.answers.specs.Refusal.{refusalNumber};
 
 // Why a call is refused. Cases that the Rust knows have its names.
 pub enum Refusal {

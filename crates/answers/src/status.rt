@@ -1,6 +1,6 @@
 // Status bytes: the place of an error in a list, and its cause.
 ghost use mathlib.Core.Path.{_≡_};
-ghost use Rattle.types.specs.Status.{sf1Of, sf2Of};
+ghost use Rattle.answers.specs.Status.{sf1Of, sf2Of};
 
 // Why an element or a rule fails. Several causes share a status byte.
 pub enum Fault {

@@ -1,7 +1,7 @@
 -- Status bytes. Manual, section 4.5.1: status flag 1, the encoding by order; section 4.5.2: status flag 2.
 use Prim.Native.Nat.{ℕ, _+_, min}
-use Rattle.types.specs.declared.status.Fault.{Fault}
-use Rattle.types.specs.declared.status.Fault.the-variants.{ListIndex, AccessMode, Attribute, NoService, KeyNeeded, ReadOnly, NoCashback, BlockNumber, CyclicBlock, PurseRaised, CashbackRaised, SumTooLarge, OutsideLimits, OutsideWord, CashbackExceeds, CyclicTooLong}
+use Rattle.answers.specs.declared.status.Fault.{Fault}
+use Rattle.answers.specs.declared.status.Fault.the-variants.{ListIndex, AccessMode, Attribute, NoService, KeyNeeded, ReadOnly, NoCashback, BlockNumber, CyclicBlock, PurseRaised, CashbackRaised, SumTooLarge, OutsideLimits, OutsideWord, CashbackExceeds, CyclicTooLong}
 
 -- the place of an error at an index of the list, counted from 0: min(index + 1, 255)
 abbrev pub sf1Of : ℕ → ℕ

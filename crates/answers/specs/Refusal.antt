@@ -1,7 +1,7 @@
 -- The numbers of the refusals.
 use Prim.Native.Nat.{ℕ}
-use Rattle.types.specs.declared.refusal.Refusal.{Refusal}
-use Rattle.types.specs.declared.refusal.Refusal.the-variants.{TooManyElements, TooManyCodes, ListLength, ShortStaging, ShortOutput, MalformedRequest, ShortArena, NotBuilt, InvalidAreaRange, InvalidRootAreaRange, NodeCodeOutOfRange, InvalidAreaAttribute, ChildAreaForbidden, UndefinedServiceAttribute, ServiceOutOfRange, AreaOutOfRange, OverlapKindMismatch, TableFull, NoParent, NoRoom, NoSuchBlock, NotAService, MalformedImage}
+use Rattle.answers.specs.declared.refusal.Refusal.{Refusal}
+use Rattle.answers.specs.declared.refusal.Refusal.the-variants.{TooManyElements, TooManyCodes, ListLength, ShortStaging, ShortOutput, MalformedRequest, ShortArena, NotBuilt, InvalidAreaRange, InvalidRootAreaRange, NodeCodeOutOfRange, InvalidAreaAttribute, ChildAreaForbidden, UndefinedServiceAttribute, ServiceOutOfRange, AreaOutOfRange, OverlapKindMismatch, TableFull, NoParent, NoRoom, NoSuchBlock, NotAService, MalformedImage}
 
 abbrev pub refusalNumber : Refusal → ℕ
 refusalNumber TooManyElements = 1
