@@ -1,17 +1,19 @@
-// A reader of a block list: it holds the caller's list bytes and a place in them.
+// A reader of a block list. A struct that holds the caller's bytes is proved by a walk of each function's own code, so the
+// functions on it are few and thin: they take the reader apart and leave the work to `lists`.
 use lists::element;
 use lists::element::Unpacked;
 ghost use mathlib.Core.Path.{_≡_};
-ghost use Rattle.lists.specs.Element.{unpackAt, endsFrom, endsAfter};
-ghost use Rattle.reader.specs.Read.{placePast, atStart, movedOn};
+ghost use Rattle.lists.specs.Element.{endsAfter};
+ghost use Rattle.reader.specs.Read.{atStart, nextOf, placePast, movedOn, finished};
 
+// The caller's list bytes, and a place in them.
 pub struct Reader<'a> {
     pub list: &'a [u8],
     pub at: usize,
 }
 
-// The place past what stands at a place; where no element stands, that place.
-pub fn place_past(taken: Unpacked, at: usize) -> usize
+// The place past an element; where there is none, the same place.
+fn place_past(taken: Unpacked, at: usize) -> usize
     ensures { λ r. ⌜ r ≡ placePast taken at ⌝ }
 {
     match taken {
@@ -28,11 +30,9 @@ impl<'a> Reader<'a> {
         Reader { list, at: 0 }
     }
 
-    // Takes the next element and moves on past it; where the bytes end within it, there is none and the reader stays.
+    // Takes the next element, and moves on past it; where too few bytes are left for one, the reader stays.
     pub fn next(&mut self) -> Unpacked
-        ensures {
-            λ r. ⌜ (r ≡ unpackAt (now (now (self .entry) .list)) (now (self .entry) .at)) × (now (self .exit) ≡ movedOn (now (self .entry))) ⌝
-        }
+        ensures { λ r. ⌜ (r ≡ nextOf (now (self .entry))) × (now (self .exit) ≡ movedOn (now (self .entry))) ⌝ }
     {
         let taken = element::unpack(self.list, self.at);
         self.at = place_past(taken, self.at);
@@ -41,13 +41,13 @@ impl<'a> Reader<'a> {
 
     // Whether all bytes are taken.
     pub fn is_finished(self) -> bool
-        ensures { λ r. ⌜ r ≡ endsFrom (now (self .entry .list)) 0 (self .entry .at) ⌝ }
+        ensures { λ r. ⌜ r ≡ finished (self .entry) ⌝ }
     {
         self.at == self.list.len()
     }
 }
 
-// Whether a list is that many elements and nothing more.
+// Whether a list is that many elements and nothing more. Its parameters are plain, so its callers need no walk.
 pub fn list_ends(list: &[u8], count: usize) -> bool
     ensures { λ r. ⌜ r ≡ endsAfter (now (list .entry)) count ⌝ }
 {
