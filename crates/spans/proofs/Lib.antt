@@ -1,2 +1,3 @@
 -- What callers cite.
 pub mod Part
+pub mod Put

@@ -59,6 +59,10 @@ take-drop zero m l = rw (zero-add m)
 take-drop (suc n) m [] = rw (suc-add n m) (take-nil m)
 take-drop (suc n) m (x ∷ l) = rw (suc-add n m) (take-drop n m l)
 
+-- The rest at i is the byte there, and the rest after it.
+pub here : (s : List ℕ) (i : ℕ) → i < length s → drop i s ≡ getD s i 0 ∷ drop (i + 1) s
+here s i h = rw (add-one i) (drop-cons s i 0 h)
+
 -- A part has its length.
 pub length-part : (s : List ℕ) (at n : ℕ) → at + n ≤ length s → length (part s at n) ≡ n
 unfolding part

@@ -1,5 +1,4 @@
 // Stored answers: files 0001.in, 0002.in, .. of a program's folder, and lines of hex in them.
-use text::field;
 use text::hex;
 use text::hex::Code;
 ghost use mathlib.Core.Path.{_≡_};
@@ -79,7 +78,7 @@ pub fn end_of(text: &[u8], from: usize, separator: u8) -> usize
     requires { ⌜ from ≤ length (now text) ⌝ }
     ensures { λ r. ⌜ (from ≤ r) × (r ≤ length (now (text .entry))) ⌝ }
 {
-    field::field_end(text, from, separator)
+    fields::field_end(text, from, separator)
 }
 
 // A number of 16 bits, high byte first.

@@ -4,22 +4,11 @@ use mathlib.Core.Bool.{true, false}
 use mathlib.Core.List.{[], _∷_}
 use lib.IntN.{pos, negsuc}
 use Rattle.text.specs.Digit.{among, digitOf, digits, spelt}
-use Rattle.text.specs.Field.{before, fieldEnd, fields}
 use Rattle.text.specs.Hex.{hexField, unhex, capital, toHex, hexText, hex16}
 use Rattle.text.specs.Decimal.{plain, upTo, decimal, positive, negative, signed, digitsOf, decText}
 use Rattle.text.specs.declared.hex.Code.the-variants as codes
 use Rattle.text.specs.declared.decimal.Number.the-variants as numbers
 use Rattle.text.specs.declared.decimal.Signed.the-variants as signs
-
--- Fields of `R`, tab, tab, `-`: the first ends at 1, the second is empty, there are three.
-pub field-rows
-    : (fieldEnd 9 0 (82 ∷ 9 ∷ 9 ∷ 45 ∷ []) ≡ 1)
-    × (fieldEnd 9 2 (82 ∷ 9 ∷ 9 ∷ 45 ∷ []) ≡ 2)
-    × (fieldEnd 9 3 (82 ∷ 9 ∷ 9 ∷ 45 ∷ []) ≡ 4)
-    × (fields 9 (82 ∷ 9 ∷ 9 ∷ 45 ∷ []) ≡ 3)
-    × (fields 9 [] ≡ 1)
-unfolding before fieldEnd fields
-field-rows = (refl, refl, refl, refl, refl)
 
 -- `104b`, `104B`, `104`, `104G`; `-`, nothing, `8`, `8001`; bytes 80 01, and none.
 pub hex-rows

@@ -1,4 +1,3 @@
 pub mod Decimal
 pub mod Digit
-pub mod Field
 pub mod Hex

@@ -2,7 +2,7 @@
 use native.Mathlib.Omega.{arith}
 use borrow.Author.Needs.{needs}
 use denote.Ref.{now}
-use Rattle.text.proofs.FieldLaws.{end-from, end-bound}
+use Rattle.fields.proofs.FieldLaws.{end-from, end-bound}
 use Rattle.stored.proofs.end_of.Statement.{statement}
 use Rattle.stored.proofs.end_of.Tie as tie
 

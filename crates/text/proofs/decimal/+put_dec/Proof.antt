@@ -8,7 +8,7 @@ use mathlib.Core.Path.{refl}
 use denote.Ref.{now}
 use Rattle.text.specs.Decimal.{decText}
 use Rattle.text.proofs.DecimalLaws.{dec-one, dec-more, long-one, long-more}
-use Rattle.text.proofs.PutLaws.{put-one, put-snoc}
+use Rattle.spans.proofs.Put.{put-one, put-snoc}
 use Rattle.text.proofs.decimal.put_dec.Reads as put-dec
 use Rattle.text.proofs.decimal.put_dec.Kinds as put-dec-kinds
 use Rattle.text.proofs.decimal.+put_dec.Lts-put_dec as put-dec-lts

@@ -5,7 +5,7 @@ use mathlib.Core.Path.{refl}
 use lib.ListN.{length-set}
 use denote.Ref.{now}
 use Rattle.text.specs.Hex.{toHex}
-use Rattle.text.proofs.PutLaws.{put-two}
+use Rattle.spans.proofs.Put.{put-two}
 use Rattle.text.proofs.hex.put_byte.Statement.{statement}
 use Rattle.text.proofs.hex.put_byte.Tie as tie
 

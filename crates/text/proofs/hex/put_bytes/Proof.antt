@@ -8,7 +8,7 @@ use Rattle.spans.specs.Part.{put}
 use Rattle.spans.proofs.Part.{put-zero}
 use Rattle.text.specs.Hex.{unhex}
 use Rattle.text.proofs.HexLaws.{field-pair, length-unhex, unhex-at}
-use Rattle.text.proofs.PutLaws.{put-next}
+use Rattle.spans.proofs.Put.{put-next}
 use Rattle.text.proofs.hex.put_bytes.Statement.{statement}
 use Rattle.text.proofs.hex.put_bytes.Tie as tie
 

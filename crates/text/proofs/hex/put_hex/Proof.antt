@@ -8,7 +8,7 @@ use Rattle.spans.specs.Part.{put}
 use Rattle.spans.proofs.Part.{put-zero}
 use Rattle.text.specs.Hex.{toHex}
 use Rattle.text.proofs.HexLaws.{length-toHex, toHex-at}
-use Rattle.text.proofs.PutLaws.{put-pair}
+use Rattle.spans.proofs.Put.{put-pair}
 use Rattle.text.proofs.hex.put_hex.Statement.{statement}
 use Rattle.text.proofs.hex.put_hex.Tie as tie
 

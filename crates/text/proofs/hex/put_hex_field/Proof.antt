@@ -5,7 +5,7 @@ use mathlib.Core.Path.{refl, ap, _∙_}
 use lib.ListN.{length}
 use denote.Ref.{now}
 use Rattle.text.proofs.HexLaws.{length-toHex, hexText-none, hexText-some}
-use Rattle.text.proofs.PutLaws.{put-one}
+use Rattle.spans.proofs.Put.{put-one}
 use Rattle.text.proofs.hex.put_hex_field.Statement.{statement}
 use Rattle.text.proofs.hex.put_hex_field.Tie as tie
 

@@ -1,13 +1,13 @@
--- `text::field::field_end` meets its contract: the field that starts at i ends where the one that starts at `from` does. Assumes nothing.
+-- `fields::field_end` meets its contract: the field that starts at i ends where the one that starts at `from` does. Assumes nothing.
 use Prim.Native.Nat.{_-_}
 use mathlib.Core.Path.{_≡_, refl, sym, _∙_}
 use lib.ListN.{length}
 use denote.Ref.{now}
 use native.Mathlib.Omega.{arith}
-use Rattle.text.specs.Field.{fieldEnd}
-use Rattle.text.proofs.FieldLaws.{end-here, end-next, end-past}
-use Rattle.text.proofs.field.field_end.Statement.{statement}
-use Rattle.text.proofs.field.field_end.Tie as tie
+use Rattle.fields.specs.Field.{fieldEnd}
+use Rattle.fields.proofs.FieldLaws.{end-here, end-next, end-past}
+use Rattle.fields.proofs.field_end.Statement.{statement}
+use Rattle.fields.proofs.field_end.Tie as tie
 
 abbrev Inv-loop : tie.InvT-loop
 Inv-loop s from separator i₀ i = fieldEnd separator i s ≡ fieldEnd separator from s
