@@ -5,9 +5,9 @@ use structure::card::Card;
 
 mod ask;
 mod codes;
-mod fields;
 mod grow;
 mod request;
+mod spelt;
 
 // How many lines agree, and how many do not.
 struct Tally {

@@ -1,6 +1,6 @@
 // Requests on a card, and blocks set between them.
 use crate::codes::codes;
-use crate::fields;
+use crate::spelt;
 use nodes::grow::Answer;
 use stored::number16;
 use structure::card::Card;
@@ -66,20 +66,20 @@ fn read_agrees(
     out: &mut [u8],
 ) -> bool {
     fill(out, 0xa5);
-    let keyless = fields::first(line, 1) == b'O';
+    let keyless = spelt::first(line, 1) == b'O';
     let reply = read::read(
         card,
         arena,
         out,
         keyless,
         codes,
-        fields::number(line, 3),
+        spelt::number(line, 3),
         list,
     );
     let mut answer = [0u8; 8];
-    let n = fields::bytes(line, 7, &mut answer);
+    let n = spelt::bytes(line, 7, &mut answer);
     let mut last = [0u8; 16384];
-    let m = fields::bytes(line, 8, &mut last);
+    let m = spelt::bytes(line, 8, &mut last);
     told(reply, &answer[0..n]) && read_right(out, &last[0..m], 0xa5)
 }
 
@@ -127,10 +127,10 @@ fn write_agrees(
     }
     fill(staging, 0xa5);
     spans::copy(copy, 0, arena, 0, arena.len());
-    let keyless = fields::first(line, 1) == b'O';
+    let keyless = spelt::first(line, 1) == b'O';
     let mut sent = [0u8; 16384];
-    let n = fields::bytes(line, 5, &mut sent);
-    let count = fields::number(line, 3);
+    let n = spelt::bytes(line, 5, &mut sent);
+    let count = spelt::number(line, 3);
     let reply = write::write(
         card,
         arena,
@@ -154,9 +154,9 @@ fn written_right(
     copy: &mut [u8],
 ) -> bool {
     let mut answer = [0u8; 8];
-    let n = fields::bytes(line, 7, &mut answer);
+    let n = spelt::bytes(line, 7, &mut answer);
     let mut last = [0u8; 16384];
-    let m = fields::bytes(line, 8, &mut last);
+    let m = spelt::bytes(line, 8, &mut last);
     if !told(reply, &answer[0..n]) {
         return false;
     }
@@ -178,16 +178,16 @@ pub(crate) fn request(
     copy: &mut [u8],
 ) -> bool {
     let mut bytes = [0u8; 128];
-    let b = fields::bytes(line, 2, &mut bytes);
+    let b = spelt::bytes(line, 2, &mut bytes);
     let mut names = [0u16; 64];
     let n = codes(&bytes[0..b], &mut names);
     let mut list = [0u8; 2048];
-    let m = fields::bytes(line, 4, &mut list);
-    let size = fields::number(line, 6) as usize;
+    let m = spelt::bytes(line, 4, &mut list);
+    let size = spelt::number(line, 6) as usize;
     if room.len() < size {
         return false;
     }
-    if fields::first(line, 0) == b'R' {
+    if spelt::first(line, 0) == b'R' {
         read_agrees(
             card,
             arena,

@@ -1,0 +1,3 @@
+-- What callers cite.
+pub mod DigitLaws
+pub mod Tests

@@ -1,0 +1,4 @@
+-- What callers cite.
+pub mod CodeLaws
+pub mod HexLaws
+pub mod Rows

@@ -1,0 +1,65 @@
+// Codes in hex: one, or several joined.
+use crate::byte;
+use crate::is_grouped;
+use crate::is_hex;
+ghost use mathlib.Core.Path.{_≡_};
+ghost use mathlib.Core.Bool.{true};
+ghost use Prim.Native.Nat.{_+_, _*_, _<_, min};
+ghost use lib.ListN.{length, getD};
+ghost use Rattle.spans.specs.Part.{put};
+ghost use Rattle.digits.specs.Digit.{digits};
+ghost use Rattle.hex.specs.Codes.{hex16, codesField, codesOf};
+
+// A number of 16 bits that was read, or none.
+pub enum Code {
+    Is(u16),
+    Bad,
+}
+
+// The code number i, from 0, of those that hex digits spell.
+fn code_at(s: &[u8], i: usize) -> u16
+    requires { ⌜ (digits 16 (now s) ≡ true) × (i * 4 + 3 < length (now s)) ⌝ }
+    ensures { λ r. ⌜ r ≡ getD (codesOf (now (s .entry))) i 0 ⌝ }
+{
+    let at = i * 4;
+    let high = byte(s[at], s[at + 1]);
+    let low = byte(s[at + 2], s[at + 3]);
+    high as u16 * 256 + low as u16
+}
+
+// The number that s spells, where s is four hex digits.
+pub fn read_hex16(s: &[u8]) -> Code
+    ensures { λ r. ⌜ r ≡ hex16 (now (s .entry)) ⌝ }
+{
+    if s.len() != 4 {
+        return Code::Bad;
+    }
+    if !is_hex(s) {
+        return Code::Bad;
+    }
+    Code::Is(code_at(s, 0))
+}
+
+// Whether s is joined codes: four hex digits for each, or `-` for none.
+pub fn is_codes(s: &[u8]) -> bool
+    ensures { λ r. ⌜ r ≡ codesField (now (s .entry)) ⌝ }
+{
+    is_grouped(s, 4)
+}
+
+// Puts the codes that stand joined in s to the front of `out`, as many as it holds, and answers how many.
+pub fn read_codes(s: &[u8], out: &mut [u16]) -> usize
+    requires { ⌜ codesField (now s) ≡ true ⌝ }
+    ensures { λ r. ⌜ r ≡ min (length (now (out .entry))) (length (codesOf (now (s .entry)))) ⌝ }
+    ensures { λ r. ⌜ now (out .exit) ≡ put (now (out .entry)) 0 r (codesOf (now (s .entry))) ⌝ }
+{
+    let mut i = 0;
+    while i < out.len() {
+        if s.len() / 4 <= i {
+            return i;
+        }
+        out[i] = code_at(s, i);
+        i += 1;
+    }
+    i
+}
