@@ -1,0 +1,4 @@
+pub mod Orders
+pub mod Two
+pub mod Last
+pub mod Runs

@@ -1,0 +1,51 @@
+-- Two terminals at one card: the statement. Every request is one of `serve`, the definition that `read` and `write` promise.
+use Prim.Native.Nat.{ℕ}
+use mathlib.Core.List.{List, [], _∷_}
+use mathlib.Core.Logic.{_⊎_}
+use mathlib.Core.Path.{_≡_}
+use Rattle.types.specs.Code.{numberOf}
+use Rattle.structure.specs.declared.card.Card.{Card}
+use Rattle.system.specs.declared.plan.Reply.{Reply}
+use Rattle.system.specs.Request.{Request}
+use Rattle.system.specs.Serve.{serve}
+use Rattle.terminals.specs.Orders.{Sent, one, two, only, Undisturbed}
+
+-- What the caller of a request is told: the reply and the bytes read. Its output and its staging after the request follow from
+-- these and from what they were (`outputAfter`, `stagingBy`); their lengths are part of the request.
+pub record Answer : Type 0 where
+  pub reply : Reply
+  pub read : List ℕ
+
+abbrev pub answerOf : Card → List ℕ → Request → Answer
+answerOf c a r = record {
+  reply = serve c a r .reply;
+  read = serve c a r .read;
+}
+
+-- the arena that the next request finds; it finds the same card, since no request makes another
+abbrev pub arenaAfter : Card → List ℕ → Request → List ℕ
+arenaAfter c a r = serve c a r .arena
+
+-- at least one of a list
+abbrev pub Any : {X : Type 0} → (X → Type 0) → List X → Type 0
+Any F [] = ⊥
+Any F (x ∷ xs) = F x ⊎ Any F xs
+
+-- the request's codes name the service number k
+abbrev pub Names : ℕ → Request → Type 0
+Names k r = Any (λ code. numberOf code ≡ k) (r .codes)
+
+-- no service number is named by requests of both lists
+abbrev pub NoneShared : List Request → List Request → Type 0
+NoneShared rs qs = (k : ℕ) → Any (Names k) rs → Any (Names k) qs → ⊥
+
+-- Two terminals at the card c. Given
+--   any arena, long enough or not, whatever bytes it holds;
+--   any order of requests, reads and writes, open and in a session, accepted, failing or refused;
+--   such that no service number is named by the codes of both terminals' requests:
+-- each terminal is told what it is told alone, and the arena ends as after one list and then the other, in either order.
+abbrev pub TwoTerminals : Card → Type 0
+TwoTerminals c =
+    (arena : List ℕ) (order : List (Sent Request))
+    → NoneShared (only one order) (only two order)
+    → Undisturbed (answerOf c) (arenaAfter c) arena order
