@@ -1,21 +1,26 @@
 -- What an accepted request comes to; and that only an accepted write changes the arena. Assumes nothing.
-use Prim.Native.Nat.{ℕ, _*_}
+use Prim.Native.Nat.{ℕ, zero, suc, _*_, _<_}
 use native.Mathlib.Omega.{arith}
 use mathlib.Core.Path.{_≡_, refl, sym, ap, _∙_}
 use mathlib.Core.Bool.{Bool, true, false}
-use mathlib.Core.List.{List, []}
+use mathlib.Core.List.{List, [], _∷_}
 use mathlib.Core.Logic.{_⊎_, inl, inr}
-use lib.ListN.{length, take}
+use lib.ListN.{length, getD, take}
 use Rattle.lists.specs.declared.element.BlockListElement.{BlockListElement}
+use Rattle.lists.specs.Element.{endsAfter}
+use Rattle.lists.proofs.Lists.{ends-count}
 use Rattle.structure.specs.declared.card.Card.{Card}
+use Rattle.structure.specs.Card.{nodesOf}
 use Rattle.spans.specs.Part.{put}
 use Rattle.checks.specs.declared.check.Checked.{Checked}
 use Rattle.checks.specs.declared.check.Checked.the-variants.{Passed as AllPassed, Failed as FailedAt}
+use Rattle.checks.specs.declared.row.Row.{Row}
+use Rattle.checks.specs.Row.{rowIn}
 use Rattle.checks.specs.Check.{checkedFrom}
-use Rattle.runs.specs.Runs.{Walked, bad, good}
+use Rattle.checks.proofs.Laws.{AllPass, all-pass, Good, good}
+use Rattle.runs.specs.Runs.{Walked, bad, good as walked}
 use Rattle.runs.specs.Rules.{staged}
-use Rattle.system.specs.declared.plan.Reply.{Reply}
-use Rattle.system.specs.declared.plan.Reply.the-variants.{Refused, Done, ShortData, Failed}
+use Rattle.system.specs.declared.plan.Reply.the-variants.{Done, Failed}
 use Rattle.system.specs.declared.plan.Judged.{Judged}
 use Rattle.system.specs.declared.plan.Judged.the-variants.{Refused as NotFit, ShortData as NoData, Fit}
 use Rattle.system.specs.Request.{Request}
@@ -23,10 +28,8 @@ use Rattle.system.specs.Plan.{Plan, stop, go, planOf, rowsIn, elementsIn, lengt
 use Rattle.system.specs.Serve.{Served, blocksRead, committed, carried, planServed, serve}
 use Rattle.system.proofs.Ready.{Fitting, fits}
 use Rattle.system.proofs.Serves.{passed}
-
--- a request that is refused, or fails, is not done
-undone : {A : Type 0} {x : Reply} → x ≡ Done → (x ≡ Done → ⊥) → A
-undone e f = absurd (f e)
+use Rattle.terminals.specs.Last.{elementAt, codeAt, NamesBlock}
+use Rattle.terminals.proofs.Owned.{Owner, good-owner}
 
 module _ (c : Card) (a : List ℕ) (r : Request) where
   -- an accepted request fits, all its elements passed, and so it is carried out
@@ -57,7 +60,7 @@ module _ (c : Card) (a : List ℕ) (r : Request) where
     where
       by-walked : (x : Walked (List ℕ)) → (committed (16 * c .used) a x .reply ≡ Done) ⊎ (committed (16 * c .used) a x .arena ≡ a)
       by-walked (bad i f) = inr refl
-      by-walked (good s) = inl refl
+      by-walked (walked s) = inl refl
 
       by-write : (w : Bool) (es : List BlockListElement) →
           let x = carried w (rowsIn c r) (16 * c .used) (r .sent) a es in (x .reply ≡ Done) ⊎ (x .arena ≡ a)
@@ -68,7 +71,7 @@ module _ (c : Card) (a : List ℕ) (r : Request) where
       by-plan (stop x) = inr refl
       by-plan (go es) = by-write (r .write) es
 
-  -- a read leaves it, and all but an accepted one reads nothing
+  -- a read leaves it
   pub read-leaves : r .write ≡ false → serve c a r .arena ≡ a
   unfolding serve carried
   read-leaves w = by-plan (planOf c (length a) r)
@@ -85,14 +88,42 @@ module _ (c : Card) (a : List ℕ) (r : Request) where
 
     -- an accepted write puts the staged stores, after all runs, into the arena
     pub stores-put : r .write ≡ true → (s : List ℕ) ×
-        (staged (rowsIn c r) (r .sent) (elementsIn r) (take (16 * c .used) a) ≡ good s) × (serve c a r .arena ≡ put a 0 (16 * c .used) s)
+        (staged (rowsIn c r) (r .sent) (elementsIn r) (take (16 * c .used) a) ≡ walked s) × (serve c a r .arena ≡ put a 0 (16 * c .used) s)
     unfolding carried committed
     stores-put w = by-walked (staged (rowsIn c r) (r .sent) (elementsIn r) (take (16 * c .used) a)) refl (accepted e .carries ∙ rw w)
       where
         by-walked : (x : Walked (List ℕ)) → staged (rowsIn c r) (r .sent) (elementsIn r) (take (16 * c .used) a) ≡ x →
             serve c a r ≡ committed (16 * c .used) a x → (s : List ℕ) ×
-            (staged (rowsIn c r) (r .sent) (elementsIn r) (take (16 * c .used) a) ≡ good s) × (serve c a r .arena ≡ put a 0 (16 * c .used) s)
+            (staged (rowsIn c r) (r .sent) (elementsIn r) (take (16 * c .used) a) ≡ walked s) × (serve c a r .arena ≡ put a 0 (16 * c .used) s)
         by-walked (bad i f) q k =
             let z : Failed i f ≡ Done = sym (ap (λ (x : Served). x .reply) k) ∙ e in
             absurd (let n : _≡_ {A = ℕ} 0 1 = cc in (omega arith))
-        by-walked (good s) q k = (s, q, ap (λ (x : Served). x .arena) k)
+        by-walked (walked s) q k = (s, q, ap (λ (x : Served). x .arena) k)
+
+-- what is read where there is no element
+abbrev pub nothing : BlockListElement
+nothing = record { number = 0; index = 0; mode = 0 }
+
+-- each of the elements that passed is good
+good-at : (rows : List Row) (write keyless : Bool) (es : List BlockListElement) (i : ℕ) → AllPass rows write keyless es → i < length es →
+    Good rows write (getD es i nothing)
+good-at rows write keyless [] i p h = absurd (omega arith)
+good-at rows write keyless (e ∷ es) zero p h = good rows write keyless e (p .0)
+good-at rows write keyless (e ∷ es) (suc i) p h = good-at rows write keyless es i (p .1) (omega arith)
+
+module _ {c : Card} {a : List ℕ} {r : Request} (k : Accepted c a r) where
+  -- an accepted request has as many elements as it says
+  pub counted : length (elementsIn r) ≡ r .count
+  unfolding endsAfter
+  counted = ends-count (r .list) (r .count) 0 (k .fit .ends)
+
+  -- they passed
+  pub each-passed : AllPass (rowsIn c r) (r .write) (r .keyless) (elementsIn r)
+  each-passed = all-pass (rowsIn c r) (r .write) (r .keyless) 0 (elementsIn r) (k .checked)
+
+  -- so one that names a block names a block of a service
+  pub named-good : {n b i : ℕ} → NamesBlock n b r i → Good (rowsIn c r) (r .write) (elementAt r i)
+  named-good m = good-at (rowsIn c r) (r .write) (r .keyless) (elementsIn r) _ each-passed (m .listed)
+
+  pub named-owner : {n b i : ℕ} → NamesBlock n b r i → Owner (nodesOf c) (codeAt r i) (rowIn (rowsIn c r) (elementAt r i))
+  named-owner m = good-owner (nodesOf c) (r .codes) (named-good m)

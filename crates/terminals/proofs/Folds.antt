@@ -96,8 +96,7 @@ module _ {E A : Type 0} (P : ℕ → E → Type 0) (change : ℕ → E → A →
           let a = scan-tracks i (x ∷ xs) s (h .0) (q .0) f (h .1) in
           let m = then-good (close i x n (h .0)) (λ v. walk one close (i + n) rs v) (h .2) in
           let b = k .close-is i x n (h .0) (m .0) (p .0) (a .0) (m .1) in
-          let w = walk-tracks (i + n) rs (m .0) t (q .1) (b .0) (m .2) in
-          (
+          let w = walk-tracks (i + n) rs (m .0) t (q .1) (b .0) (m .2) in (
             w .0,
             w .1 ∙ ap (folded change (i + n) (flat rs)) (b .1 ∙ a .1) ∙ sym (folded-append i (x ∷ xs) (flat rs) (value s)),
           )

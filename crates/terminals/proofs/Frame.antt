@@ -2,10 +2,10 @@
 use Prim.Native.Nat.{ℕ, _+_, _*_, _≤_, _<_}
 use mathlib.Core.Path.{_≡_, refl}
 use mathlib.Core.Bool.{Bool, true, false}
-use mathlib.Core.List.{List, [], _∷_, _++_}
+use mathlib.Core.List.{List, [], _∷_}
 use lib.ListN.{length, take}
 use Rattle.lists.specs.declared.element.BlockListElement.{BlockListElement}
-use Rattle.spans.specs.Part.{part, put}
+use Rattle.spans.specs.Part.{part}
 use Rattle.blocks.specs.Outcome.{Outcome, passed, failed}
 use Rattle.structure.specs.declared.card.Card.{Card}
 use Rattle.checks.specs.declared.row.Row.{Row}
@@ -16,7 +16,7 @@ use Rattle.runs.specs.Rules.{onStore, atIndex, elementOn, endOn, staged}
 use Rattle.system.specs.declared.plan.Reply.the-variants.{Failed}
 use Rattle.system.specs.Request.{Request}
 use Rattle.system.specs.Plan.{Plan, stop, go, planOf, rowsIn}
-use Rattle.system.specs.Serve.{Served, storeIn, blocksRead, committed, carried, planServed, serve}
+use Rattle.system.specs.Serve.{Served, blocksRead, committed, carried, planServed, serve}
 use Rattle.terminals.proofs.Same.{Same, same-refl, same-trans, same-take, part-same, put-same, put-spare, front-same, front-spare}
 use Rattle.terminals.proofs.Walks.{walk-is}
 

@@ -1,6 +1,6 @@
 -- Two terminals that see two views of the state: each view is served by itself, and left alone by the other terminal. Assumes nothing.
 use mathlib.Core.List.{List, [], _∷_}
-use mathlib.Core.Path.{_≡_, refl, sym, ap, ap₂, _∙_}
+use mathlib.Core.Path.{_≡_, refl, ap₂}
 use Rattle.terminals.specs.Orders.{Terminal, one, two, Sent, by, only, all, after, answers, told, Undisturbed}
 
 -- every one of a list

@@ -1,4 +1,5 @@
--- The theorems: Two (two terminals), Runs (the same of the program's calls), Last (the tower). Example computes both. The others are what they cite.
+-- The theorems: Two (two terminals), Runs (the same of the program's own calls), Last (the tower). Example computes orders of both
+-- kinds. The others are what these cite.
 mod Generic
 mod Same
 mod Walks
@@ -6,8 +7,11 @@ mod Frame
 mod Owned
 mod Folds
 mod Accepted
+mod Stored
 mod Written
+mod Given
 pub mod Orders
 pub mod Two
 pub mod Runs
 pub mod Last
+mod Example

@@ -14,9 +14,9 @@ use Rattle.nodes.specs.declared.node.Entry.the-variants.{Area, Service}
 use Rattle.nodes.specs.declared.node.Node.{Node}
 use Rattle.nodes.specs.declared.find.Found.{Found}
 use Rattle.nodes.specs.declared.find.Found.the-variants.{At, Nothing}
-use Rattle.nodes.specs.Node.{rootNode, isService, startOf, blocksOf}
+use Rattle.nodes.specs.Node.{isService, startOf, blocksOf}
 use Rattle.nodes.specs.Find.{serviceOf}
-use Rattle.structure.proofs.Laid.{nodeAt, Laid, Served, served, Shared, shared, apart}
+use Rattle.structure.proofs.Laid.{nodeAt, Laid, served, shared, apart}
 use Rattle.checks.specs.declared.row.Row.{Row}
 use Rattle.checks.specs.Row.{rowBy, rowAt, rowOf, rowsOf, rowAtIndex, rowIn}
 use Rattle.checks.proofs.Laws.{Good}
@@ -111,8 +111,7 @@ module _ {ns : List Node} {used : ℕ} (d : Laid ns used) {a b : ℕ} {w v : Row
   -- codes of one number have one store, and are of one kind
   pub one-store : numberOf a ≡ numberOf b → (w .start ≡ v .start) × (w .blocks ≡ v .blocks) × (codeKindOf a ≡ codeKindOf b)
   one-store e =
-      let x = shared d (o .node) (p .node) (o .service) (p .service) (ap numberOf (o .coded) ∙ e ∙ sym (ap numberOf (p .coded))) in
-      (
+      let x = shared d (o .node) (p .node) (o .service) (p .service) (ap numberOf (o .coded) ∙ e ∙ sym (ap numberOf (p .coded))) in (
         o .start ∙ x .start ∙ sym (p .start),
         o .blocks ∙ x .blocks ∙ sym (p .blocks),
         sym (ap codeKindOf (o .coded)) ∙ x .kind ∙ ap codeKindOf (p .coded),

@@ -4,23 +4,20 @@ use Prim.Native.Nat.{ℕ, _*_}
 use native.Mathlib.Omega.{arith}
 use mathlib.Core.Path.{_≡_, refl, sym, ap, ap₂, _∙_}
 use mathlib.Core.List.{List, [], _∷_, _++_, map}
-use mathlib.Core.Logic.{_⊎_, inl, inr}
-use lib.ListN.{length}
-use Rattle.spans.specs.Part.{put}
+use mathlib.Core.Logic.{inl, inr}
 use Rattle.structure.specs.declared.card.Card.{Card}
 use Rattle.structure.specs.Built.{Built}
-use Rattle.system.specs.Request.{Request}
-use Rattle.system.specs.Serve.{serve, stagingBy}
+use Rattle.system.specs.Serve.{stagingBy}
 use Rattle.terminals.specs.Orders.{Terminal, one, two, Sent, by, only, all, after, answers, told, Undisturbed}
-use Rattle.terminals.specs.Two.{Answer, answerOf, arenaAfter, Any, Names, NoneShared}
-use Rattle.terminals.specs.Runs.{Call, reads, writes, requestOf, Left, Did, Turn, Ran, callsOf, requestsOf, Apart, TwoRuns}
+use Rattle.terminals.specs.Two.{Answer, outputOf, stagingOf, Any, Names, NoneShared}
+use Rattle.terminals.specs.Runs.{Call, reads, writes, requestOf, Left, Did, Turn, Ran, callsOf, requestsOf, TwoRuns}
 use Rattle.terminals.proofs.Accepted.{read-leaves}
 use Rattle.terminals.proofs.Two.{leftOf, arenaOf, two-askers}
 
 -- what a call leaves, by its answer
 abbrev leaves : Card → Call → Answer → Left
-leaves c (reads keyless codes count list out) x = record { reply = x .reply; buffer = put out 0 (length (x .read)) (x .read) }
-leaves c (writes keyless codes count list sent staging) x = record { reply = x .reply; buffer = stagingBy (x .reply) (16 * c .used) staging }
+leaves c (reads keyless codes count list out) x = record { reply = x .reply; buffer = outputOf x out }
+leaves c (writes keyless codes count list sent staging) x = record { reply = x .reply; buffer = stagingOf c x staging }
 
 abbrev leftsOf : List Turn → List Left
 leftsOf ts = map (λ (t : Turn). t .left) ts
@@ -33,9 +30,9 @@ turns-same (t ∷ ts) [] p q = absurd (let z : _≡_ {A = ℕ} 0 1 = cc in (omeg
 turns-same (t ∷ ts) (u ∷ us) p q =
     let a : t .call ≡ u .call = cc in
     let b : t .left ≡ u .left = cc in
-    let as : callsOf ts ≡ callsOf us = cc in
-    let bs : leftsOf ts ≡ leftsOf us = cc in
-    λ i. record { call = a i; left = b i } ∷ turns-same ts us as bs i
+    let cs : callsOf ts ≡ callsOf us = cc in
+    let ls : leftsOf ts ≡ leftsOf us = cc in
+    λ i. record { call = a i; left = b i } ∷ turns-same ts us cs ls i
 
 -- each of an order, made into something else
 unfoldable marked : {X Y : Type 0} → (X → Y) → List (Sent X) → List (Sent Y)
@@ -57,10 +54,10 @@ all-marked f [] = refl
 all-marked {Y = Y} f (by t x ∷ zs) = ap (λ (l : List Y). f x ∷ l) (all-marked f zs)
 
 -- one of a list that was made into something else
-any-map : {X Y : Type 0} (f : X → Y) (F : Y → Type 0) (xs : List X) → Any (λ x. F (f x)) xs → Any F (map f xs)
-any-map f F [] h = h
-any-map f F (x ∷ xs) (inl h) = inl h
-any-map f F (x ∷ xs) (inr h) = inr (any-map f F xs h)
+any-map : {X Y Z : Type 0} (f : X → Y) (g : Y → Z) (F : Z → Type 0) (xs : List X) → Any (λ y. F (g y)) (map f xs) → Any F (map (λ x. g (f x)) xs)
+any-map f g F [] h = h
+any-map f g F (x ∷ xs) (inl h) = inl h
+any-map f g F (x ∷ xs) (inr h) = inr (any-map f g F xs h)
 
 after-append : {S R A : Type 0} (answer : S → R → A) (next : S → R → S) (s : S) (rs qs : List R) →
     after answer next s (rs ++ qs) ≡ after answer next (after answer next s rs) qs
@@ -82,11 +79,10 @@ module _ (c : Card) where
 
   -- a call that does what its contract promises does what the definition says
   did-is : (a : List ℕ) (k : Call) (x : Left) (b : List ℕ) → Did c a k x b → (x ≡ left a k) × (b ≡ next a k)
-  did-is a (reads keyless codes count list out) x b d =
-      (
-        λ i. record { reply = d .0 i; buffer = d .1 i },
-        d .2 ∙ sym (read-leaves c a (requestOf (reads keyless codes count list out)) refl),
-      )
+  did-is a (reads keyless codes count list out) x b d = (
+    λ i. record { reply = d .0 i; buffer = d .1 i },
+    d .2 ∙ sym (read-leaves c a (requestOf (reads keyless codes count list out)) refl),
+  )
   did-is a (writes keyless codes count list sent staging) x b d =
       let e = d .1 ∙ ap (λ y. stagingBy y (16 * c .used) staging) (d .0) in (λ i. record { reply = d .0 i; buffer = e i }, d .2)
 
@@ -97,8 +93,8 @@ module _ (c : Card) where
   ran-is [] a e r = (refl, r)
   ran-is (t ∷ ts) a e (b, d, r) =
       let k = did-is a (t .call) (t .left) b d in
-      let w = ran-is ts b e r in
-      rw (k .1) at (ap₂ (λ (x : Left) (l : List Left). x ∷ l) (k .0) (w .0), w .1)
+      let w = rw (k .1) at (ran-is ts b e r) in
+      (ap₂ (λ (x : Left) (l : List Left). x ∷ l) (k .0) (w .0), w .1)
 
   -- and a run of both terminals' turns
   ran-told : (zs : List (Sent Turn)) (a e : List ℕ) → Ran c a (all zs) e →
@@ -107,4 +103,66 @@ module _ (c : Card) where
   ran-told [] a e r = refl
   ran-told (by w t ∷ zs) a e (b, d, r) =
       let k = did-is a (t .call) (t .left) b d in
-      rw (k .1) at (ap₂ (λ (x : Left) (l : List (Sent Left)). by w x ∷ l) (k .0) (ran-told zs b e r))
+      ap₂ (λ (x : Left) (l : List (Sent Left)). by w x ∷ l) (k .0) (rw (k .1) at (ran-told zs b e r))
+
+  -- every list of calls has a run, so the laws on runs speak of something
+  pub run-of : (ks : List Call) (a : List ℕ) → (ts : List Turn) × (e : List ℕ) × Ran c a ts e × (callsOf ts ≡ ks)
+  run-of [] a = ([], a, refl, refl)
+  run-of (k ∷ ks) a =
+      let w = run-of ks (next a k) in (
+        record { call = k; left = left a k } ∷ w .0,
+        w .1,
+        (next a k, does a k, w .2),
+        ap (λ (l : List Call). k ∷ l) (w .3),
+      )
+    where
+      does : (a : List ℕ) (k : Call) → Did c a k (left a k) (next a k)
+      does a (reads keyless codes count list out) = (refl, refl, read-leaves c a (requestOf (reads keyless codes count list out)) refl)
+      does a (writes keyless codes count list sent staging) = (refl, refl, refl)
+
+-- Two terminals' runs.
+module _ {c : Card} (b : Built c) (a : List ℕ) (zs : List (Sent Turn)) (e : List ℕ) (ran : Ran c a (all zs) e)
+    (none : NoneShared (requestsOf (only one zs)) (requestsOf (only two zs))) where
+  -- the order of their calls
+  abbrev calls : List (Sent Call)
+  calls = marked (λ (t : Turn). t .call) zs
+
+  -- a number that a call names is one that a turn names
+  named : (t : Terminal) (k : ℕ) → Any (λ x. Names k (requestOf x)) (only t calls) → Any (Names k) (requestsOf (only t zs))
+  named t k h =
+      any-map (λ (t : Turn). t .call) requestOf (Names k) (only t zs) (rw (only-marked (λ (t : Turn). t .call) t zs) at h)
+
+  -- is undisturbed
+  apart : Undisturbed (left c) (next c) a calls
+  apart = two-askers c requestOf (leaves c) b a calls (λ k p q. none k (named one k p) (named two k q))
+
+  told-each : (t : Terminal) → only t (told (left c) (next c) a calls) ≡ answers (left c) (next c) a (only t calls)
+  told-each one = apart .told-one
+  told-each two = apart .told-two
+
+  -- one terminal's calls run alone
+  alone : (t : Terminal) (ts : List Turn) (f : List ℕ) → Ran c a ts f → callsOf ts ≡ callsOf (only t zs) → ts ≡ only t zs
+  alone t ts f r q =
+      let k : callsOf ts ≡ only t calls = q ∙ sym (only-marked (λ (t : Turn). t .call) t zs) in
+      turns-same ts (only t zs) q
+      (ran-is c ts a f r .0 ∙ ap (answers (left c) (next c) a) k ∙ sym (told-each t) ∙ ap (only t) (sym (ran-told c zs a e ran))
+      ∙ only-marked (λ (t : Turn). t .left) t zs)
+
+  -- the calls of one terminal, and then those of the other
+  in-turn : (t u : Terminal) → after (left c) (next c) a (all calls) ≡ after (left c) (next c) (after (left c) (next c) a (only t calls)) (only u calls) →
+      (ts : List Turn) (f : List ℕ) → Ran c a ts f → callsOf ts ≡ callsOf (only t zs ++ only u zs) → f ≡ e
+  in-turn t u h ts f r q =
+      let k : callsOf ts ≡ only t calls ++ only u calls =
+      q ∙ map-append (λ (t : Turn). t .call) (only t zs) (only u zs)
+      ∙ ap₂ (λ (l m : List Call). l ++ m) (sym (only-marked (λ (t : Turn). t .call) t zs)) (sym (only-marked (λ (t : Turn). t .call) u zs)) in
+      ran-is c ts a f r .1 ∙ ap (after (left c) (next c) a) k ∙ after-append (left c) (next c) a (only t calls) (only u calls) ∙ sym h
+      ∙ ap (after (left c) (next c) a) (all-marked (λ (t : Turn). t .call) zs) ∙ sym (ran-is c (all zs) a e ran .1)
+
+-- on every finished card runs of the program are apart
+pub two-runs : {c : Card} → Built c → TwoRuns c
+two-runs b a zs e r none = record {
+  one-alone = alone b a zs e r none one;
+  two-alone = alone b a zs e r none two;
+  one-first = in-turn b a zs e r none one two (apart b a zs e r none .one-first);
+  two-first = in-turn b a zs e r none two one (apart b a zs e r none .two-first);
+}

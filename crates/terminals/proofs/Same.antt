@@ -6,10 +6,10 @@ use native.Mathlib.Nat.{add-zero, zero-add}
 use mathlib.Core.Path.{_≡_, refl, sym, _∙_, subst}
 use mathlib.Core.List.{List, [], _∷_}
 use mathlib.Core.Logic.{inl, inr}
-use lib.ListN.{length, getD, set, take, drop, length-set, length-take, length-drop, List·getD-eq-default}
+use lib.ListN.{length, getD, set, take, length-set, length-take, length-drop, List·getD-eq-default}
 use lib.Seq.{sets, getD-set-same, getD-set-other, getD-take, ext-getD}
 use Rattle.spans.specs.Part.{part, put}
-use Rattle.spans.proofs.Part.{getD-part, length-put, getD-put-apart, put-part, put-take}
+use Rattle.spans.proofs.Part.{getD-part, length-put, getD-put-apart, put-part}
 
 -- as long, and alike at the places of P
 pub record Same (P : ℕ → Type 0) (s u : List ℕ) : Type 0 where

@@ -1,9 +1,9 @@
 -- Two terminals at one card. Read specs/Two.antt for the statement: `TwoTerminals c`. Its last law says that it holds of every card
 -- that accepted additions and limits produce.
-use Prim.Native.Nat.{ℕ, _≤_, _<_}
-use mathlib.Core.Path.{_≡_, refl, sym, ap, _∙_, subst}
+use Prim.Native.Nat.{ℕ, _*_}
+use mathlib.Core.Path.{_≡_, refl, ap, subst}
 use mathlib.Core.List.{List, [], _∷_}
-use mathlib.Core.Logic.{_⊎_, inl, inr}
+use mathlib.Core.Logic.{inl, inr}
 use Rattle.structure.specs.declared.card.Card.{Card}
 use Rattle.structure.specs.Card.{nodesOf}
 use Rattle.structure.specs.Built.{Built}
@@ -11,8 +11,9 @@ use Rattle.structure.proofs.Laid.{Laid, laid}
 use Rattle.checks.specs.Row.{rowAtIndex}
 use Rattle.system.specs.Request.{Request}
 use Rattle.system.specs.Plan.{rowsIn}
-use Rattle.terminals.specs.Orders.{Terminal, one, two, Sent, by, only, Undisturbed}
-use Rattle.terminals.specs.Two.{Any, Names, NoneShared, Answer, answerOf, arenaAfter, TwoTerminals}
+use Rattle.system.specs.Serve.{serve, outputAfter, stagingBy}
+use Rattle.terminals.specs.Orders.{Terminal, one, two, Sent, only, Undisturbed}
+use Rattle.terminals.specs.Two.{Answer, answerOf, outputOf, stagingOf, arenaAfter, Any, Names, TwoTerminals}
 use Rattle.terminals.proofs.Generic.{All, other, Views, undisturbed}
 use Rattle.terminals.proofs.Same.{Same, same-refl, same-sym, same-trans, same-whole}
 use Rattle.terminals.proofs.Frame.{LiesIn, serve-keeps, serve-spares}
@@ -98,3 +99,12 @@ module _ (c : Card) {K L : Type 0} (ask : K → Request) (leave : K → Answer �
 -- on every finished card no terminal disturbs another with which it shares no service number
 pub two-terminals : {c : Card} → Built c → TwoTerminals c
 two-terminals {c} b = two-askers c (λ r. r) (λ r x. x) b
+
+module _ (c : Card) (a : List ℕ) (r : Request) where
+  -- what `read` promises of its output follows from the answer
+  pub output-follows : (out : List ℕ) → outputAfter out (serve c a r) ≡ outputOf (answerOf c a r) out
+  output-follows out = refl
+
+  -- so does what `write` promises of its staging
+  pub staging-follows : (staging : List ℕ) → stagingBy (serve c a r .reply) (16 * c .used) staging ≡ stagingOf c (answerOf c a r) staging
+  staging-follows staging = refl

@@ -2,7 +2,7 @@
 use Prim.Native.Nat.{ℕ, _+_}
 use mathlib.Core.List.{List, [], _∷_}
 use lib.ListN.{length}
-use Rattle.runs.specs.Runs.{Walked, bad, good, then, scan, walk}
+use Rattle.runs.specs.Runs.{Walked, good, then, scan, walk}
 
 module _ {E S : Type 0} (one : ℕ → E → S → Walked S) (close : ℕ → E → ℕ → S → Walked S) (Q : (S → Walked S) → Type 0) where
   pub record Steps : Type 0 where

@@ -1,209 +1,108 @@
--- What an accepted write leaves of a block of a random store: the bytes of the last element that names it.
-use Prim.Native.Nat.{ℕ, suc, _+_, _*_, _≤_, _<_}
+-- What an accepted write leaves of a block of a random store: the bytes that its last element for the block brings.
+use Prim.Native.Nat.{ℕ, _+_, _*_, _≤_, _<_}
 use native.Mathlib.Omega.{arith}
-use native.Mathlib.Decide.{ℕ-discrete, decLt}
 use native.Mathlib.Nat.{zero-add}
-use mathlib.Core.Path.{_≡_, refl, sym, ap, _∙_}
-use mathlib.Core.Bool.{Bool, true, false, _&&_, cond, false≢true, and-eq-true-iff}
+use mathlib.Core.Path.{_≡_, refl, _∙_}
+use mathlib.Core.Bool.{Bool, true, false, and-eq-true-iff}
 use mathlib.Core.List.{List, [], _∷_}
-use mathlib.Core.Logic.{_⊎_, inl, inr, ⊎-elim}
 use lib.Dec.{eqb}
-use lib.ListN.{length, getD, take, length-take}
-use lib.Seq.{take-all, length-take-le}
-use borrow.Author.Tests.{eq-eqb, ne-eqb, eqb-true}
-use Rattle.types.specs.declared.code.ServiceKind.the-variants.{Random}
-use Rattle.types.specs.declared.code.ServiceAttribute.{ServiceAttribute}
-use Rattle.types.specs.declared.code.ServiceAttribute.the-variants.{RandomReadWrite, RandomReadOnly, CyclicReadWrite, CyclicReadOnly, PurseDirect, PurseCashback, PurseDecrement, PurseReadOnly}
-use Rattle.types.specs.declared.code.Decoded.{Decoded}
-use Rattle.types.specs.declared.code.Decoded.the-variants.{Defined}
-use Rattle.types.specs.declared.code.DecodedKind.the-variants.{Defined as OfKind}
-use Rattle.types.specs.Code.{numberOf, attributeOf, codeKindOf, kindOf, decodedKindOf, allowsWrite}
+use lib.ListN.{length, take}
+use lib.Seq.{length-take-le}
+use borrow.Author.Tests.{eq-eqb, eqb-true}
+use Rattle.types.specs.Code.{numberOf}
 use Rattle.lists.specs.declared.element.BlockListElement.{BlockListElement}
-use Rattle.spans.specs.Part.{part, put}
-use Rattle.spans.proofs.Part.{length-part, length-put, part-put, part-put-apart, part-part, put-part}
-use Rattle.blocks.specs.Outcome.{Outcome, passed, failed}
-use Rattle.nodes.specs.declared.node.Node.{Node}
-use Rattle.structure.proofs.Laid.{Laid}
+use Rattle.spans.specs.Part.{part}
+use Rattle.structure.specs.declared.card.Card.{Card}
+use Rattle.structure.specs.Card.{nodesOf}
+use Rattle.structure.specs.Built.{Built}
+use Rattle.structure.proofs.Laid.{laid}
 use Rattle.checks.specs.declared.row.Row.{Row}
-use Rattle.checks.specs.Row.{rowsOf, rowIn, numberIn}
-use Rattle.checks.proofs.Laws.{Good}
-use Rattle.runs.specs.Runs.{Walked, bad, good, runsOf}
-use Rattle.runs.specs.Lens.{back, within}
-use Rattle.runs.specs.Rules.{elementBy, endBy, onStore, atIndex, elementOn, endOn, staged}
-use Rattle.terminals.proofs.Owned.{Owner, good-owner, one-store, two-stores}
-use Rattle.terminals.proofs.Folds.{failure, AllFrom, folded, flat-runs, walk-tracks, replaced}
+use Rattle.checks.specs.Row.{rowIn}
+use Rattle.checks.proofs.Laws.{AllPass, good}
+use Rattle.system.specs.declared.plan.Reply.the-variants.{Done}
+use Rattle.system.specs.Request.{Request}
+use Rattle.system.specs.Plan.{rowsIn, elementsIn}
+use Rattle.system.specs.Serve.{serve}
+use Rattle.system.proofs.Ready.{rows-within}
+use Rattle.terminals.specs.Two.{arenaAfter}
+use Rattle.terminals.specs.Last.{elementAt, codeAt, LastBrings}
+use Rattle.terminals.proofs.Owned.{Owner}
+use Rattle.terminals.proofs.Folds.{AllFrom, folded-last}
+use Rattle.terminals.proofs.Accepted.{Accepted, accepted, nothing, counted, each-passed, named-good, named-owner, stores-put}
+use Rattle.terminals.proofs.Stored.{part-of-put, hits, dataAt, Checks, block-staged}
 
--- a part of what was put
-pub part-of-put : (s : List ℕ) (at n : ℕ) (t : List ℕ) (from m : ℕ) → at + n ≤ length s → length t ≡ n → from + m ≤ n →
-    part (put s at n t) (at + from) m ≡ part t from m
-part-of-put s at n t from m h l k =
-    sym (part-part (put s at n t) at n from m k)
-    ∙ ap (λ (u : List ℕ). part u from m) (part-put s at n t h (omega (arith, l)) ∙ take-all n t (omega (arith, l)))
+-- a test that is not true is false
+ne-true : (t : Bool) → (t ≡ true → ⊥) → t ≡ false
+ne-true true h = absurd (h refl)
+ne-true false h = refl
 
--- a block of a store, once a block of that store was put: that one, or as it was
-module _ (s : List ℕ) (at n x b : ℕ) (t : List ℕ) (h : at + n ≤ length s) (hx : 16 * x + 16 ≤ n) (hb : 16 * b + 16 ≤ n) (l : length t ≡ 16) where
-  -- the store that is put
-  abbrev store : List ℕ
-  store = put (part s at n) (16 * x) 16 t
+-- elements that passed, whose data are there
+checks-from : (rows : List Row) (d : List ℕ) (keyless : Bool) (i : ℕ) (es : List BlockListElement) → AllPass rows true keyless es →
+    16 * (i + length es) ≤ length d → AllFrom (Checks rows d) i es
+checks-from rows d keyless i [] p h = tt
+checks-from rows d keyless i (e ∷ es) p h =
+    (record { passes = good rows true keyless e (p .0); brings = omega arith }, checks-from rows d keyless (i + 1) es (p .1) (omega arith))
 
-  long : length store ≡ n
-  long = length-put (part s at n) (16 * x) 16 t ∙ length-part s at n h
+module _ {c : Card} (b : Built c) {n k : ℕ} {d : List ℕ} (a : List ℕ) (w : Request) (t : w .write ≡ true) (e : serve c a w .reply ≡ Done)
+    (m : LastBrings n k d w) where
+  it : Accepted c a w
+  it = accepted c a w e
 
-  pub block-put : part (put s at n store) (at + 16 * b) 16 ≡ cond (eqb x b) t (part s (at + 16 * b) 16)
-  block-put =
-      part-of-put s at n store (16 * b) 16 h long hb
-      ∙ elim (ℕ-discrete x b) [
-        | yes e ↦ rw (eq-eqb x b e, ← e) (part-put (part s at n) (16 * x) 16 t (rw (length-part s at n h) hx) (omega (arith, l)) ∙ take-all 16 t (omega (arith, l)))
-        | no e ↦
-            rw (ne-eqb x b e)
-            (part-put-apart (part s at n) (16 * x) 16 t (16 * b) 16 (sides e) ∙ part-part s at n (16 * b) 16 hb)
-      ]
-    where
-      sides : (x ≡ b → ⊥) → (16 * b + 16 ≤ 16 * x) ⊎ (16 * x + 16 ≤ 16 * b)
-      sides e = elim (decLt x b) [ | yes k ↦ inr (omega arith) | no k ↦ inl (omega arith) ]
+  -- the row that the last element names
+  abbrev pub row : Row
+  row = rowIn (rowsIn c w) (elementAt w (m .place))
 
--- of the random kind only one attribute may be written
-random-writes : (a : ServiceAttribute) → OfKind (kindOf a) ≡ OfKind Random → allowsWrite a ≡ true → Defined a ≡ Defined RandomReadWrite
-random-writes RandomReadWrite k w = refl
-random-writes RandomReadOnly k w = absurd (false≢true w)
-random-writes CyclicReadWrite k w = absurd (let z : _≡_ {A = ℕ} 0 1 = cc in (omega arith))
-random-writes CyclicReadOnly k w = absurd (false≢true w)
-random-writes PurseDirect k w = absurd (let z : _≡_ {A = ℕ} 0 1 = cc in (omega arith))
-random-writes PurseCashback k w = absurd (let z : _≡_ {A = ℕ} 0 1 = cc in (omega arith))
-random-writes PurseDecrement k w = absurd (let z : _≡_ {A = ℕ} 0 1 = cc in (omega arith))
-random-writes PurseReadOnly k w = absurd (false≢true w)
+  pub row-owner : Owner (nodesOf c) (codeAt w (m .place)) row
+  row-owner = named-owner it (m .names)
 
--- a step on a row's store that passes: what was put
-step-put : (i : ℕ) (w : Row) (rule : List ℕ → Outcome) (s t : List ℕ) → atIndex i (onStore w rule s) ≡ good t →
-    (u : List ℕ) × (rule (part s (16 * w .start) (16 * w .blocks)) ≡ passed u) × (t ≡ put s (16 * w .start) (16 * w .blocks) u)
-unfolding onStore within back
-step-put i w rule s t e = by-outcome (rule (part s (16 * w .start) (16 * w .blocks))) refl e
-  where
-    by-outcome : (o : Outcome) → rule (part s (16 * w .start) (16 * w .blocks)) ≡ o →
-        atIndex i (back s (16 * w .start) (16 * w .blocks) o) ≡ good t →
-        (u : List ℕ) × (rule (part s (16 * w .start) (16 * w .blocks)) ≡ passed u) × (t ≡ put s (16 * w .start) (16 * w .blocks) u)
-    by-outcome (failed f) q k = failure k
-    by-outcome (passed u) q k = let z : put s (16 * w .start) (16 * w .blocks) u ≡ t = cc in (u, q, sym z)
+  -- its store lies among the blocks in use, and the block in the store
+  row-fits : 16 * row .start + 16 * row .blocks ≤ 16 * c .used
+  row-fits = let h = rows-within (laid b) (w .codes) (elementAt w (m .place) .index) in omega arith
 
--- an outcome that passes has one result
-one-result : {o : Outcome} {s t : List ℕ} → o ≡ passed s → o ≡ passed t → t ≡ s
-one-result e f = let k : passed _ ≡ passed _ = sym f ∙ e in cc
+  pub block-fits : k < row .blocks
+  block-fits = rw (m .names .block) at (named-good it (m .names) .number)
 
-module _ (i : ℕ) (w : Row) (a : w .attribute ≡ Defined RandomReadWrite) (s t : List ℕ) where
-  -- an element on a random store puts its block
-  random-element : (number mode : ℕ) (block : List ℕ) →
-      atIndex i (onStore w (elementBy (w .attribute) (w .limit) number mode block) s) ≡ good t →
-      t ≡ put s (16 * w .start) (16 * w .blocks) (put (part s (16 * w .start) (16 * w .blocks)) (16 * number) 16 block)
-  unfolding elementBy
-  random-element number mode block e =
-      let q = step-put i w (elementBy (w .attribute) (w .limit) number mode block) s t e in
-      q .2 ∙ ap (put s (16 * w .start) (16 * w .blocks)) (one-result (puts (w .attribute) a) (q .1))
-    where
-      puts : (d : Decoded) → d ≡ Defined RandomReadWrite →
-          elementBy d (w .limit) number mode block (part s (16 * w .start) (16 * w .blocks))
-          ≡ passed (put (part s (16 * w .start) (16 * w .blocks)) (16 * number) 16 block)
-      puts d k = rw k
+  -- whether an element names the block
+  abbrev hit : BlockListElement → Bool
+  hit x = hits (w .codes) (numberOf (codeAt w (m .place))) k x
 
-  -- the end of a run changes nothing of it
-  random-end : (run : List ℕ) → atIndex i (onStore w (endBy (w .attribute) run) s) ≡ good t → t ≡ s
-  unfolding endBy
-  random-end run e =
-      let q = step-put i w (endBy (w .attribute) run) s t e in
-      q .2 ∙ ap (put s (16 * w .start) (16 * w .blocks)) (one-result (leaves (w .attribute) a) (q .1))
-      ∙ put-part s (16 * w .start) (16 * w .blocks)
-    where
-      leaves : (d : Decoded) → d ≡ Defined RandomReadWrite →
-          endBy d run (part s (16 * w .start) (16 * w .blocks)) ≡ passed (part s (16 * w .start) (16 * w .blocks))
-      leaves d k = rw k
+  -- that element does
+  hits-it : hit (elementAt w (m .place)) ≡ true
+  hits-it =
+      rw (eq-eqb (numberOf (codeAt w (m .place))) (numberOf (codeAt w (m .place))) refl, eq-eqb (elementAt w (m .place) .number) k (m .names .block))
 
--- Block b of a random store, that of the code own, in a stage of `size` bytes, over a write of the codes and the data d.
-module _ {ns : List Node} {used : ℕ} (l : Laid ns used) (codes d : List ℕ) (own : ℕ) (random : codeKindOf own ≡ OfKind Random) {v : Row}
-    (o : Owner ns own v) (size b : ℕ) (fits : 16 * v .start + 16 * v .blocks ≤ size) (here : b < v .blocks) where
-  abbrev rows : List Row
-  rows = rowsOf ns codes
+  -- no later one does
+  hits-last : (i : ℕ) → m .place < i → i < length (elementsIn w) → hit (elementAt w i) ≡ false
+  hits-last i l h = ne-true _ (λ q.
+      let p = and-eq-true-iff (eqb (numberOf (codeAt w i)) (numberOf (codeAt w (m .place)))) (eqb (elementAt w i .number) k) .0 q in
+      m .last i l (record {
+        listed = h;
+        number = eqb-true (numberOf (codeAt w i)) (numberOf (codeAt w (m .place))) (p .0) ∙ m .names .number;
+        block = eqb-true (elementAt w i .number) k (p .1);
+      }))
 
-  -- the code that an element names
-  abbrev codeOf : BlockListElement → ℕ
-  codeOf x = getD codes (x .index) 0
+  -- all elements passed, and their data are there
+  all-checked : AllFrom (Checks (rowsIn c w) (w .sent)) 0 (elementsIn w)
+  all-checked =
+      let p : AllPass (rowsIn c w) true (w .keyless) (elementsIn w) = rw t at (each-passed it) in
+      checks-from (rowsIn c w) (w .sent) (w .keyless) 0 (elementsIn w) p (omega (arith, it .fit .sent t, counted it))
 
-  -- whether it names the block
-  abbrev pub hits : BlockListElement → Bool
-  hits x = eqb (numberOf (codeOf x)) (numberOf own) && eqb (x .number) b
+  -- in the staged stores, after all runs, the block is what it brings
+  staged-so : let s = stores-put c a w e t .0 in (length s ≡ 16 * c .used) × (part s (16 * row .start + 16 * k) 16 ≡ d)
+  staged-so =
+      let size = 16 * c .used in
+      let s = stores-put c a w e t in
+      let z = block-staged (laid b) (w .codes) (w .sent) (m .random) row-owner size k row-fits block-fits
+      (elementsIn w) (take size a) (s .0) all-checked (length-take-le size a (it .fit .arena)) (s .1) in
+      let last = folded-last hit (dataAt (w .sent)) nothing 0 (elementsIn w) (part (take size a) (16 * row .start + 16 * k) 16)
+      (m .place) (m .names .listed) hits-it hits-last in
+      (z .0, z .1 ∙ last ∙ rw (zero-add (m .place)) (m .bytes))
 
-  -- the bytes that element i brings
-  abbrev pub dataAt : ℕ → List ℕ
-  dataAt i = part d (16 * i) 16
-
-  -- the block as it is in a stage
-  abbrev pub blockIn : List ℕ → List ℕ
-  blockIn s = part s (16 * v .start + 16 * b) 16
-
-  -- an element that passed its check, whose data are there
-  abbrev pub Checks : ℕ → BlockListElement → Type 0
-  Checks i x = Good rows true x × (16 * i + 16 ≤ length d)
-
-  module _ (x : BlockListElement) (g : Good rows true x) where
-    -- its row is that of a service
-    owner : Owner ns (codeOf x) (rowIn rows x)
-    owner = good-owner ns codes g
-
-    module _ (same : numberOf (codeOf x) ≡ numberOf own) where
-      -- of the same number it has the same store, and is written at random
-      written : rowIn rows x .attribute ≡ Defined RandomReadWrite
-      unfolding codeKindOf
-      written =
-          let k = one-store l owner o same .2 in
-          let a : attributeOf (codeOf x) ≡ Defined (g .attribute) = sym (owner .attribute) ∙ g .defined in
-          g .defined ∙ random-writes (g .attribute) (sym (ap decodedKindOf a) ∙ k ∙ random) (g .writable refl)
-
-    -- of another number it leaves the block, whatever the rule is
-    others : (numberOf (codeOf x) ≡ numberOf own → ⊥) → (i : ℕ) (rule : List ℕ → Outcome) (s t : List ℕ) →
-        atIndex i (onStore (rowIn rows x) rule s) ≡ good t → (length t ≡ length s) × (blockIn t ≡ blockIn s)
-    others other i rule s t e =
-        let w = rowIn rows x in
-        let q = step-put i w rule s t e in
-        let k = two-stores l owner o other in
-        rw (q .2) (
-          length-put s (16 * w .start) (16 * w .blocks) (q .0),
-          part-put-apart s (16 * w .start) (16 * w .blocks) (q .0) (16 * v .start + 16 * b) 16
-          (⊎-elim (λ z. inr (omega arith)) (λ z. inl (omega arith)) k),
-        )
-
-  -- an element changes the block if it names it
-  one-is : (i : ℕ) (x : BlockListElement) (s t : List ℕ) → Checks i x → length s ≡ size → elementOn rows d i x s ≡ good t →
-      (length t ≡ size) × (blockIn t ≡ replaced hits dataAt i x (blockIn s))
-  one-is i x s t (g, there) f e =
-      elim (ℕ-discrete (numberOf (codeOf x)) (numberOf own)) [
-        | yes same ↦
-            let w = rowIn rows x in
-            let k = one-store l (owner x g) o same in
-            let p = rw (k .0, k .1) at (random-element i w (written x g same) s t (x .number) (x .mode) (dataAt i) e) in
-            let n : x .number < v .blocks = rw (k .1) at (g .number) in
-            rw (p, eq-eqb (numberOf (codeOf x)) (numberOf own) same)
-            (
-              length-put s (16 * v .start) (16 * v .blocks) (put (part s (16 * v .start) (16 * v .blocks)) (16 * x .number) 16 (dataAt i)) ∙ f,
-              block-put s (16 * v .start) (16 * v .blocks) (x .number) b (dataAt i) (omega arith) (omega arith) (omega arith)
-              (length-part d (16 * i) 16 there),
-            )
-        | no other ↦
-            let q = others x g other i _ s t e in
-            rw (ne-eqb (numberOf (codeOf x)) (numberOf own) other) (q .0 ∙ f, q .1)
-      ]
-
-  -- the end of a run leaves it
-  end-is : (i : ℕ) (x : BlockListElement) (n : ℕ) (s t : List ℕ) → Checks i x → length s ≡ size → endOn rows d i x n s ≡ good t →
-      (length t ≡ size) × (blockIn t ≡ blockIn s)
-  end-is i x n s t (g, there) f e =
-      elim (ℕ-discrete (numberOf (codeOf x)) (numberOf own)) [
-        | yes same ↦ rw (random-end i (rowIn rows x) (written x g same) s t (part d (16 * i) (16 * n)) e) (f, refl)
-        | no other ↦ let q = others x g other i _ s t e in (q .0 ∙ f, q .1)
-      ]
-
-  -- so all runs leave of it what the elements that name it bring, one after the other
-  pub block-staged : (es : List BlockListElement) (s t : List ℕ) → AllFrom Checks 0 es → length s ≡ size → staged rows d es s ≡ good t →
-      (length t ≡ size) × (blockIn t ≡ folded (replaced hits dataAt) 0 es (blockIn s))
-  unfolding staged
-  block-staged es s t p f e =
-      rw (flat-runs (numberIn rows) es) at
-      (walk-tracks Checks (replaced hits dataAt) (elementOn rows d) (endOn rows d) (λ u. length u ≡ size) blockIn
-      (record { one-is = one-is; close-is = end-is }) 0 (runsOf (numberIn rows) es) s t (rw (flat-runs (numberIn rows) es) p) f e)
+  -- so it is in the arena
+  pub wrote : part (arenaAfter c a w) (16 * row .start + 16 * k) 16 ≡ d
+  wrote =
+      let size = 16 * c .used in
+      let s = stores-put c a w e t in
+      let at = 16 * row .start + 16 * k in
+      let whole = part-of-put a 0 size (s .0) at 16 (omega (arith, it .fit .arena)) (staged-so .0) (omega (arith, row-fits, block-fits)) in
+      rw (s .2) ((rw (zero-add at) at whole) ∙ staged-so .1)

@@ -1,17 +1,18 @@
 -- Two terminals at one card: the statement. Every request is one of `serve`, the definition that `read` and `write` promise.
-use Prim.Native.Nat.{ℕ}
+use Prim.Native.Nat.{ℕ, _*_}
 use mathlib.Core.List.{List, [], _∷_}
 use mathlib.Core.Logic.{_⊎_}
 use mathlib.Core.Path.{_≡_}
+use lib.ListN.{length}
 use Rattle.types.specs.Code.{numberOf}
+use Rattle.spans.specs.Part.{put}
 use Rattle.structure.specs.declared.card.Card.{Card}
 use Rattle.system.specs.declared.plan.Reply.{Reply}
 use Rattle.system.specs.Request.{Request}
-use Rattle.system.specs.Serve.{serve}
+use Rattle.system.specs.Serve.{serve, stagingBy}
 use Rattle.terminals.specs.Orders.{Sent, one, two, only, Undisturbed}
 
--- What the caller of a request is told: the reply and the bytes read. Its output and its staging after the request follow from
--- these and from what they were (`outputAfter`, `stagingBy`); their lengths are part of the request.
+-- what the caller of a request is told: the reply and the bytes read
 pub record Answer : Type 0 where
   pub reply : Reply
   pub read : List ℕ
@@ -21,6 +22,14 @@ answerOf c a r = record {
   reply = serve c a r .reply;
   read = serve c a r .read;
 }
+
+-- What becomes of the output, and of the staging, that the caller lends: it follows from the answer and from what they were.
+-- Their lengths are part of the request.
+abbrev pub outputOf : Answer → List ℕ → List ℕ
+outputOf x out = put out 0 (length (x .read)) (x .read)
+
+abbrev pub stagingOf : Card → Answer → List ℕ → List ℕ
+stagingOf c x staging = stagingBy (x .reply) (16 * c .used) staging
 
 -- the arena that the next request finds; it finds the same card, since no request makes another
 abbrev pub arenaAfter : Card → List ℕ → Request → List ℕ

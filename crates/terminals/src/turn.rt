@@ -1,0 +1,38 @@
+// One turn of a run: the card's own `read` and `write`, by contracts in the words of the law on runs. That these are proved says
+// that each turn of a run of the program is one of which the law speaks (`Did`, specs/Runs).
+use structure::card::Card;
+use system::plan::Reply;
+use system::read;
+use system::write;
+ghost use Rattle.terminals.specs.Runs.{reads, writes, Left, Did};
+
+// A read, on an arena that it leaves as it is.
+pub fn read_turn(
+    card: Card,
+    arena: &[u8],
+    out: &mut [u8],
+    keyless: bool,
+    codes: &[u16],
+    count: u32,
+    list: &[u8],
+) -> Reply
+    ensures { λ r. ⌜ Did card (now (arena .entry)) (reads keyless (now (codes .entry)) count (now (list .entry)) (now (out .entry))) (record { reply = r; buffer = now (out .exit) }) (now (arena .entry)) ⌝ }
+{
+    read::read(card, arena, out, keyless, codes, count, list)
+}
+
+// A write, on an arena that it may change.
+pub fn write_turn(
+    card: Card,
+    arena: &mut [u8],
+    staging: &mut [u8],
+    keyless: bool,
+    codes: &[u16],
+    count: u32,
+    list: &[u8],
+    input: &[u8],
+) -> Reply
+    ensures { λ r. ⌜ Did card (now (arena .entry)) (writes keyless (now (codes .entry)) count (now (list .entry)) (now (input .entry)) (now (staging .entry))) (record { reply = r; buffer = now (staging .exit) }) (now (arena .exit)) ⌝ }
+{
+    write::write(card, arena, staging, keyless, codes, count, list, input)
+}
