@@ -176,10 +176,6 @@ Redraws =
     (towerTold between ≡ done (replicate 16 3))
     × (towerTold (between ++ (writing 0x1049 1 (replicate 16 4) ∷ [])) ≡ done (replicate 16 4))
 
-computed : Told × Alone × Ends × Disturbed × Redraws
-unfolding addService placedOf parentAt parentFrom openAt firstFrom serviceUnder outside sameKind joinedTo usable newStore numberOf attributesOf tableOf decodedOf attributeOf codeKindOf requiresKey unpackAt endsFrom endsAfter elementsFrom part put sameBytes wordAt wordBytes signedOf wordOf cyclicOf valueOf insideOf outsideOf sumOf storedOf purseRule purseDataOf blockOf purseOf isRoot allRoots stepOf stepsFrom stepsOf soundOf rowOf modeAllowed attributeCheck rowCheck elementCheck checkedFrom then push runsOf scan walk back within cashbackIn elementBy endBy onStore staged lentJudged judgedBy planOf blocksRead committed carried serve only all after answers told
-computed = (refl, (refl, refl), refl, (refl, refl), (refl, refl))
-
 -- what holds of the number of each code holds of each number that is named
 module _ (Q : ℕ → Type 0) where
   of-codes : (codes : List ℕ) → All (λ code. Q (numberOf code)) codes → (k : ℕ) → Any (λ code. numberOf code ≡ k) codes → Q k
@@ -213,29 +209,41 @@ unfolding numberOf
 unnamed (inl h) = omega arith
 unnamed (inr h) = h
 
-redrawn : Redrawn card 0x41 1 (replicate 16 3) arena redraw between (reading 0x104b 1)
+-- these are requests of the theorem
+abbrev IsRedrawn : Type 0
+IsRedrawn = Redrawn card 0x41 1 (replicate 16 3) arena redraw between (reading 0x104b 1)
+
+-- all of it, computed by the definitions
+computed : Told × Alone × Ends × Disturbed × Redraws × IsRedrawn
 unfolding addService placedOf parentAt parentFrom openAt firstFrom serviceUnder outside sameKind joinedTo usable newStore numberOf attributesOf tableOf decodedOf attributeOf codeKindOf requiresKey unpackAt endsFrom endsAfter elementsFrom part put sameBytes wordAt wordBytes signedOf wordOf cyclicOf valueOf insideOf outsideOf sumOf storedOf purseRule purseDataOf blockOf purseOf isRoot allRoots stepOf stepsFrom stepsOf soundOf rowOf modeAllowed attributeCheck rowCheck elementCheck checkedFrom then push runsOf scan walk back within cashbackIn elementBy endBy onStore staged lentJudged judgedBy planOf blocksRead committed carried serve only all after answers told
-redrawn = record {
-  write = refl;
-  written = refl;
-  brings = record {
-    place = 2;
-    names = record { listed = omega arith; number = refl; block = refl };
-    last = λ j l m. let h = m .listed in omega arith;
-    random = refl;
-    bytes = refl;
-  };
-  quiet = (
-    λ t e n. let z : _≡_ {A = ℕ} 0 1 = cc in omega arith,
-    (λ t e n. let z : _≡_ {A = ℕ} 0 1 = cc in omega arith, (λ t e n. unnamed n, (λ t e n. absurd (false≢true t), tt))),
-  );
-  read = refl;
-  answered = refl;
-}
+computed = (
+  refl,
+  (refl, refl),
+  refl,
+  (refl, refl),
+  (refl, refl),
+  record {
+    write = refl;
+    written = refl;
+    brings = record {
+      place = 2;
+      names = record { listed = omega arith; number = refl; block = refl };
+      last = λ j l m. let h = m .listed in omega arith;
+      random = refl;
+      bytes = refl;
+    };
+    quiet = (
+      λ t e n. let z : _≡_ {A = ℕ} 0 1 = cc in omega arith,
+      (λ t e n. let z : _≡_ {A = ℕ} 0 1 = cc in omega arith, (λ t e n. unnamed n, (λ t e n. absurd (false≢true t), tt))),
+    );
+    read = refl;
+    answered = refl;
+  },
+)
 
 -- so by the theorem the tower reads what the last element brought
 tower-told : part (outputAfter (replicate 16 0) (serve card (arenaThen card arena redraw between) (reading 0x104b 1))) 0 16 ≡ replicate 16 3
 unfolding numberOf unpackAt elementsFrom
 tower-told =
-    tower-reads card-built 0x41 1 (replicate 16 3) arena redraw between (reading 0x104b 1) redrawn 0
+    tower-reads card-built 0x41 1 (replicate 16 3) arena redraw between (reading 0x104b 1) (computed .5) 0
     (record { listed = omega arith; number = refl; block = refl }) (replicate 16 0) refl
