@@ -1,6 +1,6 @@
 // Elements of a block list: two or three bytes each, packed one after the other.
 ghost use mathlib.Core.Path.{_≡_};
-ghost use Rattle.lists.specs.Element.{packedOf, unpackAt, endsAfter};
+ghost use Rattle.lists.specs.Element.{packedOf, unpackAt};
 
 // An element names a block: its number, the index of the service's code in the request's list, and an access mode.
 pub struct BlockListElement {
@@ -82,24 +82,4 @@ pub fn unpack(list: &[u8], at: usize) -> Unpacked
             next: at + 2,
         }
     }
-}
-
-// Whether a list is that many elements and nothing more.
-pub fn list_ends(list: &[u8], count: usize) -> bool
-    ensures { λ r. ⌜ r ≡ endsAfter (now (list .entry)) count ⌝ }
-{
-    let mut at = 0;
-    let mut i = 0;
-    while i < count {
-        match unpack(list, at) {
-            Unpacked::Short => {
-                return false;
-            }
-            Unpacked::Element { element: _, next } => {
-                at = next;
-            }
-        }
-        i += 1;
-    }
-    at == list.len()
 }

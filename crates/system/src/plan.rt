@@ -2,7 +2,6 @@
 use answers::refusal::Refusal;
 use answers::status;
 use answers::status::Fault;
-use lists::element;
 use structure::card::Card;
 ghost use mathlib.Core.Path.{_≡_};
 ghost use Rattle.system.specs.Request.{flag1, flag2};
@@ -94,7 +93,7 @@ pub fn judge(card: Card, write: bool, count: u32, list: &[u8], lengths: Lengths)
     if 16 < lengths.codes {
         return Judged::Refused(Refusal::TooManyCodes);
     }
-    if !element::list_ends(list, count as usize) {
+    if !reader::list_ends(list, count as usize) {
         return Judged::Refused(Refusal::ListLength);
     }
     lent_judged(card.used, write, count as usize, lengths)

@@ -225,7 +225,7 @@ next-meets : {M : Type 1} (𝓤 : URA M) (H : Heap 𝓤) (A : Atoms 𝓤) (W : G
     → Triple 𝓤 (𝓣 .C #unpack) (Unpack 𝓤 H A mem run) → Triple 𝓤 (𝓣 .C #place-past) (PlacePast 𝓤 H A mem run)
     → Meets 𝓤 H A next.signature (WpFn 𝓤 H (𝓣 .C) (𝓣 .Λ) code.function) (next.spec 𝓤 H A mem run)
 next-meets 𝓤 H A W mem run 𝓣 known-unpack known-past = walk-meets 𝓤 H A next.ended stayed W (goes-ref 𝓤 H A W 2 0 tt behind, tt) (next.clauses 𝓤 H A mem run)
-(WpFn 𝓤 H (𝓣 .C) (𝓣 .Λ) code.function) (WpFn-mono 𝓤 H (W .laws) 𝓣 code.function)
+    (WpFn 𝓤 H (𝓣 .C) (𝓣 .Λ) code.function) (WpFn-mono 𝓤 H (W .laws) 𝓣 code.function)
     (next-walks 𝓤 H A W mem run (𝓣 .C) (𝓣 .Λ) (fmOf 𝓤 H (W .laws) 𝓣) known-unpack known-past)
 
 pub next-spec : {M : Type 1} → stated.statement M
