@@ -1,9 +1,9 @@
 -- `hex::codes::read_codes` meets its contract: after i turns i codes are put. Assumes nothing.
-use Prim.Native.Nat.{_+_, _-_, _/_, _≤_, min}
+use Prim.Native.Nat.{_-_, _/_, _≤_}
 use native.Mathlib.Omega.{arith}
 use native.Mathlib.Nat.{zero-add}
 use borrow.Author.Needs.{needs}
-use mathlib.Core.Path.{_≡_, refl, sym, _∙_}
+use mathlib.Core.Path.{_≡_, refl, sym}
 use lib.ListN.{length, length-set}
 use denote.Ref.{now}
 use Rattle.spans.specs.Part.{put}
