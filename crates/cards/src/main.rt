@@ -1,11 +1,11 @@
 // Replays the Rust's stored answers on cards, a line each, through the proved card: growing one, asking about its tree,
 // and serving requests. Prints how many lines of each kind agree and how many lines do not.
-use grow::Grown;
+use add::Grown;
 use structure::card::Card;
 
+mod add;
 mod ask;
 mod codes;
-mod grow;
 mod request;
 mod spelt;
 
@@ -106,7 +106,7 @@ fn lent(
 fn step(kept: Kept, kind: u8, b: &[u8], arena: &mut [u8]) -> Kept {
     let before = kept.grown;
     let tally = kept.tally;
-    let grown = grow::line(before, kind, b, arena);
+    let grown = add::line(before, kind, b, arena);
     Kept {
         grown,
         tally: counted(tally, kind, grown.agrees),
@@ -170,7 +170,7 @@ fn lines(kept: Kept, text: &[u8], arena: &mut [u8], room: &mut [u8], copy: &mut 
 // Counts every line of every file.
 fn files(arena: &mut [u8], room: &mut [u8], copy: &mut [u8]) -> Tally {
     let mut k = Kept {
-        grown: grow::start(0, 0, 0),
+        grown: add::start(0, 0, 0),
         tally: Tally {
             cards: 0,
             additions: 0,

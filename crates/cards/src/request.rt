@@ -1,7 +1,7 @@
 // Requests on a card, and blocks set between them.
 use crate::codes::codes;
 use crate::spelt;
-use nodes::grow::Answer;
+use grow::Answer;
 use stored::number16;
 use structure::card::Card;
 use system::block;

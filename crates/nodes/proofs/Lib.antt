@@ -2,4 +2,3 @@ pub mod Scan
 mod Turns
 pub mod Searches
 pub mod Records
-pub mod Growth

@@ -72,14 +72,14 @@ pub fn find_area(nodes: [Node; 64], count: usize, code: u16) -> Found
 }
 
 // The first service of a code's number, whose store a service of that code shares.
-pub(crate) fn find_shared(nodes: [Node; 64], count: usize, code: u16) -> Found
+pub fn find_shared(nodes: [Node; 64], count: usize, code: u16) -> Found
     ensures { λ r. ⌜ r ≡ sharedOf (take count nodes) code ⌝ }
 {
     find_first(nodes, count, Sought::ServiceNumber, code)
 }
 
 // The area under which a new node of a depth comes.
-pub(crate) fn find_parent(nodes: [Node; 64], count: usize, depth: u8) -> Found
+pub fn find_parent(nodes: [Node; 64], count: usize, depth: u8) -> Found
     ensures { λ r. ⌜ r ≡ parentOf (take count nodes) depth ⌝ }
 {
     let n = taken(count);

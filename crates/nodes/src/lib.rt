@@ -1,4 +1,3 @@
-// The records of a card: what each is, which is found, and what may follow them.
+// The records of a card: what each is, and which is found.
 pub mod find;
-pub mod grow;
 pub mod node;

@@ -1,7 +1,7 @@
 // One record: an area or a service.
 use blocks::purse::Limit;
 ghost use mathlib.Core.Path.{_≡_};
-ghost use Rattle.nodes.specs.Node.{rootNode, isArea, isService, endOf};
+ghost use Rattle.nodes.specs.Node.{rootNode, isArea, isService};
 
 // What a node is: an area to the end of its codes, or a service over a store of blocks.
 pub enum Entry {
@@ -63,20 +63,6 @@ impl Entry {
                 blocks: _,
                 limit: _,
             } => true,
-        }
-    }
-
-    // The last code of an area; a service has none.
-    pub(crate) fn end(self) -> u16
-        ensures { λ r. ⌜ r ≡ endOf self ⌝ }
-    {
-        match self {
-            Entry::Area { end } => end,
-            Entry::Service {
-                start: _,
-                blocks: _,
-                limit: _,
-            } => 0,
         }
     }
 }

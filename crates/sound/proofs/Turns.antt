@@ -9,9 +9,9 @@ use lib.Seq.{take-all, take-take, take-suc}
 use Rattle.blocks.specs.declared.purse.Limit.{Limit}
 use Rattle.nodes.specs.declared.node.Entry.the-variants.{Area, Service}
 use Rattle.nodes.specs.declared.node.Node.{Node}
-use Rattle.nodes.specs.declared.grow.Answer.{Answer}
-use Rattle.nodes.specs.declared.grow.Placed.{Placed}
-use Rattle.nodes.specs.Grow.{areaJudged, placedOf}
+use Rattle.grow.specs.declared.Answer.{Answer}
+use Rattle.grow.specs.declared.Placed.{Placed}
+use Rattle.grow.specs.Grow.{areaJudged, placedOf}
 use Rattle.nodes.proofs.Scan.{Left, here, turn, done}
 use Rattle.sound.specs.declared.Step.{Step}
 use Rattle.sound.specs.declared.Step.the-variants.{Goes, Stops}

@@ -1,7 +1,6 @@
 // Refusal 8: whether accepted additions and limits produce a card's records.
-use nodes::grow;
-use nodes::grow::Answer;
-use nodes::grow::Placed;
+use grow::Answer;
+use grow::Placed;
 use nodes::node::Entry;
 use nodes::node::Node;
 ghost use mathlib.Core.Path.{_≡_};

@@ -12,11 +12,11 @@ use Rattle.answers.specs.declared.refusal.Refusal.{Refusal}
 use Rattle.nodes.specs.declared.node.Node.{Node}
 use Rattle.nodes.specs.declared.find.Found.{Found}
 use Rattle.nodes.specs.declared.find.Found.the-variants.{At, Nothing}
-use Rattle.nodes.specs.declared.grow.Answer.the-variants.{Done, Refused}
-use Rattle.nodes.specs.declared.grow.Placed.the-variants.{Store, Refused as NotPlaced}
+use Rattle.grow.specs.declared.Answer.the-variants.{Done, Refused}
+use Rattle.grow.specs.declared.Placed.the-variants.{Store, Refused as NotPlaced}
 use Rattle.nodes.specs.Find.{parentOf}
-use Rattle.nodes.specs.Grow.{parentAt, areaFound, areaJudged, usable, serviceFound, placedOf}
-use Rattle.nodes.proofs.Growth.{area-room, allowed, stored, used-grows}
+use Rattle.grow.specs.Grow.{parentAt, areaFound, areaJudged, usable, serviceFound, placedOf}
+use Rattle.grow.proofs.Growth.{area-room, allowed, stored, used-grows}
 
 -- a record is free where fewer than 64 are nodes
 room : (nodes : List Node) (count : ℕ) → length nodes ≡ 64 → length (take count nodes) < 64 → count < 64

@@ -15,9 +15,9 @@ use Rattle.spans.specs.Part.{put}
 use Rattle.spans.proofs.Part.{put-zero}
 use Rattle.nodes.specs.declared.node.Node.{Node}
 use Rattle.nodes.specs.declared.node.Entry.the-variants.{Area, Service}
-use Rattle.nodes.specs.declared.grow.Answer.the-variants.{Done, Refused}
-use Rattle.nodes.specs.declared.grow.Placed.the-variants.{Store, Refused as NotPlaced}
-use Rattle.nodes.specs.Grow.{areaJudged, placedOf}
+use Rattle.grow.specs.declared.Answer.the-variants.{Done, Refused}
+use Rattle.grow.specs.declared.Placed.the-variants.{Store, Refused as NotPlaced}
+use Rattle.grow.specs.Grow.{areaJudged, placedOf}
 use Rattle.structure.specs.declared.card.Card.{Card}
 use Rattle.structure.specs.declared.card.Added.{Added}
 use Rattle.structure.specs.Card.{nodesOf, isSound, grown, accepted, refused}

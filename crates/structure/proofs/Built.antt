@@ -11,7 +11,7 @@ use Rattle.blocks.specs.declared.purse.Limit.{Limit}
 use Rattle.blocks.specs.declared.purse.Limit.the-variants.{Unlimited, Limited}
 use Rattle.nodes.specs.declared.node.Entry.the-variants.{Area, Service}
 use Rattle.nodes.specs.declared.node.Node.{Node}
-use Rattle.nodes.proofs.Growth.{placed-longest}
+use Rattle.grow.proofs.Growth.{placed-longest}
 use Rattle.structure.specs.declared.card.Card.{Card}
 use Rattle.structure.specs.declared.card.Added.{Added}
 use Rattle.structure.specs.Card.{isSound, accepted, refused}

@@ -15,13 +15,13 @@ use Rattle.blocks.specs.declared.purse.Limit.{Limit}
 use Rattle.nodes.specs.declared.node.Entry.the-variants.{Area, Service}
 use Rattle.nodes.specs.declared.node.Node.{Node}
 use Rattle.nodes.specs.declared.find.Found.the-variants.{At, Nothing}
-use Rattle.nodes.specs.declared.grow.Answer.the-variants.{Done}
-use Rattle.nodes.specs.declared.grow.Placed.the-variants.{Store}
+use Rattle.grow.specs.declared.Answer.the-variants.{Done}
+use Rattle.grow.specs.declared.Placed.the-variants.{Store}
 use Rattle.nodes.specs.Node.{rootNode, isService, startOf, blocksOf}
 use Rattle.nodes.specs.Find.{firstFrom, serviceOf, sharedOf}
-use Rattle.nodes.specs.Grow.{areaJudged, placedOf}
+use Rattle.grow.specs.Grow.{areaJudged, placedOf}
 use Rattle.nodes.proofs.Searches.{first-found, first-kept, first-after}
-use Rattle.nodes.proofs.Growth.{Joined, Fresh, stored, used-grows}
+use Rattle.grow.proofs.Growth.{Joined, Fresh, stored, used-grows}
 use Rattle.structure.specs.declared.card.Card.{Card}
 use Rattle.structure.specs.Card.{nodesOf}
 use Rattle.structure.specs.Grow.{nodeAs}

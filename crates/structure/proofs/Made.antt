@@ -12,13 +12,13 @@ use Rattle.blocks.specs.declared.purse.Limit.{Limit}
 use Rattle.nodes.specs.declared.node.Entry.{Entry}
 use Rattle.nodes.specs.declared.node.Entry.the-variants.{Area, Service}
 use Rattle.nodes.specs.declared.node.Node.{Node}
-use Rattle.nodes.specs.declared.grow.Answer.{Answer}
-use Rattle.nodes.specs.declared.grow.Answer.the-variants.{Done, Refused}
-use Rattle.nodes.specs.declared.grow.Placed.{Placed}
-use Rattle.nodes.specs.declared.grow.Placed.the-variants.{Store, Refused as NotPlaced}
+use Rattle.grow.specs.declared.Answer.{Answer}
+use Rattle.grow.specs.declared.Answer.the-variants.{Done, Refused}
+use Rattle.grow.specs.declared.Placed.{Placed}
+use Rattle.grow.specs.declared.Placed.the-variants.{Store, Refused as NotPlaced}
 use Rattle.nodes.specs.Node.{rootNode}
-use Rattle.nodes.specs.Grow.{areaJudged, placedOf}
-use Rattle.nodes.proofs.Growth.{area-room, allowed, used-most}
+use Rattle.grow.specs.Grow.{areaJudged, placedOf}
+use Rattle.grow.proofs.Growth.{area-room, allowed, used-most}
 use Rattle.sound.specs.declared.Step.{Step}
 use Rattle.sound.specs.declared.Step.the-variants.{Goes, Stops}
 use Rattle.sound.specs.Sound.{areaStep, serviceStep, stepBy, stepOf, thenStep, stepsFrom}

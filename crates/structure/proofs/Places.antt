@@ -19,12 +19,12 @@ use Rattle.types.specs.Code.{attributeOf, codeKindOf}
 use Rattle.nodes.specs.declared.node.Node.{Node}
 use Rattle.nodes.specs.declared.find.Found.{Found}
 use Rattle.nodes.specs.declared.find.Found.the-variants.{At, Nothing}
-use Rattle.nodes.specs.declared.grow.Answer.{Answer}
-use Rattle.nodes.specs.declared.grow.Answer.the-variants.{Done, Refused}
-use Rattle.nodes.specs.declared.grow.Placed.{Placed}
-use Rattle.nodes.specs.declared.grow.Placed.the-variants.{Store, Refused as NotPlaced}
+use Rattle.grow.specs.declared.Answer.{Answer}
+use Rattle.grow.specs.declared.Answer.the-variants.{Done, Refused}
+use Rattle.grow.specs.declared.Placed.{Placed}
+use Rattle.grow.specs.declared.Placed.the-variants.{Store, Refused as NotPlaced}
 use Rattle.nodes.specs.Node.{rootNode}
-use Rattle.nodes.specs.Grow.{parentAt, areaFound, areaJudged, ifDefined, serviceUnder, kindNumber, sameKind, ifDone, serviceFound, placedOf}
+use Rattle.grow.specs.Grow.{parentAt, areaFound, areaJudged, ifDefined, serviceUnder, kindNumber, sameKind, ifDone, serviceFound, placedOf}
 
 -- a depth that a node other than the root has
 pub record Deep (depth : ℕ) : Type 0 where

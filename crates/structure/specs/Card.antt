@@ -5,7 +5,7 @@ use mathlib.Core.Bool.{Bool}
 use lib.ListN.{take, set, replicate}
 use Rattle.answers.specs.declared.refusal.Refusal.{Refusal}
 use Rattle.nodes.specs.declared.node.Node.{Node}
-use Rattle.nodes.specs.declared.grow.Answer.the-variants.{Done, Refused}
+use Rattle.grow.specs.declared.Answer.the-variants.{Done, Refused}
 use Rattle.nodes.specs.Node.{rootNode}
 use Rattle.sound.specs.Sound.{soundOf}
 use Rattle.structure.specs.declared.card.Card.{Card}

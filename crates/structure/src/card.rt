@@ -1,5 +1,5 @@
 // A card's value.
-use nodes::grow::Answer;
+use grow::Answer;
 use nodes::node::Node;
 ghost use mathlib.Core.Path.{_≡_};
 ghost use Rattle.structure.specs.Card.{newCard, isSound};

@@ -10,8 +10,8 @@ use borrow.Author.Tests.{lt-ltb, le-ltb, ltb-true, ltb-false}
 use Rattle.answers.specs.declared.refusal.Refusal.{Refusal}
 use Rattle.answers.specs.declared.refusal.Refusal.the-variants.{ShortArena, NoSuchBlock, NotBuilt}
 use Rattle.spans.specs.Part.{part, put}
-use Rattle.nodes.specs.declared.grow.Answer.{Answer}
-use Rattle.nodes.specs.declared.grow.Answer.the-variants.{Done, Refused}
+use Rattle.grow.specs.declared.Answer.{Answer}
+use Rattle.grow.specs.declared.Answer.the-variants.{Done, Refused}
 use Rattle.structure.specs.declared.card.Card.{Card}
 use Rattle.structure.specs.Card.{nodesOf, isSound}
 use Rattle.checks.specs.declared.row.Row.{Row}

@@ -6,8 +6,8 @@ use lib.Dec.{ltb}
 use lib.ListN.{length}
 use Rattle.answers.specs.declared.refusal.Refusal.the-variants.{ShortArena, NoSuchBlock, NotBuilt}
 use Rattle.spans.specs.Part.{part, put}
-use Rattle.nodes.specs.declared.grow.Answer.{Answer}
-use Rattle.nodes.specs.declared.grow.Answer.the-variants.{Done, Refused}
+use Rattle.grow.specs.declared.Answer.{Answer}
+use Rattle.grow.specs.declared.Answer.the-variants.{Done, Refused}
 use Rattle.structure.specs.declared.card.Card.{Card}
 use Rattle.structure.specs.Card.{nodesOf, isSound}
 use Rattle.checks.specs.declared.row.Row.{Row}

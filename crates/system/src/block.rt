@@ -1,7 +1,7 @@
 // One stored block: as the caller's own arena bytes, and set.
 use answers::refusal::Refusal;
 use checks::row;
-use nodes::grow::Answer;
+use grow::Answer;
 use structure::card::Card;
 ghost use mathlib.Core.Path.{_≡_};
 ghost use lib.ListN.{length};

@@ -18,12 +18,12 @@ use Rattle.word.specs.Word.{wordAt, wordBytes, signedOf, wordOf}
 use Rattle.blocks.specs.Cyclic.{cyclicOf}
 use Rattle.blocks.specs.Purse.{valueOf, insideOf, outsideOf, sumOf, storedOf, purseRule, purseDataOf, blockOf, purseOf}
 use Rattle.nodes.specs.Find.{firstFrom, openAt, parentFrom}
-use Rattle.nodes.specs.Grow.{parentAt, outside, serviceUnder, sameKind, joinedTo, usable, newStore, placedOf}
+use Rattle.grow.specs.Grow.{parentAt, outside, serviceUnder, sameKind, joinedTo, usable, newStore, placedOf}
 use Rattle.sound.specs.Sound.{isRoot, allRoots, stepOf, stepsFrom, stepsOf, soundOf}
 use Rattle.structure.specs.declared.card.Card.{Card}
 use Rattle.structure.specs.Card.{newCard}
 use Rattle.structure.specs.Grow.{addService}
-use Rattle.structure.specs.Built.{Built, new, service}
+use Rattle.built.specs.Built.{Built, new, service}
 use Rattle.checks.specs.Row.{rowOf}
 use Rattle.checks.specs.Check.{modeAllowed, attributeCheck, rowCheck, elementCheck, checkedFrom}
 use Rattle.runs.specs.Runs.{then, push, runsOf, scan, walk}

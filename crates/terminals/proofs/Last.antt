@@ -8,8 +8,8 @@ use mathlib.Core.List.{List, [], _∷_}
 use mathlib.Core.Logic.{inr, ⊎-elim}
 use Rattle.structure.specs.declared.card.Card.{Card}
 use Rattle.structure.specs.Card.{nodesOf}
-use Rattle.structure.specs.Built.{Built}
-use Rattle.structure.proofs.Laid.{laid, sized}
+use Rattle.built.specs.Built.{Built}
+use Rattle.built.proofs.Laid.{laid, sized}
 use Rattle.system.specs.declared.plan.Reply.the-variants.{Done}
 use Rattle.system.specs.Request.{Request}
 use Rattle.system.specs.Serve.{serve}

@@ -6,7 +6,7 @@ use mathlib.Core.Path.{_≡_, refl, sym, ap, ap₂, _∙_}
 use mathlib.Core.List.{List, [], _∷_, _++_, map}
 use mathlib.Core.Logic.{inl, inr}
 use Rattle.structure.specs.declared.card.Card.{Card}
-use Rattle.structure.specs.Built.{Built}
+use Rattle.built.specs.Built.{Built}
 use Rattle.system.specs.Serve.{stagingBy}
 use Rattle.terminals.specs.Orders.{Terminal, one, two, Sent, by, only, all, after, answers, told, Undisturbed}
 use Rattle.terminals.specs.Two.{Answer, outputOf, stagingOf, Any, Names, NoneShared}

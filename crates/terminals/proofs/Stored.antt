@@ -22,7 +22,7 @@ use Rattle.spans.specs.Part.{part, put}
 use Rattle.spans.proofs.Part.{length-part, length-put, part-put, part-put-apart, part-part, put-part}
 use Rattle.blocks.specs.Outcome.{Outcome, passed, failed}
 use Rattle.nodes.specs.declared.node.Node.{Node}
-use Rattle.structure.proofs.Laid.{Laid}
+use Rattle.built.proofs.Laid.{Laid}
 use Rattle.checks.specs.declared.row.Row.{Row}
 use Rattle.checks.specs.Row.{rowsOf, rowIn, numberIn}
 use Rattle.checks.proofs.Laws.{Good}

@@ -6,8 +6,8 @@ use mathlib.Core.List.{List, [], _∷_}
 use mathlib.Core.Logic.{inl, inr}
 use Rattle.structure.specs.declared.card.Card.{Card}
 use Rattle.structure.specs.Card.{nodesOf}
-use Rattle.structure.specs.Built.{Built}
-use Rattle.structure.proofs.Laid.{Laid, laid}
+use Rattle.built.specs.Built.{Built}
+use Rattle.built.proofs.Laid.{Laid, laid}
 use Rattle.checks.specs.Row.{rowAtIndex}
 use Rattle.system.specs.Request.{Request}
 use Rattle.system.specs.Plan.{rowsIn}

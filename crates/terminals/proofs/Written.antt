@@ -14,8 +14,8 @@ use Rattle.lists.specs.declared.element.BlockListElement.{BlockListElement}
 use Rattle.spans.specs.Part.{part}
 use Rattle.structure.specs.declared.card.Card.{Card}
 use Rattle.structure.specs.Card.{nodesOf}
-use Rattle.structure.specs.Built.{Built}
-use Rattle.structure.proofs.Laid.{laid}
+use Rattle.built.specs.Built.{Built}
+use Rattle.built.proofs.Laid.{laid}
 use Rattle.checks.specs.declared.row.Row.{Row}
 use Rattle.checks.specs.Row.{rowIn}
 use Rattle.checks.proofs.Laws.{AllPass, good}

@@ -4,7 +4,7 @@ use native.Mathlib.Omega.{arith}
 use lib.ListN.{length, length-map}
 use denote.Ref.{now}
 use borrow.Author.Needs.{needs}
-use Rattle.nodes.specs.declared.grow.Answer.the-variants.{Done}
+use Rattle.grow.specs.declared.Answer.the-variants.{Done}
 use Rattle.system.specs.Block.{blockJudged}
 use Rattle.system.proofs.Blocks.{stored-none, place-inside, lent-block}
 use Rattle.system.proofs.block.stored_block.Statement.{statement}

@@ -5,8 +5,8 @@ use native.Mathlib.Omega.{arith}
 use lib.ListN.{length, length-map}
 use borrow.Author.Needs.{needs}
 use borrow.Author.Tests.{not-true, not-false}
-use Rattle.nodes.specs.declared.grow.Answer.{Answer}
-use Rattle.nodes.specs.Grow.{areaJudged}
+use Rattle.grow.specs.declared.Answer.{Answer}
+use Rattle.grow.specs.Grow.{areaJudged}
 use Rattle.structure.specs.Card.{nodesOf, isSound}
 use Rattle.structure.proofs.Accepted.{Room, area-accepted}
 use Rattle.structure.proofs.Answers.{area-unsound, area-refused, area-done}

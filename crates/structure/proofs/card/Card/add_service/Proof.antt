@@ -6,8 +6,8 @@ use native.Mathlib.Omega.{arith}
 use lib.ListN.{length, length-map}
 use borrow.Author.Needs.{needs}
 use borrow.Author.Tests.{not-true, not-false}
-use Rattle.nodes.specs.declared.grow.Placed.{Placed}
-use Rattle.nodes.specs.Grow.{placedOf}
+use Rattle.grow.specs.declared.Placed.{Placed}
+use Rattle.grow.specs.Grow.{placedOf}
 use Rattle.structure.specs.Card.{nodesOf, isSound}
 use Rattle.structure.proofs.Accepted.{Fits, service-accepted}
 use Rattle.structure.proofs.Answers.{service-unsound, service-short, service-refused, service-stored, arena-after, arena-kept}

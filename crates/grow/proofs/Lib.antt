@@ -1,0 +1,2 @@
+mod Judged
+pub mod Growth

@@ -1,0 +1,18 @@
+-- Depths outside 1 to 8 have no parent; the others go to the search.
+use mathlib.Core.Path.{_∙_}
+use borrow.Author.Needs.{needs}
+use Rattle.grow.specs.Grow.{parentAt}
+use Rattle.nodes.proofs.Scan.{tests}
+use Rattle.grow.proofs.parent_at.Statement.{statement}
+use Rattle.grow.proofs.parent_at.Tie as tie
+
+pub parent-at-spec : {M : Type 1} → statement M
+unfolding parentAt
+parent-at-spec =
+    tie.close
+    (tie.spec
+    (λ c. search tests)
+    (λ c. search tests)
+    (λ c. search needs)
+    (λ c κs. search needs)
+    (λ c. c .find-parent .ensures ∙ search tests))

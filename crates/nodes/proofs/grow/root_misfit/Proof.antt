@@ -1,9 +1,0 @@
--- Each arm is its own case of the definition.
-use Rattle.nodes.specs.Grow.{rootMisfit}
-use Rattle.nodes.proofs.Scan.{tests}
-use Rattle.nodes.proofs.grow.root_misfit.Statement.{statement}
-use Rattle.nodes.proofs.grow.root_misfit.Tie as tie
-
-pub root-misfit-spec : {M : Type 1} → statement M
-unfolding rootMisfit
-root-misfit-spec = tie.close (tie.spec (λ c. search tests) (λ c. search tests))
