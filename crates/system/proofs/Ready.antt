@@ -20,8 +20,8 @@ use Rattle.nodes.specs.Node.{rootNode, startOf, blocksOf}
 use Rattle.nodes.specs.Find.{serviceOf}
 use Rattle.structure.specs.declared.card.Card.{Card}
 use Rattle.structure.specs.Card.{nodesOf, isSound}
-use Rattle.structure.proofs.Built.{sound-built}
-use Rattle.structure.proofs.Laid.{Laid, laid}
+use Rattle.built.proofs.Built.{sound-built}
+use Rattle.built.proofs.Laid.{Laid, laid}
 use Rattle.checks.specs.declared.row.Row.{Row}
 use Rattle.checks.specs.declared.check.Checked.the-variants.{Passed as AllPassed}
 use Rattle.checks.specs.Row.{rowBy, rowAt, rowOf, rowsOf, rowAtIndex}

@@ -15,8 +15,8 @@ use Rattle.nodes.specs.Node.{rootNode}
 use Rattle.sound.specs.declared.Step.{Step}
 use Rattle.sound.specs.declared.Step.the-variants.{Goes, Stops}
 use Rattle.sound.specs.Sound.{rootEnd, isRoot, allRoots, stepsFrom, stepsOf, endsAt, soundOf}
-use Rattle.structure.proofs.Made.{Made, made-few, steps-made, made-gone}
-use Rattle.structure.proofs.Cards.{records}
+use Rattle.built.proofs.Made.{Made, made-few, steps-made, made-gone}
+use Rattle.built.proofs.Cards.{records}
 
 -- unused records
 roots : (k : ℕ) → allRoots (replicate k rootNode) ≡ true

@@ -22,13 +22,13 @@ use Rattle.nodes.specs.Find.{firstFrom, serviceOf, sharedOf}
 use Rattle.grow.specs.Grow.{areaJudged, placedOf}
 use Rattle.nodes.proofs.Searches.{first-found, first-kept, first-after}
 use Rattle.grow.proofs.Growth.{Joined, Fresh, stored, used-grows}
 use Rattle.structure.specs.declared.card.Card.{Card}
 use Rattle.structure.specs.Card.{nodesOf}
 use Rattle.structure.specs.Grow.{nodeAs}
-use Rattle.structure.specs.Built.{Built}
-use Rattle.structure.proofs.Made.{Made, made-few, made-used}
-use Rattle.structure.proofs.Built.{Carded, carded, built-carded}
-use Rattle.structure.proofs.Places.{Deep, Known, area-deep, service-known, same-kind}
+use Rattle.built.specs.Built.{Built}
+use Rattle.built.proofs.Made.{Made, made-few, made-used}
+use Rattle.built.proofs.Built.{Carded, carded, built-carded}
+use Rattle.built.proofs.Places.{Deep, Known, area-deep, service-known, same-kind}
 
 -- a node by its index; past the end the root is read, which is no service
 abbrev pub nodeAt : List Node → ℕ → Node

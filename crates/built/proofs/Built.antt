@@ -12,14 +12,14 @@ use Rattle.blocks.specs.declared.purse.Limit.the-variants.{Unlimited, Limited}
 use Rattle.nodes.specs.declared.node.Entry.the-variants.{Area, Service}
 use Rattle.nodes.specs.declared.node.Node.{Node}
 use Rattle.grow.proofs.Growth.{placed-longest}
 use Rattle.structure.specs.declared.card.Card.{Card}
 use Rattle.structure.specs.declared.card.Added.{Added}
 use Rattle.structure.specs.Card.{isSound, accepted, refused}
 use Rattle.structure.specs.Grow.{nodeAs, addArea, addService, setLimit}
-use Rattle.structure.specs.Built.{Built}
-use Rattle.structure.proofs.Decided.{made-sound, sound-made}
-use Rattle.structure.proofs.Made.{Made, made-used}
-use Rattle.structure.proofs.Cards.{cardOf, same-card, not-accepted, last-node, area-card, area-accepted, service-card, service-accepted, limit-card}
+use Rattle.built.specs.Built.{Built}
+use Rattle.built.proofs.Decided.{made-sound, sound-made}
+use Rattle.built.proofs.Made.{Made, made-used}
+use Rattle.built.proofs.Cards.{cardOf, same-card, not-accepted, last-node, area-card, area-accepted, service-card, service-accepted, limit-card}
 
 -- a card of nodes that were made
 pub data Carded : Card → Type 0 where

@@ -14,12 +14,12 @@ use Rattle.nodes.specs.declared.find.Found.the-variants.{At}
 use Rattle.nodes.specs.Node.{rootNode, isArea, endOf, startOf, blocksOf}
 use Rattle.nodes.specs.Find.{firstFrom, serviceOf, areaOf, sharedOf}
 use Rattle.nodes.proofs.Searches.{first-kept, first-map}
 use Rattle.structure.specs.declared.card.Card.{Card}
 use Rattle.structure.specs.Card.{nodesOf, accepted}
 use Rattle.structure.specs.Grow.{nodeAs, addArea, addService, setLimit}
-use Rattle.structure.specs.Built.{Built}
-use Rattle.structure.proofs.Built.{Follows, built-carded, area-follows, service-follows, limit-follows}
-use Rattle.structure.proofs.Laid.{nodeAt}
+use Rattle.built.specs.Built.{Built}
+use Rattle.built.proofs.Built.{Follows, built-carded, area-follows, service-follows, limit-follows}
+use Rattle.built.proofs.Laid.{nodeAt}
 
 -- a node as it was, but for its limit
 pub record Alike (n m : Node) : Type 0 where
