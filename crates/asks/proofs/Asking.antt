@@ -1,0 +1,96 @@
+-- What is known of the fields of a line that asks a read or a write. Assumes nothing.
+use Prim.Native.Nat.{ℕ, _≤_}
+use mathlib.Core.Path.{_≡_, refl}
+use mathlib.Core.Bool.{Bool, true, false, cond, _&&_, and-eq-true-iff}
+use mathlib.Core.List.{List}
+use native.Mathlib.Omega.{arith}
+use lib.Dec.{ltb, eqb}
+use lib.ListN.{length, getD}
+use borrow.Author.Tests.{ltb-false, eq-eqb, ne-eqb}
+use Rattle.fields.specs.Field.{split}
+use Rattle.decimals.specs.declared.Number.{Number}
+use Rattle.decimals.specs.declared.Number.the-variants.{Is, Bad}
+use Rattle.hex.specs.Hex.{hexField}
+use Rattle.hex.specs.Codes.{codesField}
+use Rattle.asks.specs.declared.ask.Ask.{Ask}
+use Rattle.asks.specs.declared.ask.Ask.the-variants.{Malformed, Read, Write}
+use Rattle.asks.specs.Ask.{fieldIn, isLetter, isOpen, hasKind, shaped, isWrite, countIn, readAsk, writeAsk, askOf}
+
+-- No letter, where there is not one byte.
+pub no-letter : (x : ℕ) (s : List ℕ) → (length s ≡ 1 → ⊥) → false ≡ isLetter x s
+unfolding isLetter
+no-letter x s h = rw (ne-eqb (length s) 1 h)
+
+-- Where there is, it is the letter or not.
+pub letter-first : (x : ℕ) (s : List ℕ) → length s ≡ 1 → eqb (getD s 0 0) x ≡ isLetter x s
+unfolding isLetter
+letter-first x s h = rw (eq-eqb (length s) 1 h)
+
+-- a line's length, and its codes and list
+pub record Fields (line : List ℕ) : Type 0 where
+  pub long : length line ≤ 32768
+  pub codes : codesField (fieldIn line 2) ≡ true
+  pub list : hexField (fieldIn line 4) ≡ true
+
+-- What a shape says.
+shape : (letter n : ℕ) (line : List ℕ) → ltb 32768 (length line) ≡ false → shaped letter n line ≡ true → Fields line
+unfolding shaped
+shape letter n line b e =
+    let k = and-eq-true-iff (isLetter letter (fieldIn line 0)) _ .0 e in
+    let f = and-eq-true-iff (eqb (length (split 9 line)) n) _ .0 (k .1) in
+    let g = and-eq-true-iff (hasKind line) _ .0 (f .1) in
+    let h = and-eq-true-iff (codesField (fieldIn line 2)) (hexField (fieldIn line 4)) .0 (g .1) in
+    record { long = ltb-false 32768 (length line) b; codes = h .0; list = h .1 }
+
+module _ {keyless : Bool} {count : ℕ} where
+  -- A malformed line asks no read.
+  no-read : {A : Type 0} → Malformed ≡ Read keyless count → A
+  no-read e = let z : _≡_ {A = ℕ} 0 1 = cc in absurd (omega arith)
+
+  -- Nor a write.
+  no-write : {A : Type 0} → Malformed ≡ Write keyless count → A
+  no-write e = let z : _≡_ {A = ℕ} 0 1 = cc in absurd (omega arith)
+
+  -- A write is no read.
+  write-no-read : {A : Type 0} (o : Bool) (m : Number) → writeAsk o m ≡ Read keyless count → A
+  write-no-read o (Is n) e = let z : _≡_ {A = ℕ} 0 1 = cc in absurd (omega arith)
+  write-no-read o Bad e = no-read e
+
+  -- A read is no write.
+  read-no-write : {A : Type 0} (o : Bool) (m : Number) → readAsk o m ≡ Write keyless count → A
+  read-no-write o (Is n) e = let z : _≡_ {A = ℕ} 0 1 = cc in absurd (omega arith)
+  read-no-write o Bad e = no-write e
+
+  -- The tests that a read has passed.
+  read-tests
+      : (b s w o : Bool) (m : Number) → cond b Malformed (cond s (readAsk o m) (cond w (writeAsk o m) Malformed)) ≡ Read keyless count
+      → (b ≡ false) × (s ≡ true)
+  read-tests true s w o m e = no-read e
+  read-tests false true w o m e = (refl, refl)
+  read-tests false false true o m e = write-no-read o m e
+  read-tests false false false o m e = no-read e
+
+  -- Those that a write has passed.
+  write-tests
+      : (b s w o : Bool) (m : Number) → cond b Malformed (cond s (readAsk o m) (cond w (writeAsk o m) Malformed)) ≡ Write keyless count
+      → (b ≡ false) × (w ≡ true)
+  write-tests true s w o m e = no-write e
+  write-tests false true w o m e = read-no-write o m e
+  write-tests false false true o m e = (refl, refl)
+  write-tests false false false o m e = no-write e
+
+  module _ (line : List ℕ) where
+    -- The fields of a read.
+    pub read-fields : askOf line ≡ Read keyless count → Fields line
+    unfolding askOf
+    read-fields e =
+        let t = read-tests (ltb 32768 (length line)) (shaped 82 5 line) (isWrite line) (isOpen line) (countIn line) e in
+        shape 82 5 line (t .0) (t .1)
+
+    -- Those of a write, which has data too.
+    pub write-fields : askOf line ≡ Write keyless count → Fields line × (hexField (fieldIn line 5) ≡ true)
+    unfolding askOf isWrite
+    write-fields e =
+        let t = write-tests (ltb 32768 (length line)) (shaped 82 5 line) (isWrite line) (isOpen line) (countIn line) e in
+        let d = and-eq-true-iff (shaped 87 6 line) (hexField (fieldIn line 5)) .0 (t .1) in
+        (shape 87 6 line (t .0) (d .0), d .1)

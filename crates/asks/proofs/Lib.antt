@@ -1,0 +1,3 @@
+-- What callers cite, and what this crate's proofs share.
+pub mod Asking
+mod Writing

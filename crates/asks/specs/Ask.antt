@@ -1,0 +1,65 @@
+-- What a request line asks. Its fields, from 0: `R` (82) or `W` (87), `O` (79) open or `S` (83) session, codes, element count, list, and
+-- for `W` data; exactly so many, and no more than 32,768 bytes in all.
+use Prim.Native.Nat.{ℕ}
+use mathlib.Core.Bool.{Bool, cond, _&&_, _||_}
+use mathlib.Core.List.{List, []}
+use lib.Dec.{ltb, eqb}
+use lib.ListN.{length, getD}
+use Rattle.fields.specs.Field.{split}
+use Rattle.decimals.specs.declared.Number.{Number}
+use Rattle.decimals.specs.declared.Number.the-variants.{Is, Bad}
+use Rattle.decimals.specs.Decimal.{decimal}
+use Rattle.hex.specs.Hex.{hexField}
+use Rattle.hex.specs.Codes.{codesField}
+use Rattle.asks.specs.declared.ask.Ask.{Ask}
+use Rattle.asks.specs.declared.ask.Ask.the-variants.{Malformed, Read, Write}
+
+-- field k of a line, parted by tabs (9)
+abbrev pub fieldIn : List ℕ → ℕ → List ℕ
+fieldIn line k = getD (split 9 line) k []
+
+-- whether a field is one letter
+unfoldable pub isLetter : ℕ → List ℕ → Bool
+isLetter x s = eqb (length s) 1 && eqb (getD s 0 0) x
+
+-- a line whose first field is `R` or `W` is a request
+unfoldable pub requestLine : List ℕ → Bool
+requestLine line = isLetter 82 (fieldIn line 0) || isLetter 87 (fieldIn line 0)
+
+-- an open request, `O`, may use no service that needs a key
+abbrev pub isOpen : List ℕ → Bool
+isOpen line = isLetter 79 (fieldIn line 1)
+
+-- open, or in a session: `S`
+unfoldable pub hasKind : List ℕ → Bool
+hasKind line = isOpen line || isLetter 83 (fieldIn line 1)
+
+-- whether a line has a first letter and n fields, and kind, codes and list are well formed
+unfoldable pub shaped : ℕ → ℕ → List ℕ → Bool
+shaped letter n line =
+    isLetter letter (fieldIn line 0)
+    && (eqb (length (split 9 line)) n
+    && (hasKind line
+    && (codesField (fieldIn line 2) && hexField (fieldIn line 4))))
+
+-- a write has data too
+unfoldable pub isWrite : List ℕ → Bool
+isWrite line = shaped 87 6 line && hexField (fieldIn line 5)
+
+-- an element count has 32 bits
+abbrev pub countIn : List ℕ → Number
+countIn line = decimal 4294967295 (fieldIn line 3)
+
+abbrev pub readAsk : Bool → Number → Ask
+readAsk keyless (Is count) = Read keyless count
+readAsk keyless Bad = Malformed
+
+abbrev pub writeAsk : Bool → Number → Ask
+writeAsk keyless (Is count) = Write keyless count
+writeAsk keyless Bad = Malformed
+
+unfoldable pub askOf : List ℕ → Ask
+askOf line =
+    cond (ltb 32768 (length line)) Malformed
+    (cond (shaped 82 5 line) (readAsk (isOpen line) (countIn line))
+    (cond (isWrite line) (writeAsk (isOpen line) (countIn line)) Malformed))

@@ -1,0 +1,3 @@
+// Request lines: what they ask, and the line that answers one.
+pub mod answer;
+pub mod ask;
