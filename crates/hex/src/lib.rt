@@ -52,7 +52,7 @@ fn byte(high: u8, low: u8) -> u8
 }
 
 // Puts the bytes of the hex field s into `out` from `at` on, and answers the place after them.
-fn put_bytes(s: &[u8], out: &mut [u8], at: usize) -> usize
+pub fn put_bytes(s: &[u8], out: &mut [u8], at: usize) -> usize
     requires { ⌜ (hexField (now s) ≡ true) × (at + length (now s) / 2 ≤ length (now out)) ⌝ }
     ensures { λ r. ⌜ r ≡ at + length (now (s .entry)) / 2 ⌝ }
     ensures { λ _. ⌜ now (out .exit) ≡ put (now (out .entry)) at (length (now (s .entry)) / 2) (unhex (now (s .entry))) ⌝ }
