@@ -1,8 +1,8 @@
 -- The frame laws of a request: it reads only the bytes of the stores that its rows hold, and changes only those. Assumes nothing.
 use Prim.Native.Nat.{ℕ, _+_, _*_, _≤_, _<_}
-use mathlib.Core.Path.{_≡_, refl}
+use mathlib.Core.Path.{_≡_, refl, ap₂, subst}
 use mathlib.Core.Bool.{Bool, true, false}
-use mathlib.Core.List.{List, [], _∷_}
+use mathlib.Core.List.{List, [], _∷_, _++_}
 use lib.ListN.{length, take}
 use Rattle.lists.specs.declared.element.BlockListElement.{BlockListElement}
 use Rattle.spans.specs.Part.{part}
@@ -113,7 +113,9 @@ module _ (P : ℕ → Type 0) where
       read-keeps a u [] h = refl
       read-keeps a u (e ∷ es) h =
           let w = rowIn rows e in
-          rw (part-same P a u (16 * w .start) (16 * w .blocks) h (λ i x y. m (e .index) i (x, y)), read-keeps a u es h)
+          ap₂ (λ (s l : List ℕ). part s (16 * e .number) 16 ++ l)
+          (part-same P a u (16 * w .start) (16 * w .blocks) h (λ i x y. m (e .index) i (x, y)))
+          (read-keeps a u es h)
 
       plan-keeps : (a u : List ℕ) (p : Plan) → Same P a u → Like (planServed c a r p) (planServed c u r p)
       unfolding carried committed
@@ -135,7 +137,9 @@ module _ (P : ℕ → Type 0) where
       -- A request is answered by the bytes of its own stores alone, and leaves them so. What it is refused goes by the arena's length.
       pub serve-keeps : (a u : List ℕ) → Same P a u → Like (serve c a r) (serve c u r)
       unfolding serve
-      serve-keeps a u h = rw (h .long) (plan-keeps a u (planOf c (length u) r) h)
+      serve-keeps a u h =
+          subst (λ n. Like (planServed c a r (planOf c (length a) r)) (planServed c u r (planOf c n r))) (h .long)
+          (plan-keeps a u (planOf c (length a) r) h)
 
     -- the request's stores lie outside P
     module _ (m : (j i : ℕ) → LiesIn (rowAtIndex rows j) i → P i → ⊥) where
