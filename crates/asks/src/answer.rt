@@ -20,8 +20,8 @@ fn put_mark(mark: u8, end: u8, out: &mut [u8], at: usize) -> usize
     at + 2
 }
 
-// The same of a decimal, which takes up to twenty bytes.
-fn put_number(n: u64, end: u8, out: &mut [u8], at: usize) -> usize
+// Puts a decimal, which takes up to twenty bytes, and the byte that ends its field, and answers the place after them.
+pub fn put_number(n: u64, end: u8, out: &mut [u8], at: usize) -> usize
     requires { ⌜ at + 21 ≤ length (now out) ⌝ }
     ensures { λ r. ⌜ (r ≡ at + length (ended end (decText n))) × (r ≤ at + 21) ⌝ }
     ensures { λ _. ⌜ now (out .exit) ≡ put (now (out .entry)) at (length (ended end (decText n))) (ended end (decText n)) ⌝ }

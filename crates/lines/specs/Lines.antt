@@ -1,0 +1,129 @@
+-- What a line of a replay text comes to: the replay after it, every lent buffer after it, and what it prints.
+use Prim.Native.Nat.{ℕ, _+_}
+use mathlib.Core.Bool.{Bool, true, false, cond}
+use mathlib.Core.List.{List, [], _∷_, _++_}
+use lib.Dec.{ltb, leb}
+use lib.ListN.{length}
+use Rattle.spans.specs.Part.{put}
+use Rattle.answers.specs.declared.refusal.Refusal.{Refusal}
+use Rattle.answers.specs.declared.refusal.Refusal.the-variants.{MalformedImage}
+use Rattle.answers.specs.Refusal.{refusalNumber}
+use Rattle.decimals.specs.Decimal.{decText}
+use Rattle.grow.specs.declared.Answer.{Answer}
+use Rattle.grow.specs.declared.Answer.the-variants as answers
+use Rattle.structure.specs.declared.card.Card.{Card}
+use Rattle.structure.specs.Card.{newCard}
+use Rattle.image.specs.Turn as images
+use Rattle.asks.specs.Ask.{requestLine}
+use Rattle.asks.specs.Answer.{ended}
+use Rattle.requests.specs.declared.Printed.{Printed}
+use Rattle.requests.specs.declared.Printed.the-variants.{Bytes, NoRoom}
+use Rattle.requests.specs.Line.{Carried, carriedLine, roomy}
+use Rattle.lines.specs.declared.Phase.{Phase}
+use Rattle.lines.specs.declared.Phase.the-variants.{First, Image, Requests, Ended}
+use Rattle.lines.specs.declared.Replay.{Replay}
+use Rattle.lines.specs.declared.Turn.{Turn}
+
+-- ahead of line 1 there is no card yet; an empty one stands in its place
+abbrev pub startOf : Replay
+startOf = record { card = newCard 0 0; phase = First; lines = 0; asked = 0 }
+
+-- line numbers and ordinals count from 1, as far as 64 bits hold
+unfoldable pub oneMore : ℕ → ℕ
+oneMore n = cond (ltb n 18446744073709551615) (n + 1) n
+
+-- `image` (105 109 97 103 101), line number, refusal number
+unfoldable pub refusalText : ℕ → Refusal → List ℕ
+refusalText line refusal =
+    ended 9 (105 ∷ 109 ∷ 97 ∷ 103 ∷ 101 ∷ []) ++ ended 9 (decText line) ++ ended 10 (decText (refusalNumber refusal))
+
+-- a text in front of a buffer
+abbrev pub printedIn : List ℕ → List ℕ → List ℕ
+printedIn out t = put out 0 (length t) t
+
+-- what comes of an image line
+pub record Imaged : Type 0 where
+  pub turn : Turn
+  pub arena : List ℕ
+  pub out : List ℕ
+
+-- an accepted one prints nothing; a refused one says so and ends the run
+abbrev pub imagedBy : Replay → List ℕ → List ℕ → Card → Answer → Imaged
+imagedBy p arena out card answers.Done = record {
+  turn = record { replay = record { card = card; phase = Image; lines = oneMore (p .lines); asked = p .asked }; printed = Bytes 0 };
+  arena = arena;
+  out = out;
+}
+imagedBy p arena out card (answers.Refused refusal) = record {
+  turn = record {
+    replay = record { card = card; phase = Ended; lines = oneMore (p .lines); asked = p .asked };
+    printed = Bytes (length (refusalText (oneMore (p .lines)) refusal));
+  };
+  arena = arena;
+  out = printedIn out (refusalText (oneMore (p .lines)) refusal);
+}
+
+abbrev pub imagedAs : Replay → List ℕ → images.Turn → Imaged
+imagedAs p out t = imagedBy p (t .arena) out (t .added .card) (t .added .answer)
+
+unfoldable pub imageCame : Bool → Replay → List ℕ → List ℕ → List ℕ → Imaged
+imageCame first p arena out line = imagedAs p out (images.imageTurn first (p .card) arena line)
+
+-- what comes of any line
+pub record Came : Type 0 where
+  pub turn : Turn
+  pub arena : List ℕ
+  pub work : List ℕ
+  pub bytes : List ℕ
+  pub out : List ℕ
+
+abbrev pub imaged : List ℕ → List ℕ → Imaged → Came
+imaged work bytes x = record { turn = x .turn; arena = x .arena; work = work; bytes = bytes; out = x .out }
+
+-- a request takes an ordinal; the card stays as built
+abbrev pub askedBy : Replay → Carried → Came
+askedBy p x = record {
+  turn = record {
+    replay = record { card = p .card; phase = Requests; lines = p .lines; asked = oneMore (p .asked) };
+    printed = x .printed;
+  };
+  arena = x .arena;
+  work = x .work;
+  bytes = x .bytes;
+  out = x .out;
+}
+
+abbrev pub askedCame : Replay → List ℕ → List ℕ → List ℕ → List ℕ → List ℕ → Came
+askedCame p arena work bytes out line = askedBy p (carriedLine (p .card) arena work bytes out line (oneMore (p .asked)))
+
+-- nothing changes
+abbrev pub stillAt : Replay → Printed → Turn
+stillAt p printed = record { replay = p; printed = printed }
+
+abbrev pub still : Printed → Replay → List ℕ → List ℕ → List ℕ → List ℕ → Came
+still printed p arena work bytes out = record { turn = stillAt p printed; arena = arena; work = work; bytes = bytes; out = out }
+
+-- line 1 is an image line; so is each other line before the first request; after that every line is one; none is read after the end
+abbrev pub phaseCame : Phase → Replay → List ℕ → List ℕ → List ℕ → List ℕ → List ℕ → Came
+phaseCame First p arena work bytes out line = imaged work bytes (imageCame true p arena out line)
+phaseCame Image p arena work bytes out line =
+    cond (requestLine line) (askedCame p arena work bytes out line) (imaged work bytes (imageCame false p arena out line))
+phaseCame Requests p arena work bytes out line = askedCame p arena work bytes out line
+phaseCame Ended p arena work bytes out line = still (Bytes 0) p arena work bytes out
+
+unfoldable pub lineCame : Replay → List ℕ → List ℕ → List ℕ → List ℕ → List ℕ → Came
+lineCame p arena work bytes out line =
+    cond (roomy bytes out) (phaseCame (p .phase) p arena work bytes out line) (still NoRoom p arena work bytes out)
+
+-- the end of a text: empty input is refused at line 1
+abbrev pub finishText : Phase → List ℕ
+finishText First = refusalText 1 MalformedImage
+finishText Image = []
+finishText Requests = []
+finishText Ended = []
+
+unfoldable pub finished : Replay → List ℕ → Printed
+finished p out = cond (leb 16448 (length out)) (Bytes (length (finishText (p .phase)))) NoRoom
+
+unfoldable pub finishOut : Replay → List ℕ → List ℕ
+finishOut p out = cond (leb 16448 (length out)) (printedIn out (finishText (p .phase))) out
