@@ -6,9 +6,9 @@ use lib.Dec.{eqb}
 use Rattle.answers.specs.Refusal.{refusalNumber}
 use Rattle.decimals.specs.Decimal.{decText}
 use Rattle.hex.specs.Hex.{hexText}
-use Rattle.system.specs.declared.plan.Reply.{Reply}
-use Rattle.system.specs.declared.plan.Reply.the-variants.{Refused, Done, ShortData, Failed}
-use Rattle.system.specs.Request.{flag1, flag2}
+use Rattle.plan.specs.declared.Reply.{Reply}
+use Rattle.plan.specs.declared.Reply.the-variants.{Refused, Done, ShortData, Failed}
+use Rattle.plan.specs.Request.{flag1, flag2}
 
 -- a field and the byte that ends it
 abbrev pub ended : ℕ → List ℕ → List ℕ

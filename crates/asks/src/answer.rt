@@ -1,5 +1,5 @@
 // The line that answers a request.
-use system::plan::Reply;
+use plan::Reply;
 ghost use mathlib.Core.Path.{_≡_};
 ghost use mathlib.Core.List.{[], _∷_};
 ghost use Prim.Native.Nat.{_+_, _≤_};

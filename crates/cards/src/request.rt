@@ -2,10 +2,9 @@
 use crate::codes::codes;
 use crate::spelt;
 use grow::Answer;
+use plan::Reply;
 use stored::number16;
 use structure::card::Card;
-use system::block;
-use system::plan::Reply;
 use system::read;
 use system::write;
 

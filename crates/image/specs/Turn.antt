@@ -11,7 +11,7 @@ use Rattle.structure.specs.declared.card.Card.{Card}
 use Rattle.structure.specs.declared.card.Added.{Added}
 use Rattle.structure.specs.Card.{newCard, accepted, refused}
 use Rattle.structure.specs.Build.{areaAdded, serviceAdded, arenaAdded, limitAdded}
-use Rattle.system.specs.Block.{blockJudged, arenaSet}
+use Rattle.block.specs.Block.{blockJudged, arenaSet}
 use Rattle.image.specs.declared.line.Line.{Line}
 use Rattle.image.specs.declared.line.Line.the-variants.{Malformed, Card as New, Area, Service, Limit, Block}
 use Rattle.image.specs.Line.{imageLine}

@@ -5,13 +5,13 @@ use hex::put_bytes;
 use grow::Answer;
 use structure::card::Added;
 use structure::card::Card;
-use system::block::set_block;
+use block::set_block;
 use answers::refusal::Refusal;
 ghost use mathlib.Core.Path.{_≡_};
 ghost use mathlib.Core.Bool.{true};
 ghost use lib.ListN.{length};
 ghost use Rattle.hex.specs.Hex.{unhex};
-ghost use Rattle.system.specs.Block.{blockJudged, arenaSet};
+ghost use Rattle.block.specs.Block.{blockJudged, arenaSet};
 ghost use Rattle.image.specs.Line.{hex32};
 ghost use Rattle.image.specs.Turn.{imageTurn, answered};
 

@@ -1,7 +1,7 @@
 // A race's card: the marshal writes lane 1 through a read/write service, the finish tower reads it through a read-only
 // service of the same number. A late redraw in between is what the tower then reads.
+use plan::Reply;
 use structure::card::Card;
-use system::plan::Reply;
 use system::read;
 use system::write;
 

@@ -13,10 +13,10 @@ use Rattle.spans.proofs.Part.{put-zero}
 use Rattle.fields.proofs.FieldLaws.{field-long, fields-long}
 use Rattle.hex.proofs.HexLaws.{length-unhex}
 use Rattle.structure.specs.declared.card.Card.{Card}
-use Rattle.system.specs.declared.plan.Reply.{Reply}
-use Rattle.system.specs.declared.plan.Reply.the-variants.{Refused}
-use Rattle.system.specs.Request.{readRequest, writeRequest}
-use Rattle.system.specs.Serve.{Served, serve, outputAfter, stagingBy}
+use Rattle.plan.specs.declared.Reply.{Reply}
+use Rattle.plan.specs.declared.Reply.the-variants.{Refused}
+use Rattle.plan.specs.Request.{readRequest, writeRequest}
+use Rattle.plan.specs.Serve.{Served, serve, outputAfter, stagingBy}
 use Rattle.asks.specs.declared.ask.Ask.{Ask}
 use Rattle.asks.specs.declared.ask.Ask.the-variants.{Malformed, Read, Write}
 use Rattle.asks.specs.Ask.{fieldIn, askOf}

@@ -26,15 +26,15 @@ use Rattle.checks.specs.Check.{checkedFrom}
 use Rattle.runs.specs.Runs.{Walked, bad, good}
 use Rattle.runs.specs.Rules.{staged}
 use Rattle.runs.specs.Ready.{AllReady}
-use Rattle.system.specs.declared.plan.Reply.{Reply}
-use Rattle.system.specs.declared.plan.Judged.{Judged}
-use Rattle.system.specs.declared.plan.Judged.the-variants.{Refused as NotFit, ShortData as NoData, Fit}
-use Rattle.system.specs.declared.plan.Reply.the-variants.{Refused}
-use Rattle.system.specs.Request.{Request, readRequest, writeRequest}
-use Rattle.system.specs.Plan.{judgedBy, lengthsOf, judgedOf, rowsIn, elementsIn, checkedPlan, judgedPlan, planOf}
-use Rattle.system.specs.Serve.{Served, told, storeIn, blocksRead, committed, carried, planServed, serve}
-use Rattle.system.proofs.Ready.{fits, all-ready}
-use Rattle.system.proofs.Serves.{refused}
+use Rattle.plan.specs.declared.Reply.{Reply}
+use Rattle.plan.specs.declared.Judged.{Judged}
+use Rattle.plan.specs.declared.Judged.the-variants.{Refused as NotFit, ShortData as NoData, Fit}
+use Rattle.plan.specs.declared.Reply.the-variants.{Refused}
+use Rattle.plan.specs.Request.{Request, readRequest, writeRequest}
+use Rattle.plan.specs.Plan.{judgedBy, lengthsOf, judgedOf, rowsIn, elementsIn, checkedPlan, judgedPlan, planOf}
+use Rattle.plan.specs.Serve.{Served, told, storeIn, blocksRead, committed, carried, planServed, serve}
+use Rattle.plan.proofs.Ready.{fits, all-ready}
+use Rattle.plan.proofs.Serves.{refused}
 use Rattle.requests.specs.Line.{readLong}
 
 -- Elements that are ready name sixteen bytes each.

@@ -9,10 +9,10 @@ use Rattle.spans.specs.Part.{put}
 use Rattle.hex.specs.Hex.{unhex}
 use Rattle.hex.specs.Codes.{codesOf}
 use Rattle.structure.specs.declared.card.Card.{Card}
-use Rattle.system.specs.declared.plan.Reply.{Reply}
-use Rattle.system.specs.declared.plan.Reply.the-variants.{Refused, Done, ShortData, Failed}
-use Rattle.system.specs.Request.{readRequest, writeRequest}
-use Rattle.system.specs.Serve.{Served, told, serve, outputAfter, stagingBy}
+use Rattle.plan.specs.declared.Reply.{Reply}
+use Rattle.plan.specs.declared.Reply.the-variants.{Refused, Done, ShortData, Failed}
+use Rattle.plan.specs.Request.{readRequest, writeRequest}
+use Rattle.plan.specs.Serve.{Served, told, serve, outputAfter, stagingBy}
 use Rattle.asks.specs.declared.ask.Ask.{Ask}
 use Rattle.asks.specs.declared.ask.Ask.the-variants.{Malformed, Read, Write}
 use Rattle.asks.specs.Ask.{fieldIn, askOf}

@@ -3,7 +3,7 @@ use asks::answer;
 use asks::ask;
 use asks::ask::Ask;
 use structure::card::Card;
-use system::plan::Reply;
+use plan::Reply;
 use system::read;
 use system::write;
 use answers::refusal::Refusal;

@@ -16,7 +16,7 @@ use Rattle.spans.proofs.Part.{length-part, length-put, put-zero, put-take, part
 use Rattle.checks.specs.declared.row.Row.{Row}
 use Rattle.checks.specs.Row.{rowIn}
 use Rattle.runs.specs.Ready.{Ready, AllReady}
-use Rattle.system.specs.Serve.{storeIn, blocksRead}
+use Rattle.plan.specs.Serve.{storeIn, blocksRead}
 
 -- bytes put from a place on
 abbrev pub filled : List ℕ → ℕ → List ℕ → List ℕ

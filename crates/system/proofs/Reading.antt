@@ -16,13 +16,13 @@ use Rattle.checks.specs.Row.{rowsOf, tableOf}
 use Rattle.checks.specs.Check.{checkedFrom}
 use Rattle.checks.proofs.Laws.{table-rows}
 use Rattle.runs.specs.Ready.{AllReady}
-use Rattle.system.specs.declared.plan.Reply.the-variants.{Done, Failed}
-use Rattle.system.specs.declared.plan.Judged.the-variants.{Fit}
-use Rattle.system.specs.Request.{Request, readRequest}
-use Rattle.system.specs.Plan.{lengthsOf, judgedOf}
-use Rattle.system.specs.Serve.{blocksRead, carried, serve, outputAfter}
-use Rattle.system.proofs.Ready.{Fitting, fits, all-ready}
-use Rattle.system.proofs.Serves.{failed, passed, unread}
+use Rattle.plan.specs.declared.Reply.the-variants.{Done, Failed}
+use Rattle.plan.specs.declared.Judged.the-variants.{Fit}
+use Rattle.plan.specs.Request.{Request, readRequest}
+use Rattle.plan.specs.Plan.{lengthsOf, judgedOf}
+use Rattle.plan.specs.Serve.{blocksRead, carried, serve, outputAfter}
+use Rattle.plan.proofs.Ready.{Fitting, fits, all-ready}
+use Rattle.plan.proofs.Serves.{failed, passed, unread}
 
 module _ (c : Card) (a out : List ℕ) (keyless : Bool) (codes : List ℕ) (count : ℕ) (list : List ℕ)
     (j : judgedOf c (length a) (readRequest keyless codes count list (length out)) ≡ Fit) {t : Table} (made : t ≡ tableOf (nodesOf c) codes)

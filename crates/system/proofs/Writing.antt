@@ -28,16 +28,16 @@ use Rattle.runs.specs.declared.run.Applied.the-variants.{Done as AllDone, Faile
 use Rattle.runs.specs.Runs.{Walked, bad, good}
 use Rattle.runs.specs.Rules.{staged}
 use Rattle.runs.specs.Ready.{AllReady, walkedTo}
-use Rattle.system.specs.declared.plan.Lengths.{Lengths}
-use Rattle.system.specs.declared.plan.Judged.the-variants.{Refused as NotFit, ShortData as NoData, Fit}
-use Rattle.system.specs.declared.plan.Reply.{Reply}
-use Rattle.system.specs.declared.plan.Reply.the-variants.{Done, Failed}
-use Rattle.system.specs.Request.{Request}
-use Rattle.system.specs.Plan.{lentJudged, judgedBy, lengthsOf, judgedOf, rowsIn, elementsIn, checkedPlan, planOf}
-use Rattle.system.specs.Serve.{Served, told, committed, carried, planServed, serve, stagingBy}
-use Rattle.system.proofs.Tests.{held, unheld}
-use Rattle.system.proofs.Ready.{Fitting, fits, all-ready}
-use Rattle.system.proofs.Serves.{failed, passed}
+use Rattle.plan.specs.declared.Lengths.{Lengths}
+use Rattle.plan.specs.declared.Judged.the-variants.{Refused as NotFit, ShortData as NoData, Fit}
+use Rattle.plan.specs.declared.Reply.{Reply}
+use Rattle.plan.specs.declared.Reply.the-variants.{Done, Failed}
+use Rattle.plan.specs.Request.{Request}
+use Rattle.plan.specs.Plan.{lentJudged, judgedBy, lengthsOf, judgedOf, rowsIn, elementsIn, checkedPlan, planOf}
+use Rattle.plan.specs.Serve.{Served, told, committed, carried, planServed, serve, stagingBy}
+use Rattle.plan.proofs.Tests.{held, unheld}
+use Rattle.plan.proofs.Ready.{Fitting, fits, all-ready}
+use Rattle.plan.proofs.Serves.{failed, passed}
 
 -- the staging s, once `size` bytes of the arena a were copied over its old bytes g
 module _ (a g s : List ℕ) (size : ℕ) (fa : size ≤ length a) (fg : size ≤ length g) (e : s ≡ put g 0 size (drop 0 a)) where

@@ -1,5 +1,3 @@
-// Whole requests: reads and writes on a finished card, and its stored blocks one by one.
-pub mod block;
-pub mod plan;
+// Whole requests: reads and writes on a finished card.
 pub mod read;
 pub mod write;

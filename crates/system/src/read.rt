@@ -1,14 +1,13 @@
 // Reading: all elements are checked, then their blocks copied (`validate_read_block` of the Rust).
-use crate::plan;
-use crate::plan::Judged;
-use crate::plan::Lengths;
-use crate::plan::Reply;
 use checks::check;
 use checks::check::Checked;
 use checks::row;
 use checks::row::Table;
 use lists::element;
 use lists::element::Unpacked;
+use plan::Judged;
+use plan::Lengths;
+use plan::Reply;
 use structure::card::Card;
 ghost use mathlib.Core.Path.{_≡_};
 ghost use Prim.Native.Nat.{_*_, _≤_};
@@ -16,8 +15,8 @@ ghost use lib.ListN.{length, take};
 ghost use Rattle.lists.specs.Element.{elementsFrom};
 ghost use Rattle.spans.specs.Part.{put};
 ghost use Rattle.runs.specs.Ready.{AllReady};
-ghost use Rattle.system.specs.Request.{readRequest};
-ghost use Rattle.system.specs.Serve.{blocksRead, serve, outputAfter};
+ghost use Rattle.plan.specs.Request.{readRequest};
+ghost use Rattle.plan.specs.Serve.{blocksRead, serve, outputAfter};
 
 // Copies the blocks that the elements name to the front of the output.
 fn copy_blocks(out: &mut [u8], arena: &[u8], table: Table, list: &[u8], count: usize)

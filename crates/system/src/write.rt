@@ -1,12 +1,11 @@
 // Writing: all elements are checked, then the runs work on staged stores, which are committed only if every run passes.
-use crate::plan;
-use crate::plan::Judged;
-use crate::plan::Lengths;
-use crate::plan::Reply;
 use checks::check;
 use checks::check::Checked;
 use checks::row;
 use checks::row::Table;
+use plan::Judged;
+use plan::Lengths;
+use plan::Reply;
 use runs::run;
 use runs::run::Applied;
 use structure::card::Card;
@@ -16,10 +15,10 @@ ghost use lib.ListN.{length, take, drop};
 ghost use Rattle.lists.specs.Element.{elementsFrom};
 ghost use Rattle.runs.specs.Rules.{staged};
 ghost use Rattle.runs.specs.Ready.{AllReady};
-ghost use Rattle.system.specs.declared.plan.Judged.the-variants.{Fit};
-ghost use Rattle.system.specs.Request.{writeRequest};
-ghost use Rattle.system.specs.Plan.{judgedOf};
-ghost use Rattle.system.specs.Serve.{serve, committed, stagingBy};
+ghost use Rattle.plan.specs.declared.Judged.the-variants.{Fit};
+ghost use Rattle.plan.specs.Request.{writeRequest};
+ghost use Rattle.plan.specs.Plan.{judgedOf};
+ghost use Rattle.plan.specs.Serve.{serve, committed, stagingBy};
 
 // The runs on the staged stores; the arena takes them over if every run passes.
 fn carry_out(

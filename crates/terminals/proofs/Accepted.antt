@@ -20,14 +20,14 @@ use Rattle.checks.specs.Check.{checkedFrom}
 use Rattle.checks.proofs.Laws.{AllPass, all-pass, Good, good}
 use Rattle.runs.specs.Runs.{Walked, bad, good as walked}
 use Rattle.runs.specs.Rules.{staged}
-use Rattle.system.specs.declared.plan.Reply.the-variants.{Done, Failed}
-use Rattle.system.specs.declared.plan.Judged.{Judged}
-use Rattle.system.specs.declared.plan.Judged.the-variants.{Refused as NotFit, ShortData as NoData, Fit}
-use Rattle.system.specs.Request.{Request}
-use Rattle.system.specs.Plan.{Plan, stop, go, planOf, rowsIn, elementsIn, lengthsOf, judgedOf, judgedPlan, checkedPlan}
-use Rattle.system.specs.Serve.{Served, blocksRead, committed, carried, planServed, serve}
-use Rattle.system.proofs.Ready.{Fitting, fits}
-use Rattle.system.proofs.Serves.{passed}
+use Rattle.plan.specs.declared.Reply.the-variants.{Done, Failed}
+use Rattle.plan.specs.declared.Judged.{Judged}
+use Rattle.plan.specs.declared.Judged.the-variants.{Refused as NotFit, ShortData as NoData, Fit}
+use Rattle.plan.specs.Request.{Request}
+use Rattle.plan.specs.Plan.{Plan, stop, go, planOf, rowsIn, elementsIn, lengthsOf, judgedOf, judgedPlan, checkedPlan}
+use Rattle.plan.specs.Serve.{Served, blocksRead, committed, carried, planServed, serve}
+use Rattle.plan.proofs.Ready.{Fitting, fits}
+use Rattle.plan.proofs.Serves.{passed}
 use Rattle.terminals.specs.Last.{elementAt, codeAt, NamesBlock}
 use Rattle.terminals.proofs.Owned.{Owner, good-owner}
 

@@ -29,10 +29,10 @@ use Rattle.checks.specs.Check.{modeAllowed, attributeCheck, rowCheck, elementCh
 use Rattle.runs.specs.Runs.{then, push, runsOf, scan, walk}
 use Rattle.runs.specs.Lens.{back, within}
 use Rattle.runs.specs.Rules.{cashbackIn, elementBy, endBy, onStore, staged}
-use Rattle.system.specs.declared.plan.Reply.the-variants.{Refused, Done, Failed}
-use Rattle.system.specs.Request.{Request, readRequest, writeRequest}
-use Rattle.system.specs.Plan.{lentJudged, judgedBy, planOf}
-use Rattle.system.specs.Serve.{blocksRead, committed, carried, serve, outputAfter}
+use Rattle.plan.specs.declared.Reply.the-variants.{Refused, Done, Failed}
+use Rattle.plan.specs.Request.{Request, readRequest, writeRequest}
+use Rattle.plan.specs.Plan.{lentJudged, judgedBy, planOf}
+use Rattle.plan.specs.Serve.{blocksRead, committed, carried, serve, outputAfter}
 use Rattle.terminals.specs.Orders.{Sent, by, one, two, only, all, after, answers, told, Undisturbed}
 use Rattle.terminals.specs.Two.{Answer, answerOf, arenaAfter, Any, Names, NoneShared}
 use Rattle.terminals.specs.Last.{arenaThen, Redrawn}

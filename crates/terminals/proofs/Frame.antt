@@ -13,10 +13,10 @@ use Rattle.checks.specs.Row.{rowAtIndex, rowIn, numberIn}
 use Rattle.runs.specs.Runs.{Walked, bad, good, then, runsOf}
 use Rattle.runs.specs.Lens.{back, within}
 use Rattle.runs.specs.Rules.{onStore, atIndex, elementOn, endOn, staged}
-use Rattle.system.specs.declared.plan.Reply.the-variants.{Failed}
-use Rattle.system.specs.Request.{Request}
-use Rattle.system.specs.Plan.{Plan, stop, go, planOf, rowsIn}
-use Rattle.system.specs.Serve.{Served, blocksRead, committed, carried, planServed, serve}
+use Rattle.plan.specs.declared.Reply.the-variants.{Failed}
+use Rattle.plan.specs.Request.{Request}
+use Rattle.plan.specs.Plan.{Plan, stop, go, planOf, rowsIn}
+use Rattle.plan.specs.Serve.{Served, blocksRead, committed, carried, planServed, serve}
 use Rattle.terminals.proofs.Same.{Same, same-refl, same-trans, same-take, part-same, put-same, put-spare, front-same, front-spare}
 use Rattle.terminals.proofs.Walks.{walk-is}
 

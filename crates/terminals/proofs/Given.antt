@@ -14,11 +14,11 @@ use Rattle.structure.specs.declared.card.Card.{Card}
 use Rattle.checks.specs.declared.row.Row.{Row}
 use Rattle.checks.specs.Row.{rowIn}
 use Rattle.runs.specs.Ready.{Ready, AllReady}
-use Rattle.system.specs.declared.plan.Reply.the-variants.{Done}
-use Rattle.system.specs.Request.{Request}
-use Rattle.system.specs.Plan.{rowsIn, elementsIn}
-use Rattle.system.specs.Serve.{storeIn, blocksRead, serve, outputAfter}
-use Rattle.system.proofs.Ready.{all-ready}
+use Rattle.plan.specs.declared.Reply.the-variants.{Done}
+use Rattle.plan.specs.Request.{Request}
+use Rattle.plan.specs.Plan.{rowsIn, elementsIn}
+use Rattle.plan.specs.Serve.{storeIn, blocksRead, serve, outputAfter}
+use Rattle.plan.proofs.Ready.{all-ready}
 use Rattle.terminals.specs.Last.{elementAt}
 use Rattle.terminals.proofs.Accepted.{accepted, nothing, counted, blocks-given}
 use Rattle.terminals.proofs.Stored.{part-of-put}

@@ -10,9 +10,9 @@ use Rattle.structure.specs.declared.card.Card.{Card}
 use Rattle.structure.specs.Card.{nodesOf}
 use Rattle.built.specs.Built.{Built}
 use Rattle.built.proofs.Laid.{laid, sized}
-use Rattle.system.specs.declared.plan.Reply.the-variants.{Done}
-use Rattle.system.specs.Request.{Request}
-use Rattle.system.specs.Serve.{serve}
+use Rattle.plan.specs.declared.Reply.the-variants.{Done}
+use Rattle.plan.specs.Request.{Request}
+use Rattle.plan.specs.Serve.{serve}
 use Rattle.terminals.specs.Orders.{after}
 use Rattle.terminals.specs.Two.{Names, answerOf, arenaAfter}
 use Rattle.terminals.specs.Last.{Quiet, arenaThen, TowerReads}

@@ -7,7 +7,7 @@ use mathlib.Core.List.{List, [], _∷_, _++_, map}
 use mathlib.Core.Logic.{inl, inr}
 use Rattle.structure.specs.declared.card.Card.{Card}
 use Rattle.built.specs.Built.{Built}
-use Rattle.system.specs.Serve.{stagingBy}
+use Rattle.plan.specs.Serve.{stagingBy}
 use Rattle.terminals.specs.Orders.{Terminal, one, two, Sent, by, only, all, after, answers, told, Undisturbed}
 use Rattle.terminals.specs.Two.{Answer, outputOf, stagingOf, Any, Names, NoneShared}
 use Rattle.terminals.specs.Runs.{Call, reads, writes, requestOf, Left, Did, Turn, Ran, callsOf, requestsOf, TwoRuns}

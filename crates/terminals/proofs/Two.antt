@@ -9,9 +9,9 @@ use Rattle.structure.specs.Card.{nodesOf}
 use Rattle.built.specs.Built.{Built}
 use Rattle.built.proofs.Laid.{Laid, laid}
 use Rattle.checks.specs.Row.{rowAtIndex}
-use Rattle.system.specs.Request.{Request}
-use Rattle.system.specs.Plan.{rowsIn}
-use Rattle.system.specs.Serve.{serve, outputAfter, stagingBy}
+use Rattle.plan.specs.Request.{Request}
+use Rattle.plan.specs.Plan.{rowsIn}
+use Rattle.plan.specs.Serve.{serve, outputAfter, stagingBy}
 use Rattle.terminals.specs.Orders.{Terminal, one, two, Sent, only, Undisturbed}
 use Rattle.terminals.specs.Two.{Answer, answerOf, outputOf, stagingOf, arenaAfter, Any, Names, TwoTerminals}
 use Rattle.terminals.proofs.Generic.{All, other, Views, undisturbed}

@@ -19,11 +19,11 @@ use Rattle.built.proofs.Laid.{laid}
 use Rattle.checks.specs.declared.row.Row.{Row}
 use Rattle.checks.specs.Row.{rowIn}
 use Rattle.checks.proofs.Laws.{AllPass, good}
-use Rattle.system.specs.declared.plan.Reply.the-variants.{Done}
-use Rattle.system.specs.Request.{Request}
-use Rattle.system.specs.Plan.{rowsIn, elementsIn}
-use Rattle.system.specs.Serve.{serve}
-use Rattle.system.proofs.Ready.{rows-within}
+use Rattle.plan.specs.declared.Reply.the-variants.{Done}
+use Rattle.plan.specs.Request.{Request}
+use Rattle.plan.specs.Plan.{rowsIn, elementsIn}
+use Rattle.plan.specs.Serve.{serve}
+use Rattle.plan.proofs.Ready.{rows-within}
 use Rattle.terminals.specs.Two.{arenaAfter}
 use Rattle.terminals.specs.Last.{elementAt, codeAt, LastBrings}
 use Rattle.terminals.proofs.Owned.{Owner}

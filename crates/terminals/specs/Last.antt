@@ -10,10 +10,10 @@ use Rattle.types.specs.Code.{numberOf, codeKindOf}
 use Rattle.spans.specs.Part.{part}
 use Rattle.lists.specs.declared.element.BlockListElement.{BlockListElement}
 use Rattle.structure.specs.declared.card.Card.{Card}
-use Rattle.system.specs.declared.plan.Reply.the-variants.{Done}
-use Rattle.system.specs.Request.{Request}
-use Rattle.system.specs.Plan.{elementsIn}
-use Rattle.system.specs.Serve.{serve, outputAfter}
+use Rattle.plan.specs.declared.Reply.the-variants.{Done}
+use Rattle.plan.specs.Request.{Request}
+use Rattle.plan.specs.Plan.{elementsIn}
+use Rattle.plan.specs.Serve.{serve, outputAfter}
 use Rattle.terminals.specs.Orders.{after}
 use Rattle.terminals.specs.Two.{answerOf, arenaAfter, Names}
 

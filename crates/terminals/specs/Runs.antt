@@ -5,9 +5,9 @@ use mathlib.Core.List.{List, [], _∷_, _++_, map}
 use mathlib.Core.Path.{_≡_}
 use lib.ListN.{length}
 use Rattle.structure.specs.declared.card.Card.{Card}
-use Rattle.system.specs.declared.plan.Reply.{Reply}
-use Rattle.system.specs.Request.{Request, readRequest, writeRequest}
-use Rattle.system.specs.Serve.{serve, outputAfter, stagingBy}
+use Rattle.plan.specs.declared.Reply.{Reply}
+use Rattle.plan.specs.Request.{Request, readRequest, writeRequest}
+use Rattle.plan.specs.Serve.{serve, outputAfter, stagingBy}
 use Rattle.terminals.specs.Orders.{Sent, one, two, only, all}
 use Rattle.terminals.specs.Two.{NoneShared}
 

@@ -7,9 +7,9 @@ use lib.ListN.{length}
 use Rattle.types.specs.Code.{numberOf}
 use Rattle.spans.specs.Part.{put}
 use Rattle.structure.specs.declared.card.Card.{Card}
-use Rattle.system.specs.declared.plan.Reply.{Reply}
-use Rattle.system.specs.Request.{Request}
-use Rattle.system.specs.Serve.{serve, stagingBy}
+use Rattle.plan.specs.declared.Reply.{Reply}
+use Rattle.plan.specs.Request.{Request}
+use Rattle.plan.specs.Serve.{serve, stagingBy}
 use Rattle.terminals.specs.Orders.{Sent, one, two, only, Undisturbed}
 
 -- what the caller of a request is told: the reply and the bytes read

@@ -3,10 +3,10 @@ use mathlib.Core.Path.{_≡_, sym, _∙_}
 use lib.ListN.{length, length-map}
 use denote.Ref.{now}
 use borrow.Author.Needs.{needs}
-use Rattle.system.specs.declared.plan.Judged.the-variants.{Fit}
-use Rattle.system.specs.Request.{readRequest}
-use Rattle.system.specs.Plan.{judgedOf}
-use Rattle.system.proofs.Serves.{refused, short, unread}
+use Rattle.plan.specs.declared.Judged.the-variants.{Fit}
+use Rattle.plan.specs.Request.{readRequest}
+use Rattle.plan.specs.Plan.{judgedOf}
+use Rattle.plan.proofs.Serves.{refused, short, unread}
 use Rattle.system.proofs.Reading.{read-failed, read-ready, read-done}
 use Rattle.system.proofs.read.read.Statement.{statement}
 use Rattle.system.proofs.read.read.Tie as tie

@@ -4,7 +4,7 @@ use native.Mathlib.Omega.{arith}
 use lib.ListN.{length, length-map}
 use denote.Ref.{now}
 use borrow.Author.Needs.{needs}
-use Rattle.system.specs.Request.{writeRequest}
+use Rattle.plan.specs.Request.{writeRequest}
 use Rattle.system.proofs.Writing.{stores-fit, write-failed, write-ready, write-done}
 use Rattle.system.proofs.write.checked_write.Statement.{statement}
 use Rattle.system.proofs.write.checked_write.Tie as tie

@@ -4,10 +4,10 @@ use native.Mathlib.Omega.{arith}
 use lib.ListN.{length}
 use denote.Ref.{now}
 use borrow.Author.Needs.{needs}
-use Rattle.system.specs.declared.plan.Judged.the-variants.{ShortData as NoData, Fit}
-use Rattle.system.specs.Request.{writeRequest}
-use Rattle.system.specs.Plan.{judgedOf}
-use Rattle.system.proofs.Serves.{refused, short}
+use Rattle.plan.specs.declared.Judged.the-variants.{ShortData as NoData, Fit}
+use Rattle.plan.specs.Request.{writeRequest}
+use Rattle.plan.specs.Plan.{judgedOf}
+use Rattle.plan.proofs.Serves.{refused, short}
 use Rattle.system.proofs.Writing.{unchanged, stores-fit, wiped, short-fits}
 use Rattle.system.proofs.write.write.Statement.{statement}
 use Rattle.system.proofs.write.write.Tie as tie

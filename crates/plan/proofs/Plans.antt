@@ -1,0 +1,79 @@
+-- What `lentJudged` and `judgedBy` are in each of their cases.
+use mathlib.Core.Path.{_≡_}
+use mathlib.Core.Bool.{Bool, true, false}
+use mathlib.Core.List.{List}
+use Prim.Native.Nat.{ℕ, _*_, _/_, _≤_, _<_}
+use native.Mathlib.Omega.{arith}
+use borrow.Author.Tests.{lt-ltb, le-ltb}
+use Rattle.answers.specs.declared.refusal.Refusal.the-variants.{TooManyElements, TooManyCodes, ListLength, ShortStaging, ShortOutput, ShortArena, NotBuilt}
+use Rattle.lists.specs.Element.{endsAfter}
+use Rattle.structure.specs.declared.card.Card.{Card}
+use Rattle.structure.specs.Card.{isSound}
+use Rattle.plan.specs.declared.Lengths.{Lengths}
+use Rattle.plan.specs.declared.Judged.{Judged}
+use Rattle.plan.specs.declared.Judged.the-variants.{Refused as NotFit, ShortData as NoData, Fit}
+use Rattle.plan.specs.Plan.{lentJudged, judgedBy}
+
+module _ (used count arena sent room : ℕ) where
+  -- the blocks in use do not fit the arena
+  pub short-arena : (write : Bool) → arena / 16 < used → NotFit ShortArena ≡ lentJudged used write count arena sent room
+  unfolding lentJudged
+  short-arena write h = rw (lt-ltb arena (16 * used) (omega arith))
+
+  module _ {write : Bool} (a : used ≤ arena / 16) where
+    -- nor the staging
+    pub short-staging : write ≡ true → room / 16 < used → NotFit ShortStaging ≡ lentJudged used write count arena sent room
+    unfolding lentJudged
+    short-staging w h = rw (le-ltb arena (16 * used) (omega arith), w, lt-ltb room (16 * used) (omega arith))
+
+    -- too few data
+    pub short-data : write ≡ true → used ≤ room / 16 → sent / 16 < count → NoData ≡ lentJudged used write count arena sent room
+    unfolding lentJudged
+    short-data w r h =
+        rw (le-ltb arena (16 * used) (omega arith), w, le-ltb room (16 * used) (omega arith), lt-ltb sent (16 * count) (omega arith))
+
+    -- a write that fits
+    pub write-fits : write ≡ true → used ≤ room / 16 → count ≤ sent / 16 → Fit ≡ lentJudged used write count arena sent room
+    unfolding lentJudged
+    write-fits w r h =
+        rw (le-ltb arena (16 * used) (omega arith), w, le-ltb room (16 * used) (omega arith), le-ltb sent (16 * count) (omega arith))
+
+    -- too short an output
+    pub short-output : write ≡ false → room / 16 < count → NotFit ShortOutput ≡ lentJudged used write count arena sent room
+    unfolding lentJudged
+    short-output w h = rw (le-ltb arena (16 * used) (omega arith), w, lt-ltb room (16 * count) (omega arith))
+
+    -- a read that fits
+    pub read-fits : write ≡ false → count ≤ room / 16 → Fit ≡ lentJudged used write count arena sent room
+    unfolding lentJudged
+    read-fits w h = rw (le-ltb arena (16 * used) (omega arith), w, le-ltb room (16 * count) (omega arith))
+
+module _ (c : Card) (write : Bool) (count : ℕ) (list : List ℕ) (n : Lengths) where
+  -- a card that was not built
+  pub not-built : isSound c ≡ false → NotFit NotBuilt ≡ judgedBy c write count list n
+  unfolding judgedBy
+  not-built s = rw s
+
+  module _ (s : isSound c ≡ true) where
+    -- more than 512 elements
+    pub many-elements : 512 < count → NotFit TooManyElements ≡ judgedBy c write count list n
+    unfolding judgedBy
+    many-elements h = rw (s, lt-ltb 512 count h)
+
+    module _ (f : count ≤ 512) where
+      -- more than 16 codes
+      pub many-codes : 16 < n .codes → NotFit TooManyCodes ≡ judgedBy c write count list n
+      unfolding judgedBy
+      many-codes h = rw (s, le-ltb 512 count f, lt-ltb 16 (n .codes) h)
+
+      module _ (g : n .codes ≤ 16) where
+        -- a list that ends early, or runs on
+        pub bad-list : endsAfter list count ≡ false → NotFit ListLength ≡ judgedBy c write count list n
+        unfolding judgedBy
+        bad-list e = rw (s, le-ltb 512 count f, le-ltb 16 (n .codes) g, e)
+
+        -- then what is lent
+        pub lent : {j : Judged} → endsAfter list count ≡ true → j ≡ lentJudged (c .used) write count (n .arena) (n .sent) (n .room) →
+            j ≡ judgedBy c write count list n
+        unfolding judgedBy
+        lent e k = rw (s, le-ltb 512 count f, le-ltb 16 (n .codes) g, e) k

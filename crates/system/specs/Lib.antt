@@ -1,4 +1,0 @@
-pub mod Request
-pub mod Plan
-pub mod Serve
-pub mod Block
