@@ -4,4 +4,3 @@ mod Summing
 mod Found
 mod Laid
 mod Answered
-mod Lists

@@ -1,5 +1,4 @@
 pub mod Under
 pub mod Directory
 pub mod Total
-pub mod Keys
 pub mod Worded

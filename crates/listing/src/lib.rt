@@ -1,4 +1,3 @@
-// Questions about the tree: its directory, block totals, key versions, and the two list checks.
+// Questions about the tree: its directory and block totals.
 pub mod directory;
-pub mod keys;
 pub mod total;

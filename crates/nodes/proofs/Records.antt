@@ -1,8 +1,8 @@
 -- Of 64 records the first `count` are the nodes: what the code reads there is what the definitions find.
-use mathlib.Core.Path.{_≡_}
-use mathlib.Core.Bool.{true, false}
+use mathlib.Core.Path.{_≡_, sym, _∙_}
+use mathlib.Core.Bool.{Bool, true, false}
 use mathlib.Core.List.{List}
-use Prim.Native.Nat.{ℕ, _+_, _≤_, _<_}
+use Prim.Native.Nat.{ℕ, _+_, _≤_, _<_, min}
 use native.Mathlib.Omega.{arith}
 use lib.Dec.{leb}
 use lib.ListN.{length, take, getD, length-take}
@@ -11,8 +11,9 @@ use Rattle.nodes.specs.declared.node.Node.{Node}
 use Rattle.nodes.specs.declared.find.Found.{Found}
 use Rattle.nodes.specs.declared.find.Found.the-variants.{At}
 use Rattle.nodes.specs.Node.{rootNode}
+use Rattle.nodes.specs.Find.{firstFrom}
 use Rattle.nodes.proofs.Scan.{read}
-use Rattle.nodes.proofs.Searches.{Below, in-range}
+use Rattle.nodes.proofs.Searches.{Below, first-below, in-range}
 
 -- the records of a card, and how many of them are nodes
 pub record Records (nodes : List Node) (count : ℕ) : Type 0 where
@@ -35,3 +36,17 @@ module _ {nodes : List Node} {count : ℕ} (r : Records nodes count) where
     -- and the record there is the node
     pub recorded : (z : Node) → getD (take count nodes) p rootNode ≡ getD nodes p z
     recorded z = read nodes count p rootNode z (in-range b e)
+
+-- a node that a search found
+module _ {nodes : List Node} {count : ℕ} (r : Records nodes count) (t : Node → Bool) {f : Found} {i : ℕ} (told : f ≡ firstFrom t 0 (take count nodes)) (e : f ≡ At i) where
+  -- it is one of the 64
+  pub found-index : i < 64
+  found-index = indexed r (first-below t 0 (take count nodes)) (sym told ∙ e)
+
+  -- and of those that the count takes
+  pub found-taken : i < min count 64
+  found-taken = let h = in-range (first-below t 0 (take count nodes)) (sym told ∙ e) in omega (arith, r .all, simp length-take at h)
+
+  -- the record there is the node
+  pub found-node : (z : Node) → getD (take count nodes) i rootNode ≡ getD nodes i z
+  found-node z = recorded r (first-below t 0 (take count nodes)) (sym told ∙ e) z

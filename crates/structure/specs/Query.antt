@@ -7,7 +7,7 @@ use Rattle.listing.specs.declared.directory.Listing.{Listing}
 use Rattle.listing.specs.declared.directory.Listing.the-variants.{Refused as NotListed}
 use Rattle.listing.specs.Directory.{listingOf, outAfter}
 use Rattle.listing.specs.Total.{totalOf}
-use Rattle.listing.specs.Keys.{versionOf, areaListOf, serviceListOf}
+use Rattle.keys.specs.Keys.{versionOf, areaListOf, serviceListOf}
 use Rattle.structure.specs.declared.card.Card.{Card}
 use Rattle.structure.specs.declared.query.Told.{Told}
 use Rattle.structure.specs.declared.query.Told.the-variants.{Number, Refused as NotTold}

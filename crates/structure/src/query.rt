@@ -3,7 +3,6 @@ use crate::card::Card;
 use answers::refusal::Refusal;
 use listing::directory;
 use listing::directory::Listing;
-use listing::keys;
 use listing::total;
 ghost use mathlib.Core.Path.{_≡_};
 ghost use lib.ListN.{length};

@@ -2,8 +2,8 @@
 use mathlib.Core.Path.{sym, _∙_}
 use native.Mathlib.Omega.{arith}
 use borrow.Author.Needs.{needs}
-use Rattle.nodes.proofs.Records.{Records}
-use Rattle.listing.proofs.Found.{found-taken, area-found}
+use Rattle.nodes.proofs.Records.{Records, found-taken}
+use Rattle.listing.proofs.Found.{area-found}
 use Rattle.listing.proofs.total.area_total.Statement.{statement}
 use Rattle.listing.proofs.total.area_total.Tie as tie
 

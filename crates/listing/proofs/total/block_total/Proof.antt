@@ -3,9 +3,9 @@ use mathlib.Core.Path.{sym, _∙_}
 use Prim.Native.Nat.{_<_}
 use native.Mathlib.Omega.{arith}
 use borrow.Author.Needs.{needs}
-use Rattle.nodes.proofs.Records.{Records}
+use Rattle.nodes.proofs.Records.{Records, found-index}
 use Rattle.listing.specs.Total.{totalOf}
-use Rattle.listing.proofs.Found.{found-index, service-found}
+use Rattle.listing.proofs.Found.{service-found}
 use Rattle.listing.proofs.total.block_total.Statement.{statement}
 use Rattle.listing.proofs.total.block_total.Tie as tie
 

@@ -10,8 +10,8 @@ use Rattle.nodes.specs.declared.find.Found.{Found}
 use Rattle.nodes.specs.declared.find.Found.the-variants.{At, Nothing}
 use Rattle.nodes.specs.Node.{rootNode}
 use Rattle.nodes.specs.Find.{serviceOf, areaOf}
-use Rattle.listing.specs.declared.keys.ListNode.{ListNode}
-use Rattle.listing.specs.declared.keys.ListNode.the-variants.{Keyed, KeyFree, Unknown}
+use Rattle.keys.specs.declared.ListNode.{ListNode}
+use Rattle.keys.specs.declared.ListNode.the-variants.{Keyed, KeyFree, Unknown}
 
 abbrev pub isFound : Found → Bool
 isFound (At i) = true

@@ -6,10 +6,10 @@ use lib.ListN.{length, take}
 use denote.Ref.{now}
 use borrow.Author.Needs.{needs}
 use borrow.Author.Tests.{not-true, not-false}
-use Rattle.listing.specs.Keys.{isFound, areaListOf, allAreas}
-use Rattle.listing.proofs.Lists.{InList, no-area, first-other, first-area, later-other, later-area, areas-done}
-use Rattle.listing.proofs.keys.area_list_well_formed.Statement.{statement}
-use Rattle.listing.proofs.keys.area_list_well_formed.Tie as tie
+use Rattle.keys.specs.Keys.{isFound, areaListOf, allAreas}
+use Rattle.keys.proofs.Lists.{InList, no-area, first-other, first-area, later-other, later-area, areas-done}
+use Rattle.keys.proofs.area_list_well_formed.Statement.{statement}
+use Rattle.keys.proofs.area_list_well_formed.Tie as tie
 
 abbrev Inv-loop : tie.InvT-loop
 Inv-loop nodes count areas i₀ i = InList areas (areaListOf (take count nodes) areas) (allAreas (take count nodes)) i

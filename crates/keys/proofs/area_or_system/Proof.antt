@@ -2,9 +2,9 @@
 use mathlib.Core.Path.{_∙_, ap}
 use borrow.Author.Needs.{needs}
 use Rattle.nodes.proofs.Scan.{tests}
-use Rattle.listing.specs.Keys.{isFound, areaOrSystem}
-use Rattle.listing.proofs.keys.area_or_system.Statement.{statement}
-use Rattle.listing.proofs.keys.area_or_system.Tie as tie
+use Rattle.keys.specs.Keys.{isFound, areaOrSystem}
+use Rattle.keys.proofs.area_or_system.Statement.{statement}
+use Rattle.keys.proofs.area_or_system.Tie as tie
 
 pub area-or-system-spec : {M : Type 1} → statement M
 unfolding areaOrSystem

@@ -5,11 +5,11 @@ use native.Mathlib.Omega.{arith}
 use borrow.Author.Needs.{needs}
 use borrow.Author.Tests.{ne-eqb}
 use Rattle.nodes.proofs.Scan.{tests}
-use Rattle.nodes.proofs.Records.{Records}
-use Rattle.listing.specs.Keys.{versionOf}
-use Rattle.listing.proofs.Found.{found-index, found-version}
-use Rattle.listing.proofs.keys.key_version.Statement.{statement}
-use Rattle.listing.proofs.keys.key_version.Tie as tie
+use Rattle.nodes.proofs.Records.{Records, found-index}
+use Rattle.keys.specs.Keys.{versionOf}
+use Rattle.keys.proofs.Version.{found-version}
+use Rattle.keys.proofs.key_version.Statement.{statement}
+use Rattle.keys.proofs.key_version.Tie as tie
 
 records : (c : tie.Start) → Records (c .args .t1) (c .args .count)
 records c = record { all = search needs }

@@ -5,10 +5,10 @@ use lib.ListN.{take}
 use borrow.Author.Needs.{needs}
 use Rattle.nodes.specs.Find.{serviceOf, areaOf}
 use Rattle.nodes.proofs.Scan.{tests}
-use Rattle.listing.specs.declared.keys.ListNode.the-variants.{Keyed, KeyFree}
-use Rattle.listing.specs.Keys.{isFound, listNodeOf}
-use Rattle.listing.proofs.keys.list_node.Statement.{statement}
-use Rattle.listing.proofs.keys.list_node.Tie as tie
+use Rattle.keys.specs.declared.ListNode.the-variants.{Keyed, KeyFree}
+use Rattle.keys.specs.Keys.{isFound, listNodeOf}
+use Rattle.keys.proofs.list_node.Statement.{statement}
+use Rattle.keys.proofs.list_node.Tie as tie
 
 -- a service of the code is found, or none
 service : (c : tie.After-is-found) {b : Bool} → c .is-found .result ≡ b →

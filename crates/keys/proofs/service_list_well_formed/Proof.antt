@@ -6,10 +6,10 @@ use native.Mathlib.Omega.{arith}
 use lib.ListN.{length, take}
 use borrow.Author.Needs.{needs}
 use Rattle.nodes.proofs.Scan.{done}
-use Rattle.listing.specs.Keys.{serviceListOf}
-use Rattle.listing.proofs.Lists.{InList, restOf, none-read, last-read, unknown, disorder, keyed-read, free-read}
-use Rattle.listing.proofs.keys.service_list_well_formed.Statement.{statement}
-use Rattle.listing.proofs.keys.service_list_well_formed.Tie as tie
+use Rattle.keys.specs.Keys.{serviceListOf}
+use Rattle.keys.proofs.Lists.{InList, restOf, none-read, last-read, unknown, disorder, keyed-read, free-read}
+use Rattle.keys.proofs.service_list_well_formed.Statement.{statement}
+use Rattle.keys.proofs.service_list_well_formed.Tie as tie
 
 abbrev Inv-loop : tie.InvT-loop
 Inv-loop nodes count services has-keyed₀ seen-free₀ i₀ has-keyed seen-free i =

@@ -9,8 +9,8 @@ use lib.Seq.{take-length}
 use Rattle.nodes.specs.declared.node.Node.{Node}
 use Rattle.nodes.specs.Find.{areaOf}
 use Rattle.nodes.proofs.Scan.{Left, here, turn, done}
-use Rattle.listing.specs.declared.keys.ListNode.the-variants.{Keyed, KeyFree, Unknown}
-use Rattle.listing.specs.Keys.{isFound, areaOrSystem, allAreas, areaListOf, listNodeOf, allKnown, anyKeyed, inOrder, serviceListOf}
+use Rattle.keys.specs.declared.ListNode.the-variants.{Keyed, KeyFree, Unknown}
+use Rattle.keys.specs.Keys.{isFound, areaOrSystem, allAreas, areaListOf, listNodeOf, allKnown, anyKeyed, inOrder, serviceListOf}
 
 -- at i the answer of the whole list is that of what is left
 abbrev pub InList : List ℕ → Bool → (List ℕ → Bool) → ℕ → Type 0

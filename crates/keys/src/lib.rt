@@ -6,8 +6,8 @@ use types::code::ServiceCode;
 ghost use mathlib.Core.Path.{_≡_};
 ghost use mathlib.Core.Bool.{cond};
 ghost use lib.ListN.{take};
-ghost use Rattle.listing.specs.declared.keys.ListNode.the-variants.{Keyed, KeyFree};
-ghost use Rattle.listing.specs.Keys.{versionOf, isFound, areaOrSystem, areaListOf, listNodeOf, serviceListOf};
+ghost use Rattle.keys.specs.declared.ListNode.the-variants.{Keyed, KeyFree};
+ghost use Rattle.keys.specs.Keys.{versionOf, isFound, areaOrSystem, areaListOf, listNodeOf, serviceListOf};
 
 // What an entry of a service list names.
 pub enum ListNode {

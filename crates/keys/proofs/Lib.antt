@@ -1,0 +1,2 @@
+mod Version
+mod Lists
