@@ -3,4 +3,3 @@ pub mod Tests
 mod Plans
 pub mod Serves
 pub mod Ready
-pub mod Once

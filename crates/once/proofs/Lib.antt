@@ -1,0 +1,6 @@
+-- For each public function of a library, that its promise admits one answer.
+mod Law
+pub mod Leaves
+pub mod Cards
+pub mod Requests
+pub mod Texts
