@@ -7,8 +7,6 @@ use hex::codes::Code;
 use hex::codes::read_hex16;
 use hex::is_hex_field;
 ghost use mathlib.Core.Path.{_≡_};
-ghost use mathlib.Core.List.{[]};
-ghost use lib.ListN.{getD};
 ghost use Rattle.fields.specs.Field.{split};
 ghost use Rattle.image.specs.Line.{codeAt, numberAt, boundAt, hex32, form, cardLine, areaLine, serviceLine, limitLine, blockLine, firstLine, laterLine, imageLine};
 

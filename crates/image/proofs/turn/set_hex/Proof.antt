@@ -2,9 +2,7 @@
 use mathlib.Core.Path.{refl}
 use mathlib.Core.List.{append-nil}
 use native.Mathlib.Omega.{arith}
-use denote.Ref.{now}
 use borrow.Author.Needs.{needs}
-use Rattle.block.specs.Block.{arenaSet}
 use Rattle.image.proofs.Digits.{digits, whole}
 use Rattle.image.proofs.turn.set_hex.Statement.{statement}
 use Rattle.image.proofs.turn.set_hex.Tie as tie
