@@ -12,8 +12,8 @@ use Rattle.decimals.specs.declared.Number.{Number}
 use Rattle.decimals.specs.declared.Number.the-variants.{Is, Bad}
 use Rattle.hex.specs.Hex.{hexField}
 use Rattle.hex.specs.Codes.{codesField}
-use Rattle.asks.specs.declared.ask.Ask.{Ask}
-use Rattle.asks.specs.declared.ask.Ask.the-variants.{Malformed, Read, Write}
+use Rattle.asks.specs.declared.Ask.{Ask}
+use Rattle.asks.specs.declared.Ask.the-variants.{Malformed, Read, Write}
 use Rattle.asks.specs.Ask.{fieldIn, isLetter, isOpen, hasKind, shaped, isWrite, countIn, readAsk, writeAsk, askOf}
 
 -- No letter, where there is not one byte.

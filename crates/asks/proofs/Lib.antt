@@ -1,3 +1,2 @@
--- What callers cite, and what this crate's proofs share.
+-- What callers cite.
 pub mod Asking
-pub mod Writing

@@ -11,8 +11,8 @@ use Rattle.decimals.specs.declared.Number.the-variants.{Is, Bad}
 use Rattle.decimals.specs.Decimal.{decimal}
 use Rattle.hex.specs.Hex.{hexField}
 use Rattle.hex.specs.Codes.{codesField}
-use Rattle.asks.specs.declared.ask.Ask.{Ask}
-use Rattle.asks.specs.declared.ask.Ask.the-variants.{Malformed, Read, Write}
+use Rattle.asks.specs.declared.Ask.{Ask}
+use Rattle.asks.specs.declared.Ask.the-variants.{Malformed, Read, Write}
 
 -- field k of a line, parted by tabs (9)
 abbrev pub fieldIn : List ℕ → ℕ → List ℕ

@@ -1,12 +1,12 @@
 // An image line, carried out on a card and an arena.
 use crate::line::Line;
 use crate::line::read_line;
-use hex::put_bytes;
+use answers::refusal::Refusal;
+use block::set_block;
 use grow::Answer;
+use hex::put_bytes;
 use structure::card::Added;
 use structure::card::Card;
-use block::set_block;
-use answers::refusal::Refusal;
 ghost use mathlib.Core.Path.{_≡_};
 ghost use mathlib.Core.Bool.{true};
 ghost use lib.ListN.{length};

@@ -3,6 +3,7 @@ use Prim.Native.Nat.{ℕ}
 use mathlib.Core.Path.{_≡_, refl, sym, ap, _∙_}
 use mathlib.Core.Bool.{Bool, true, false}
 use mathlib.Core.List.{List}
+use lib.ListN.{length}
 use Rattle.answers.specs.declared.refusal.Refusal.{Refusal}
 use Rattle.grow.specs.declared.Answer.the-variants as answers
 use Rattle.structure.specs.declared.card.Added.{Added}
@@ -10,7 +11,7 @@ use Rattle.image.specs.Turn as images
 use Rattle.asks.specs.Ask.{requestLine}
 use Rattle.requests.specs.declared.Printed.{Printed}
 use Rattle.requests.specs.declared.Printed.the-variants.{Bytes, NoRoom}
-use Rattle.requests.specs.Line.{Carried, roomy}
+use Rattle.requests.specs.Answered.{Answered, roomy}
 use Rattle.lines.specs.declared.Phase.the-variants.{First, Image, Requests, Ended}
 use Rattle.lines.specs.declared.Replay.{Replay}
 use Rattle.lines.specs.Lines.{oneMore, refusalText, printedIn, imagedAs, imageCame, still, imaged, askedBy, askedCame, phaseCame, lineCame}
@@ -52,22 +53,20 @@ module _ (p : Replay) (out : List ℕ) (t : images.Turn) {added : Added} {arena 
   pub image-done
       : added .answer ≡ answers.Done → let x = imagedAs p out t in
       (record { replay = record { card = added .card; phase = Image; lines = n; asked = p .asked }; printed = Bytes 0 } ≡ x .turn)
-      × (arena ≡ x .arena)
-      × (out ≡ x .out)
-  image-done d = rw (ap (λ (y : Added). y .answer) (sym e) ∙ d, e, l) (refl, a, refl)
+      × ((arena ≡ x .arena) × (out ≡ x .out))
+  image-done d = rw (ap (λ (y : Added). y .answer) (sym e) ∙ d, e, l) (refl, (a, refl))
 
   -- or refused
   pub image-refused
-      : (refusal : Refusal) {k : ℕ} {after : List ℕ} → added .answer ≡ answers.Refused refusal → k ≡ length (refusalText n refusal)
+      : {refusal : Refusal} {k : ℕ} {after : List ℕ} → added .answer ≡ answers.Refused refusal → k ≡ length (refusalText n refusal)
       → after ≡ printedIn out (refusalText n refusal) → let x = imagedAs p out t in
       (record { replay = record { card = added .card; phase = Ended; lines = n; asked = p .asked }; printed = Bytes k } ≡ x .turn)
-      × (arena ≡ x .arena)
-      × (after ≡ x .out)
-  image-refused refusal d k o =
-      rw (ap (λ (y : Added). y .answer) (sym e) ∙ d, e) (rw (k, sym l) refl, a, rw (sym l) o)
+      × ((arena ≡ x .arena) × (after ≡ x .out))
+  image-refused d k o =
+      rw (ap (λ (y : Added). y .answer) (sym e) ∙ d, e) (rw (k, sym l) refl, (a, rw (sym l) o))
 
 -- A request takes the next ordinal.
 pub asked-line
-    : (p : Replay) (x : Carried) {n : ℕ} {printed : Printed} → n ≡ oneMore (p .asked) → printed ≡ x .printed
+    : (p : Replay) (x : Answered) {n : ℕ} {printed : Printed} → n ≡ oneMore (p .asked) → printed ≡ x .printed
     → record { replay = record { card = p .card; phase = Requests; lines = p .lines; asked = n }; printed = printed } ≡ askedBy p x .turn
 asked-line p x n e = rw (n, e) refl

@@ -15,10 +15,10 @@ use Rattle.structure.specs.declared.card.Card.{Card}
 use Rattle.structure.specs.Card.{newCard}
 use Rattle.image.specs.Turn as images
 use Rattle.asks.specs.Ask.{requestLine}
-use Rattle.asks.specs.Answer.{ended}
+use Rattle.replies.specs.Answer.{ended}
 use Rattle.requests.specs.declared.Printed.{Printed}
 use Rattle.requests.specs.declared.Printed.the-variants.{Bytes, NoRoom}
-use Rattle.requests.specs.Line.{Carried, carriedLine, roomy}
+use Rattle.requests.specs.Answered.{Answered, answeredLine, roomy}
 use Rattle.lines.specs.declared.Phase.{Phase}
 use Rattle.lines.specs.declared.Phase.the-variants.{First, Image, Requests, Ended}
 use Rattle.lines.specs.declared.Replay.{Replay}
@@ -81,7 +81,7 @@ abbrev pub imaged : List ℕ → List ℕ → Imaged → Came
 imaged work bytes x = record { turn = x .turn; arena = x .arena; work = work; bytes = bytes; out = x .out }
 
 -- a request takes an ordinal; the card stays as built
-abbrev pub askedBy : Replay → Carried → Came
+abbrev pub askedBy : Replay → Answered → Came
 askedBy p x = record {
   turn = record {
     replay = record { card = p .card; phase = Requests; lines = p .lines; asked = oneMore (p .asked) };
@@ -94,7 +94,7 @@ askedBy p x = record {
 }
 
 abbrev pub askedCame : Replay → List ℕ → List ℕ → List ℕ → List ℕ → List ℕ → Came
-askedCame p arena work bytes out line = askedBy p (carriedLine (p .card) arena work bytes out line (oneMore (p .asked)))
+askedCame p arena work bytes out line = askedBy p (answeredLine (p .card) arena work bytes out line (oneMore (p .asked)))
 
 -- nothing changes
 abbrev pub stillAt : Replay → Printed → Turn

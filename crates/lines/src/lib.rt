@@ -1,11 +1,9 @@
 // Replay, line by line: an image, then requests and their answers.
-use asks::answer;
-use asks::ask;
-use image::turn;
+use answers::refusal::Refusal;
 use grow::Answer;
+use image::turn;
 use requests::Printed;
 use structure::card::Card;
-use answers::refusal::Refusal;
 ghost use mathlib.Core.Path.{_≡_};
 ghost use Prim.Native.Nat.{_≤_};
 ghost use lib.ListN.{length};
@@ -60,8 +58,8 @@ fn put_refusal(line: u64, refusal: Refusal, out: &mut [u8]) -> usize
     ensures { λ _. ⌜ now (out .exit) ≡ put (now (out .entry)) 0 (length (refusalText line refusal)) (refusalText line refusal) ⌝ }
 {
     spans::copy(out, 0, b"image\t", 0, 6);
-    let last = answer::put_number(line, b'\t', out, 6);
-    answer::put_number(refusal.number() as u64, b'\n', out, last)
+    let last = replies::put_number(line, b'\t', out, 6);
+    replies::put_number(refusal.number() as u64, b'\n', out, last)
 }
 
 // An image line, the first or a later one.
@@ -161,7 +159,7 @@ pub fn line(
     match phase {
         Phase::First => image_line(replay, true, arena, out, line),
         Phase::Image => {
-            if ask::is_request(line) {
+            if asks::is_request(line) {
                 return request_line(replay, arena, work, bytes, out, line);
             }
             image_line(replay, false, arena, out, line)

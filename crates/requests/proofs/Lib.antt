@@ -1,4 +1,2 @@
--- What callers cite, and what this crate's proofs share.
-pub mod Lines
-mod Parts
-mod Served
+-- What callers cite.
+pub mod Rooms

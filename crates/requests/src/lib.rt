@@ -1,22 +1,13 @@
-// Request lines, carried out on a card.
-use asks::answer;
-use asks::ask;
-use asks::ask::Ask;
-use structure::card::Card;
-use plan::Reply;
-use system::read;
-use system::write;
+// Request lines, carried out on a card and answered.
 use answers::refusal::Refusal;
+use asks::Ask;
+use plan::Reply;
+use structure::card::Card;
 ghost use mathlib.Core.Path.{_≡_};
-ghost use mathlib.Core.Bool.{true};
-ghost use Prim.Native.Nat.{_+_, _*_, _≤_};
-ghost use lib.ListN.{length, take};
-ghost use Rattle.spans.specs.Part.{put};
-ghost use Rattle.hex.specs.Hex.{hexField, unhex};
-ghost use Rattle.hex.specs.Codes.{codesField};
-ghost use Rattle.asks.specs.declared.ask.Ask.the-variants.{Read, Write};
-ghost use Rattle.asks.specs.Ask.{fieldIn, askOf};
-ghost use Rattle.requests.specs.Line.{codesIn, readLong, lineServed, workAfter, bytesAfter, carriedLine};
+ghost use Prim.Native.Nat.{_≤_};
+ghost use lib.ListN.{length};
+ghost use Rattle.served.specs.Line.{readLong, lineServed, workAfter, bytesAfter};
+ghost use Rattle.requests.specs.Answered.{answeredLine};
 
 // What was printed of a line.
 pub enum Printed {
@@ -44,85 +35,6 @@ fn read_long(reply: Reply, count: u32) -> usize
     }
 }
 
-// Puts the codes of a line to the front of `codes`, as many as it holds, and answers how many.
-fn read_codes(line: &[u8], codes: &mut [u16]) -> usize
-    requires { ⌜ codesField (fieldIn (now line) 2) ≡ true ⌝ }
-    ensures { λ r. ⌜ r ≤ length (now (codes .entry)) ⌝ }
-    ensures { λ r. ⌜ take r (now (codes .exit)) ≡ take (length (now (codes .entry))) (codesIn (now (line .entry))) ⌝ }
-{
-    hex::codes::read_codes(fields::field(line, 2, b'\t'), codes)
-}
-
-// Puts the bytes that field k of a line spells into `bytes` from `at` on, and answers the place after them.
-fn put_field(line: &[u8], k: usize, bytes: &mut [u8], at: usize) -> usize
-    requires { ⌜ (hexField (fieldIn (now line) k) ≡ true) × (at + length (unhex (fieldIn (now line) k)) ≤ length (now bytes)) ⌝ }
-    ensures { λ r. ⌜ r ≡ at + length (unhex (fieldIn (now (line .entry)) k)) ⌝ }
-    ensures { λ _. ⌜ now (bytes .exit) ≡ put (now (bytes .entry)) at (length (unhex (fieldIn (now (line .entry)) k))) (unhex (fieldIn (now (line .entry)) k)) ⌝ }
-{
-    hex::put_bytes(fields::field(line, k, b'\t'), bytes, at)
-}
-
-// A read that a line asks. Seventeen codes are as good as all: more than sixteen are refused.
-fn read_asked(
-    card: Card,
-    arena: &[u8],
-    work: &mut [u8],
-    bytes: &mut [u8],
-    line: &[u8],
-    keyless: bool,
-    count: u32,
-) -> Reply
-    requires { ⌜ (askOf (now line) ≡ Read keyless count) × (16384 ≤ length (now bytes)) ⌝ }
-    ensures { λ r. ⌜ r ≡ lineServed card (now (arena .entry)) (length (now (work .entry))) (now (line .entry)) .reply ⌝ }
-    ensures { λ _. ⌜ now (work .exit) ≡ workAfter card (now (arena .entry)) (now (work .entry)) (now (line .entry)) ⌝ }
-    ensures { λ _. ⌜ now (bytes .exit) ≡ bytesAfter (now (bytes .entry)) (now (line .entry)) ⌝ }
-{
-    let mut codes = [0u16; 17];
-    let n = read_codes(line, &mut codes);
-    let end = put_field(line, 4, bytes, 0);
-    read::read(
-        card,
-        arena,
-        work,
-        keyless,
-        &codes[0..n],
-        count,
-        &bytes[0..end],
-    )
-}
-
-// A write that a line asks.
-fn write_asked(
-    card: Card,
-    arena: &mut [u8],
-    work: &mut [u8],
-    bytes: &mut [u8],
-    line: &[u8],
-    keyless: bool,
-    count: u32,
-) -> Reply
-    requires { ⌜ (askOf (now line) ≡ Write keyless count) × (16384 ≤ length (now bytes)) ⌝ }
-    ensures { λ r. ⌜ r ≡ lineServed card (now (arena .entry)) (length (now (work .entry))) (now (line .entry)) .reply ⌝ }
-    ensures { λ _. ⌜ now (arena .exit) ≡ lineServed card (now (arena .entry)) (length (now (work .entry))) (now (line .entry)) .arena ⌝ }
-    ensures { λ _. ⌜ now (work .exit) ≡ workAfter card (now (arena .entry)) (now (work .entry)) (now (line .entry)) ⌝ }
-    ensures { λ _. ⌜ now (bytes .exit) ≡ bytesAfter (now (bytes .entry)) (now (line .entry)) ⌝ }
-{
-    let mut codes = [0u16; 17];
-    let n = read_codes(line, &mut codes);
-    let end = put_field(line, 4, bytes, 0);
-    let last = put_field(line, 5, bytes, end);
-    write::write(
-        card,
-        arena,
-        work,
-        keyless,
-        &codes[0..n],
-        count,
-        &bytes[0..end],
-        &bytes[end..last],
-    )
-}
-
 // What a line asks, carried out.
 fn carry_out(card: Card, arena: &mut [u8], work: &mut [u8], bytes: &mut [u8], line: &[u8]) -> Told
     requires { ⌜ 16384 ≤ length (now bytes) ⌝ }
@@ -132,20 +44,20 @@ fn carry_out(card: Card, arena: &mut [u8], work: &mut [u8], bytes: &mut [u8], li
     ensures { λ _. ⌜ now (work .exit) ≡ workAfter card (now (arena .entry)) (now (work .entry)) (now (line .entry)) ⌝ }
     ensures { λ _. ⌜ now (bytes .exit) ≡ bytesAfter (now (bytes .entry)) (now (line .entry)) ⌝ }
 {
-    match ask::ask_of(line) {
+    match asks::ask_of(line) {
         Ask::Malformed => Told {
             reply: Reply::Refused(Refusal::MalformedRequest),
             read: 0,
         },
         Ask::Read { keyless, count } => {
-            let reply = read_asked(card, arena, work, bytes, line, keyless, count);
+            let reply = served::read_asked(card, arena, work, bytes, line, keyless, count);
             Told {
                 reply,
                 read: read_long(reply, count),
             }
         }
         Ask::Write { keyless, count } => Told {
-            reply: write_asked(card, arena, work, bytes, line, keyless, count),
+            reply: served::write_asked(card, arena, work, bytes, line, keyless, count),
             read: 0,
         },
     }
@@ -162,11 +74,11 @@ pub fn request_line(
     line: &[u8],
     ordinal: u64,
 ) -> Printed
-    ensures { λ r. ⌜ r ≡ carriedLine card (now (arena .entry)) (now (work .entry)) (now (bytes .entry)) (now (out .entry)) (now (line .entry)) ordinal .printed ⌝ }
-    ensures { λ _. ⌜ now (arena .exit) ≡ carriedLine card (now (arena .entry)) (now (work .entry)) (now (bytes .entry)) (now (out .entry)) (now (line .entry)) ordinal .arena ⌝ }
-    ensures { λ _. ⌜ now (work .exit) ≡ carriedLine card (now (arena .entry)) (now (work .entry)) (now (bytes .entry)) (now (out .entry)) (now (line .entry)) ordinal .work ⌝ }
-    ensures { λ _. ⌜ now (bytes .exit) ≡ carriedLine card (now (arena .entry)) (now (work .entry)) (now (bytes .entry)) (now (out .entry)) (now (line .entry)) ordinal .bytes ⌝ }
-    ensures { λ _. ⌜ now (out .exit) ≡ carriedLine card (now (arena .entry)) (now (work .entry)) (now (bytes .entry)) (now (out .entry)) (now (line .entry)) ordinal .out ⌝ }
+    ensures { λ r. ⌜ r ≡ answeredLine card (now (arena .entry)) (now (work .entry)) (now (bytes .entry)) (now (out .entry)) (now (line .entry)) ordinal .printed ⌝ }
+    ensures { λ _. ⌜ now (arena .exit) ≡ answeredLine card (now (arena .entry)) (now (work .entry)) (now (bytes .entry)) (now (out .entry)) (now (line .entry)) ordinal .arena ⌝ }
+    ensures { λ _. ⌜ now (work .exit) ≡ answeredLine card (now (arena .entry)) (now (work .entry)) (now (bytes .entry)) (now (out .entry)) (now (line .entry)) ordinal .work ⌝ }
+    ensures { λ _. ⌜ now (bytes .exit) ≡ answeredLine card (now (arena .entry)) (now (work .entry)) (now (bytes .entry)) (now (out .entry)) (now (line .entry)) ordinal .bytes ⌝ }
+    ensures { λ _. ⌜ now (out .exit) ≡ answeredLine card (now (arena .entry)) (now (work .entry)) (now (bytes .entry)) (now (out .entry)) (now (line .entry)) ordinal .out ⌝ }
 {
     if bytes.len() < 16384 {
         return Printed::NoRoom;
@@ -177,5 +89,5 @@ pub fn request_line(
     let told = carry_out(card, arena, work, bytes, line);
     let reply = told.reply;
     let read = told.read;
-    Printed::Bytes(answer::put_answer(ordinal, reply, &work[0..read], out))
+    Printed::Bytes(replies::put_answer(ordinal, reply, &work[0..read], out))
 }

@@ -1,7 +1,7 @@
 // One turn of a run: the card's own `read` and `write`, by contracts in the words of the law on runs. That these are proved says
 // that each turn of a run of the program is one of which the law speaks (`Did`, specs/Runs).
-use structure::card::Card;
 use plan::Reply;
+use structure::card::Card;
 use system::read;
 use system::write;
 ghost use Rattle.terminals.specs.Runs.{reads, writes, Left, Did};

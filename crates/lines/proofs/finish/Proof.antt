@@ -1,65 +1,58 @@
+-- `lines::finish` meets its contract, by the phase. Assumes nothing.
 use borrow.Author.Needs.{needs}
+use borrow.Author.Tests.{le-leb, lt-leb}
+use mathlib.Core.Path.{refl, sym, ap}
+use mathlib.Core.List.{[]}
+use lib.ListN.{length}
+use denote.Ref.{now}
+use Rattle.spans.proofs.Part.{put-zero}
+use Rattle.requests.specs.declared.Printed.the-variants.{Bytes}
+use Rattle.lines.specs.Lines.{finished, finishOut}
 use Rattle.lines.proofs.finish.Statement.{statement}
 use Rattle.lines.proofs.finish.Tie as tie
-use Rattle.lines.proofs.finish.Reads as reads
-use Rattle.lines.proofs.finish.Lts as lts
-use Rattle.lines.proofs.put_refusal.Reads as put-refusal-reads
 
--- src/lib.rt:180:9
 returns : tie.Need-returns
-returns c = ?
+unfolding finished finishOut
+returns c =
+    let a = c .before .before .args in
+    rw (lt-leb 16448 (length (now (a .out))) (c .if1 .taken)) (refl, refl)
 
--- src/lib.rt:184:55
-enum-told : tie.Need-enum-told
-enum-told c = search needs
-
--- src/lib.rt:184:40
-put-refusal-requires : tie.Need-put-refusal-requires
-put-refusal-requires c κs = search needs
-
--- src/lib.rt:185:25
-enum-told-2 : tie.Need-enum-told-2
-enum-told-2 c = search needs
-
--- src/lib.rt:186:28
-enum-told-3 : tie.Need-enum-told-3
-enum-told-3 c = search needs
-
--- src/lib.rt:187:25
-enum-told-4 : tie.Need-enum-told-4
-enum-told-4 c = search needs
-
--- src/lib.rt:175:1
-same-length : tie.Need-same-length
-same-length c = search needs
-
--- src/lib.rt:175:1
 returns-2 : tie.Need-returns-2
-returns-2 c = ?
+unfolding finished finishOut
+returns-2 c =
+    let a = c .before .before .before .before .before .before .before .before .args in
+    let o = c .before .before .put-refusal .ensures in
+    rw (le-leb 16448 (length (now (a .out))) (c .before .before .before .before .before .before .if1 .left), c .before .before .before .before .enum-told .given .1) (ap Bytes (o .0), o .1)
 
--- src/lib.rt:175:1
 returns-3 : tie.Need-returns-3
-returns-3 c = ?
+unfolding finished finishOut
+returns-3 c =
+    let a = c .before .before .before .before .args in
+    rw (le-leb 16448 (length (now (a .out))) (c .before .before .if1 .left), c .enum-told2 .given .1) (refl, sym (put-zero (now (a .out)) 0 []))
 
--- src/lib.rt:175:1
 returns-4 : tie.Need-returns-4
-returns-4 c = ?
+unfolding finished finishOut
+returns-4 c =
+    let a = c .before .before .before .before .args in
+    rw (le-leb 16448 (length (now (a .out))) (c .before .before .if1 .left), c .enum-told3 .given .1) (refl, sym (put-zero (now (a .out)) 0 []))
 
--- src/lib.rt:175:1
 returns-5 : tie.Need-returns-5
-returns-5 c = ?
+unfolding finished finishOut
+returns-5 c =
+    let a = c .before .before .before .before .args in
+    rw (le-leb 16448 (length (now (a .out))) (c .before .before .if1 .left), c .enum-told4 .given .1) (refl, sym (put-zero (now (a .out)) 0 []))
 
 pub finish-spec : {M : Type 1} → statement M
 finish-spec =
     tie.close
     (tie.spec
     returns
-    enum-told
-    put-refusal-requires
-    enum-told-2
-    enum-told-3
-    enum-told-4
-    same-length
+    (λ c. search needs)
+    (λ c κs. search needs)
+    (λ c. search needs)
+    (λ c. search needs)
+    (λ c. search needs)
+    (λ c. search needs)
     returns-2
     returns-3
     returns-4

@@ -1,169 +1,96 @@
+-- `lines::line` meets its contract: too little room, or by the phase. Assumes nothing.
 use borrow.Author.Needs.{needs}
+use mathlib.Core.Path.{_≡_, refl, sym, _∙_}
+use mathlib.Core.Bool.{Bool}
+use denote.Ref.{now}
+use Rattle.asks.specs.Ask.{requestLine}
+use Rattle.requests.proofs.Rooms.{short-bytes, short-out, enough}
+use Rattle.lines.proofs.Turns.{no-room, at-first, in-requests, at-end, request-in-image, line-in-image}
 use Rattle.lines.proofs.line.Statement.{statement}
 use Rattle.lines.proofs.line.Tie as tie
-use Rattle.lines.proofs.line.Reads as reads
-use Rattle.lines.proofs.line.Lts as lts
-use Rattle.asks.proofs.ask.is_request.Reads as is-request-reads
-use Rattle.lines.proofs.image_line.Reads as image-line-reads
-use Rattle.lines.proofs.request_line.Reads as request-line-reads
-use Rattle.lines.proofs.still.Reads as still-reads
 
--- src/lib.rt:155:9
-still-requires : tie.Need-still-requires
-still-requires c κs = search needs
+-- what the first field was found to say
+told : (c : tie.After-is-request) {b : Bool} → c .is-request .result ≡ b → let a = c .before .before .before .before .before .before .before .before .before .before .args in requestLine (now (a .line)) ≡ b
+told c e = sym (c .is-request .ensures) ∙ e
 
--- src/lib.rt:155:9
 returns : tie.Need-returns
-returns c = ?
+returns c =
+    let a = c .before .before .before .before .before .before .before .args in
+    rw (no-room (a .replay) (now (a .arena)) (now (a .work)) (now (a .bytes)) (now (a .out)) (now (a .line)) (short-bytes (now (a .bytes)) (now (a .out)) (c .before .if1 .taken)))
+    (c .still .ensures, (refl, (refl, (refl, refl))))
 
--- src/lib.rt:158:9
-still-requires-2 : tie.Need-still-requires-2
-still-requires-2 c κs = search needs
-
--- src/lib.rt:158:9
 returns-2 : tie.Need-returns-2
-returns-2 c = ?
+returns-2 c =
+    let a = c .before .before .before .before .before .before .before .before .args in
+    rw (no-room (a .replay) (now (a .arena)) (now (a .work)) (now (a .bytes)) (now (a .out)) (now (a .line)) (short-out (now (a .bytes)) (now (a .out)) (c .before .before .if1 .left) (c .before .if2 .taken)))
+    (c .still2 .ensures, (refl, (refl, (refl, refl))))
 
--- src/lib.rt:162:50
-enum-told : tie.Need-enum-told
-enum-told c = search needs
-
--- src/lib.rt:162:25
-image-line-requires : tie.Need-image-line-requires
-image-line-requires c κs = search needs
-
--- src/lib.rt:164:16
-enum-told-2 : tie.Need-enum-told-2
-enum-told-2 c = search needs
-
--- src/lib.rt:164:16
-is-request-requires : tie.Need-is-request-requires
-is-request-requires c κs = search needs
-
--- src/lib.rt:165:17
-request-line-requires : tie.Need-request-line-requires
-request-line-requires c κs = search needs
-
--- src/lib.rt:165:17
-same-length : tie.Need-same-length
-same-length c = search needs
-
--- src/lib.rt:165:17
-same-length-2 : tie.Need-same-length-2
-same-length-2 c = search needs
-
--- src/lib.rt:165:17
-same-length-3 : tie.Need-same-length-3
-same-length-3 c = search needs
-
--- src/lib.rt:165:17
-same-length-4 : tie.Need-same-length-4
-same-length-4 c = search needs
-
--- src/lib.rt:165:17
 returns-3 : tie.Need-returns-3
-returns-3 c = ?
+returns-3 c =
+    let k = c .before .before .before .before .before .before .before .before .before .before .before .before .before in
+    let a = k .before .before .before .before .before .before .before .before .before .before .before .args in
+    rw (request-in-image (a .replay) (now (a .arena)) (now (a .work)) (now (a .bytes)) (now (a .out)) (now (a .line)) (enough (now (a .bytes)) (now (a .out)) (k .before .before .before .before .before .if1 .left) (k .before .before .before .before .if2 .left)) (k .before .before .enum-told2 .given .1) (told (k .before) (k .if3 .taken)))
+    (c .before .before .before .before .before .before .before .before .request-line .ensures)
 
--- src/lib.rt:167:13
-image-line-requires-2 : tie.Need-image-line-requires-2
-image-line-requires-2 c κs = search needs
-
--- src/lib.rt:169:49
-enum-told-3 : tie.Need-enum-told-3
-enum-told-3 c = search needs
-
--- src/lib.rt:169:28
-request-line-requires-2 : tie.Need-request-line-requires-2
-request-line-requires-2 c κs = search needs
-
--- src/lib.rt:170:39
-enum-told-4 : tie.Need-enum-told-4
-enum-told-4 c = search needs
-
--- src/lib.rt:170:25
-still-requires-3 : tie.Need-still-requires-3
-still-requires-3 c κs = search needs
-
--- src/lib.rt:140:1
-same-length-5 : tie.Need-same-length-5
-same-length-5 c = search needs
-
--- src/lib.rt:140:1
-same-length-6 : tie.Need-same-length-6
-same-length-6 c = search needs
-
--- src/lib.rt:140:1
 returns-4 : tie.Need-returns-4
-returns-4 c = ?
+returns-4 c =
+    let k = c .before .before .before .before .before .before .before in
+    let a = k .before .before .before .before .before .before .before .before .before .args in
+    let o = c .before .before .before .before .image-line .ensures in
+    rw (at-first (a .replay) (now (a .arena)) (now (a .work)) (now (a .bytes)) (now (a .out)) (now (a .line)) (enough (now (a .bytes)) (now (a .out)) (k .before .before .before .if1 .left) (k .before .before .if2 .left)) (k .enum-told .given .1)) (o .0, (o .1 .0, (refl, (refl, o .1 .1))))
 
--- src/lib.rt:140:1
-same-length-7 : tie.Need-same-length-7
-same-length-7 c = search needs
-
--- src/lib.rt:140:1
-same-length-8 : tie.Need-same-length-8
-same-length-8 c = search needs
-
--- src/lib.rt:140:1
 returns-5 : tie.Need-returns-5
-returns-5 c = ?
+returns-5 c =
+    let k = c .before .before .before .before .before .before .before in
+    let a = k .before .before .before .before .before .before .before .before .before .before .before .args in
+    let o = c .before .before .before .before .image-line2 .ensures in
+    rw (line-in-image (a .replay) (now (a .arena)) (now (a .work)) (now (a .bytes)) (now (a .out)) (now (a .line)) (enough (now (a .bytes)) (now (a .out)) (k .before .before .before .before .before .if1 .left) (k .before .before .before .before .if2 .left)) (k .before .before .enum-told2 .given .1) (told (k .before) (k .if3 .left)))
+    (o .0, (o .1 .0, (refl, (refl, o .1 .1))))
 
--- src/lib.rt:140:1
-same-length-9 : tie.Need-same-length-9
-same-length-9 c = search needs
-
--- src/lib.rt:140:1
-same-length-10 : tie.Need-same-length-10
-same-length-10 c = search needs
-
--- src/lib.rt:140:1
-same-length-11 : tie.Need-same-length-11
-same-length-11 c = search needs
-
--- src/lib.rt:140:1
-same-length-12 : tie.Need-same-length-12
-same-length-12 c = search needs
-
--- src/lib.rt:140:1
 returns-6 : tie.Need-returns-6
-returns-6 c = ?
+returns-6 c =
+    let k = c .before .before .before .before .before .before .before .before .before .before .before .before .before in
+    let a = k .before .before .before .before .before .before .before .before .before .args in
+    rw (in-requests (a .replay) (now (a .arena)) (now (a .work)) (now (a .bytes)) (now (a .out)) (now (a .line)) (enough (now (a .bytes)) (now (a .out)) (k .before .before .before .if1 .left) (k .before .before .if2 .left)) (k .enum-told3 .given .1)) (c .before .before .before .before .before .before .before .before .request-line2 .ensures)
 
--- src/lib.rt:140:1
 returns-7 : tie.Need-returns-7
-returns-7 c = ?
+returns-7 c =
+    let k = c .before in
+    let a = k .before .before .before .before .before .before .before .before .before .args in
+    rw (at-end (a .replay) (now (a .arena)) (now (a .work)) (now (a .bytes)) (now (a .out)) (now (a .line)) (enough (now (a .bytes)) (now (a .out)) (k .before .before .before .if1 .left) (k .before .before .if2 .left)) (k .enum-told4 .given .1)) (c .still3 .ensures, (refl, (refl, (refl, refl))))
 
 pub line-spec : {M : Type 1} → statement M
 line-spec =
     tie.close
     (tie.spec
-    still-requires
+    (λ c κs. search needs)
     returns
-    still-requires-2
+    (λ c κs. search needs)
     returns-2
-    enum-told
-    image-line-requires
-    enum-told-2
-    is-request-requires
-    request-line-requires
-    same-length
-    same-length-2
-    same-length-3
-    same-length-4
+    (λ c. search needs)
+    (λ c κs. search needs)
+    (λ c. search needs)
+    (λ c κs. search needs)
+    (λ c κs. search needs)
+    (λ c. search needs)
+    (λ c. search needs)
+    (λ c. search needs)
+    (λ c. search needs)
     returns-3
-    image-line-requires-2
-    enum-told-3
-    request-line-requires-2
-    enum-told-4
-    still-requires-3
-    same-length-5
-    same-length-6
+    (λ c κs. search needs)
+    (λ c. search needs)
+    (λ c κs. search needs)
+    (λ c. search needs)
+    (λ c κs. search needs)
+    (λ c. search needs)
+    (λ c. search needs)
     returns-4
-    same-length-7
-    same-length-8
+    (λ c. search needs)
+    (λ c. search needs)
     returns-5
-    same-length-9
-    same-length-10
-    same-length-11
-    same-length-12
+    (λ c. search needs)
+    (λ c. search needs)
+    (λ c. search needs)
+    (λ c. search needs)
     returns-6
     returns-7)

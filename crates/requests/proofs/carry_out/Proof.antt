@@ -3,10 +3,10 @@ use borrow.Author.Needs.{needs}
 use mathlib.Core.Path.{_≡_, refl, sym, _∙_, ap}
 use lib.ListN.{length, length-map}
 use denote.Ref.{now}
-use Rattle.asks.specs.declared.ask.Ask.the-variants.{Read, Write}
+use Rattle.asks.specs.declared.Ask.the-variants.{Read, Write}
 use Rattle.asks.specs.Ask.{askOf}
-use Rattle.requests.specs.Line.{readLong}
-use Rattle.requests.proofs.Lines.{malformed, read-told, write-told}
+use Rattle.served.specs.Line.{readLong}
+use Rattle.served.proofs.Lines.{malformed, read-told, write-told}
 use Rattle.requests.proofs.carry_out.Statement.{statement}
 use Rattle.requests.proofs.carry_out.Tie as tie
 

@@ -1,0 +1,16 @@
+-- `asks::has_kind` meets its contract: one letter or the other. Assumes nothing.
+use borrow.Author.Needs.{needs}
+use mathlib.Core.Path.{sym, _∙_}
+use Rattle.asks.specs.Ask.{hasKind}
+use Rattle.asks.proofs.has_kind.Statement.{statement}
+use Rattle.asks.proofs.has_kind.Tie as tie
+
+pub has-kind-spec : {M : Type 1} → statement M
+unfolding hasKind
+has-kind-spec =
+    tie.close
+    (tie.spec
+    (λ c κs. search needs)
+    (λ c. search (sym (c .before .is-letter .ensures) ∙ c .if1 .taken))
+    (λ c κs. search needs)
+    (λ c. c .is-letter2 .ensures ∙ search (sym (c .before .before .is-letter .ensures) ∙ c .before .if1 .left)))

@@ -1,0 +1,2 @@
+-- What callers cite, and the functions' proofs share.
+pub mod Writing

@@ -1,0 +1,4 @@
+-- What callers cite, and what this crate's proofs share.
+pub mod Lines
+mod Parts
+mod Served

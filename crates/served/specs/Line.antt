@@ -1,0 +1,62 @@
+-- What comes of a request line: reply, bytes read, arena, and the buffers lent to it.
+use Prim.Native.Nat.{ℕ, _*_}
+use mathlib.Core.List.{List, [], _++_}
+use lib.ListN.{length}
+use Rattle.answers.specs.declared.refusal.Refusal.the-variants.{MalformedRequest}
+use Rattle.spans.specs.Part.{put}
+use Rattle.hex.specs.Hex.{unhex}
+use Rattle.hex.specs.Codes.{codesOf}
+use Rattle.structure.specs.declared.card.Card.{Card}
+use Rattle.plan.specs.declared.Reply.{Reply}
+use Rattle.plan.specs.declared.Reply.the-variants.{Refused, Done, ShortData, Failed}
+use Rattle.plan.specs.Request.{readRequest, writeRequest}
+use Rattle.plan.specs.Serve.{Served, told, serve, outputAfter, stagingBy}
+use Rattle.asks.specs.declared.Ask.{Ask}
+use Rattle.asks.specs.declared.Ask.the-variants.{Malformed, Read, Write}
+use Rattle.asks.specs.Ask.{fieldIn, askOf}
+
+-- several service codes stand joined
+abbrev pub codesIn : List ℕ → List ℕ
+codesIn line = codesOf (fieldIn line 2)
+
+abbrev pub listIn : List ℕ → List ℕ
+listIn line = unhex (fieldIn line 4)
+
+abbrev pub dataIn : List ℕ → List ℕ
+dataIn line = unhex (fieldIn line 5)
+
+-- how many bytes a read puts out: sixteen for each element, if it is carried out
+abbrev pub readLong : Reply → ℕ → ℕ
+readLong (Refused r) count = 0
+readLong Done count = 16 * count
+readLong ShortData count = 0
+readLong (Failed i f) count = 0
+
+-- malformed is refusal 6, anything else a whole request on a buffer of `room` bytes
+abbrev pub askServed : Card → List ℕ → ℕ → List ℕ → Ask → Served
+askServed card arena room line Malformed = told arena (Refused MalformedRequest)
+askServed card arena room line (Read keyless count) =
+    serve card arena (readRequest keyless (codesIn line) count (listIn line) room)
+askServed card arena room line (Write keyless count) =
+    serve card arena (writeRequest keyless (codesIn line) count (listIn line) (dataIn line) room)
+
+unfoldable pub lineServed : Card → List ℕ → ℕ → List ℕ → Served
+lineServed card arena room line = askServed card arena room line (askOf line)
+
+-- the buffer is the output of a read and the staging of a write
+abbrev pub workBy : ℕ → List ℕ → Served → Ask → List ℕ
+workBy size work served Malformed = work
+workBy size work served (Read keyless count) = outputAfter work served
+workBy size work served (Write keyless count) = stagingBy (served .reply) size work
+
+unfoldable pub workAfter : Card → List ℕ → List ℕ → List ℕ → List ℕ
+workAfter card arena work line = workBy (16 * card .used) work (lineServed card arena (length work) line) (askOf line)
+
+-- the bytes of list and data, one after the other
+abbrev pub spelledBy : List ℕ → Ask → List ℕ
+spelledBy line Malformed = []
+spelledBy line (Read keyless count) = listIn line
+spelledBy line (Write keyless count) = listIn line ++ dataIn line
+
+unfoldable pub bytesAfter : List ℕ → List ℕ → List ℕ
+bytesAfter bytes line = put bytes 0 (length (spelledBy line (askOf line))) (spelledBy line (askOf line))
