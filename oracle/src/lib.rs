@@ -2,13 +2,15 @@
 //! questions. `README.md` says what is carried, what is stood in for, and the line formats.
 //!
 //! From the bottom up: `felica_standard` is the Rust with our stand-ins around it. What its
-//! emulator hides from the outside is asked through `emulator::doors`. `refusal` has document
-//! 01's numbers, `tree` grows a card by its rules, `request` serves a request on it, and `replay`
+//! emulator hides from the outside is asked through `emulator::doors`. `refusal` has the numbers of
+//! docs/RULES.md, `tree` grows a card by its rules, `request` serves a request on it, and `replay`
 //! answers a whole text. `leaves` asks the questions that need no card, `trees` those about
-//! growing one, `requests` those about requests, `texts` those about whole texts; `draw` draws
-//! what they ask about. `random`, `hex`, `lines`, `files`, `cause`, `counts` and `program` are
-//! tools.
+//! growing one, `requests` those about requests, `texts` those about whole texts, `terminals` those
+//! about two lists of requests on one card; `draw` draws what they ask about. `beside` puts texts to
+//! another program and compares. `random`, `hex`, `lines`, `files`, `cause`, `counts` and `program`
+//! are tools.
 
+pub mod beside;
 pub mod cause;
 pub mod counts;
 pub mod draw;
@@ -23,6 +25,7 @@ pub mod refusal;
 pub mod replay;
 pub mod request;
 pub mod requests;
+pub mod terminals;
 pub mod texts;
 pub mod tree;
 pub mod trees;

@@ -49,6 +49,18 @@ pub fn words(name: &str, small: (usize, u64)) -> io::Result<Words> {
     })
 }
 
+/// Reads two numbers, and a word that may follow them.
+pub fn numbers(usage: &str) -> io::Result<([u64; 2], String)> {
+    let words: Vec<String> = std::env::args().skip(1).collect();
+    let wrong = || io::Error::other(format!("usage: {usage}"));
+    let number = |word: &String| word.parse().map_err(|_| wrong());
+    match words.as_slice() {
+        [one, two] => Ok(([number(one)?, number(two)?], String::new())),
+        [one, two, word] => Ok(([number(one)?, number(two)?], word.clone())),
+        _ => Err(wrong()),
+    }
+}
+
 /// Draws the list that the words ask for, and prints it, writes it or prints its counts.
 pub fn run(name: &str, small: (usize, u64), draw: impl Fn(usize, u64) -> List) -> io::Result<()> {
     let words = words(name, small)?;

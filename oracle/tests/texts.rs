@@ -1,48 +1,113 @@
 //! The list of texts meets what it is said to meet.
 
 use std::collections::BTreeSet;
+use uluvoli_oracle::counts::Counts;
 use uluvoli_oracle::replay::replay;
-use uluvoli_oracle::texts;
+use uluvoli_oracle::texts::{self, Text};
 
-/// The list of 2,100 texts meets every refusal of an image and of a request, every SF2, and
-/// failures at places 254 and 255 or beyond.
+/// The texts of this kind.
+fn of_kind<'a>(texts: &'a [Text], kind: &str) -> Vec<&'a Text> {
+    texts.iter().filter(|text| text.kind == kind).collect()
+}
+
+/// A list meets every refusal of an image and of a request and every SF2 so many times, and all
+/// else that replay can say at least once.
+fn meets(counts: &Counts, image: usize, requests: usize) {
+    let refusals = (11..=23).chain([28, 30]);
+    let image = refusals.map(|number| (format!("image refused {number}"), image));
+    let refused = [1, 2, 3, 6].map(|number| format!("request refused {number}"));
+    let sf2 = [
+        "01", "02", "03", "A3", "A4", "A5", "A6", "A7", "A8", "AC", "AF",
+    ];
+    let sf2 = sf2.map(|sf2| format!("SF2 {sf2}"));
+    let names = refused.into_iter().chain(sf2);
+    for (name, times) in image.chain(names.map(|name| (name, requests))) {
+        let met = counts.of(&name);
+        assert!(met >= times, "{name}: {met}");
+    }
+    assert_eq!(texts::unmet(counts), Vec::<String>::new());
+}
+
+/// The list of 4,000 texts has every kind and meets everything often.
 #[test]
 fn varied() {
-    let (texts, counts) = texts::all(2_300, 1);
-    let refusals = (11..=23).chain([28, 30]).map(|number| (number, 10));
-    for (number, times) in refusals {
-        let met = counts.of(&format!("image refused {number}"));
-        assert!(met >= times, "image refused {number}: {met}");
-    }
-    for number in [1, 2, 3, 6] {
-        assert!(counts.of(&format!("request refused {number}")) >= 100);
-    }
-    for sf2 in [
-        "01", "02", "03", "A3", "A4", "A5", "A6", "A7", "A8", "AC", "AF",
-    ] {
-        let met = counts.of(&format!("SF2 {sf2}"));
-        assert!(met >= 100, "SF2 {sf2}: {met}");
-    }
-    assert!(counts.of("SF2 A5 at place 254") > 0);
-    assert!(counts.of("SF2 A5 at place 255 or beyond") > 0);
+    let (texts, counts) = texts::all(4_000, 1);
+    meets(&counts, 10, 100);
     assert!(counts.of("nothing printed") > 20);
     assert!(counts.of("done") > 5_000);
     let unended = texts.iter().filter(|text| !text.input.ends_with(b"\n"));
     assert!(unended.count() > 100);
     assert!(texts.iter().any(|text| text.input.is_empty()));
     assert!(texts.iter().any(|text| text.input.len() > 131_072));
+    for kind in [
+        "tree",
+        "element checks",
+        "purse",
+        "cyclic",
+        "mixed",
+        "malformed",
+        "two terminals",
+        "long line",
+    ] {
+        assert!(of_kind(&texts, kind).len() > 150, "{kind}");
+    }
+    assert!(of_kind(&texts, "large").len() > 20);
+    assert!(of_kind(&texts, "refused image").len() > 1_000);
+}
+
+/// Texts about purses have each of their faults, those about rings theirs, and neither those of
+/// the other.
+#[test]
+fn tastes() {
+    let (texts, _) = texts::all(4_000, 1);
+    let has = |kind: &str, sf2: &str| {
+        let texts = of_kind(&texts, kind);
+        let mut lines = texts.iter().flat_map(|text| text.output.lines());
+        lines.any(|line| line.split('\t').nth(2) == Some(sf2))
+    };
+    for sf2 in ["01", "02", "03"] {
+        assert!(has("purse", sf2) && !has("cyclic", sf2), "{sf2}");
+    }
+    assert!(has("cyclic", "AF") && !has("purse", "AF"));
+    for sf2 in ["A3", "A4", "A5", "A6", "A7", "A8"] {
+        assert!(has("element checks", sf2), "{sf2}");
+    }
+    assert!(has("tree", "A8") && has("malformed", "6"));
+}
+
+/// Every malformed line is refused as one: with 30 in an image, with 6 after a request.
+#[test]
+fn malformed() {
+    let (texts, _) = texts::all(600, 1);
+    let texts = of_kind(&texts, "malformed line");
+    assert!(texts.len() > 200);
+    for text in texts {
+        let shown = text.input.escape_ascii();
+        if text.output.starts_with("image\t") {
+            let thirty = ["image\t1\t30\n", "image\t3\t30\n"];
+            assert!(thirty.contains(&text.output.as_str()), "{shown}");
+            continue;
+        }
+        let mut lines = text.output.lines();
+        assert!(
+            lines
+                .next()
+                .is_some_and(|line| line.starts_with("1\t00\t00"))
+        );
+        assert!(lines.all(|line| line.ends_with("\t!\t6\t-\t-")), "{shown}");
+    }
 }
 
 /// Lines of 32,767, 32,768 and 32,769 bytes come with every first field and in every place, and
 /// a write of 32,768 bytes is carried out.
 #[test]
 fn long_lines() {
-    let (texts, _) = texts::all(2_300, 1);
+    let (texts, _) = texts::all(2_600, 1);
+    let texts = of_kind(&texts, "long line");
     let mut met = BTreeSet::new();
     for text in &texts {
-        let lines = text.input.split(|&byte| byte == b'\n');
         let mut place = "first";
-        for (at, line) in lines.enumerate() {
+        for (at, line) in text.input.split(|&byte| byte == b'\n').enumerate() {
             let first = line.split(|&byte| byte == b'\t').next().unwrap_or(line);
             let first = String::from_utf8_lossy(&first[..first.len().min(5)]).into_owned();
             if at > 0 && place == "first" {
@@ -75,17 +140,31 @@ fn long_lines() {
     assert!(carried_out);
 }
 
-/// The first text is The whole case of docs/RULES.md, each output is replay's, and the list is the same
-/// each time.
+/// The stored list starts with the whole case of docs/RULES.md, meets all that replay can say, has
+/// lines of the greatest length and one more, ended and not, and is the same each time.
 #[test]
-fn outputs() {
+fn stored() {
     let (length, seed) = texts::SMALL;
-    let (texts, _) = texts::all(length, seed);
+    let (texts, counts) = texts::all(length, seed);
     assert_eq!(texts.len(), length);
+    meets(&counts, 4, 10);
     let whole = "1|00|00|-|-\n2|00|00|-|11111111111111111111111111111111\n3|01|A8|1|-\n";
     assert_eq!(texts[0].output, whole.replace('|', "\t"));
     let bytes: usize = texts.iter().map(|text| text.input.len()).sum();
-    assert!(bytes < 1_500_000, "{bytes}");
+    assert!(bytes < 1_700_000, "{bytes}");
+    for most in [32_768, 32_769] {
+        for ended in [true, false] {
+            let has = texts.iter().any(|text| {
+                let mut lines = text.input.split_inclusive(|&byte| byte == b'\n');
+                lines.any(|line| {
+                    line.len() == most + usize::from(ended) && line.ends_with(b"\n") == ended
+                })
+            });
+            assert!(has, "{most} {ended}");
+        }
+    }
+    assert!(texts.iter().any(|text| text.output.len() > 65_536));
+    assert!(of_kind(&texts, "two terminals").len() > 10);
     let again = texts::all(length, seed).0;
     for (text, same) in texts.iter().zip(&again) {
         assert_eq!(text.input, same.input);

@@ -33,7 +33,7 @@ pub fn additions(random: &mut Random, arena: usize) -> Vec<Addition> {
             continue;
         }
         additions.push(addition);
-        let mut limited = is_purse(addition) && random.once_in(3);
+        let mut limited = is_service(addition, ServiceKind::Purse) && random.once_in(3);
         while limited {
             let limit = Addition::Limit(values::limit(random));
             card.add(arena, limit).expect("a service takes a limit");
@@ -44,10 +44,33 @@ pub fn additions(random: &mut Random, arena: usize) -> Vec<Addition> {
     additions
 }
 
-/// Whether an addition is a purse service.
-fn is_purse(addition: Addition) -> bool {
+/// The additions of a card with services of one kind alone, and at least one, if a kind is given.
+pub fn additions_of(random: &mut Random, arena: usize, only: Option<ServiceKind>) -> Vec<Addition> {
+    let Some(kind) = only else {
+        return additions(random, arena);
+    };
+    loop {
+        let mut drawn = additions(random, arena);
+        // A limit goes or stays with the service before it.
+        let mut last = false;
+        drawn.retain(|&addition| match addition {
+            Addition::Area { .. } => true,
+            Addition::Service { .. } => {
+                last = is_service(addition, kind);
+                last
+            }
+            Addition::Limit(_) => last,
+        });
+        if drawn.iter().any(|&addition| is_service(addition, kind)) {
+            return drawn;
+        }
+    }
+}
+
+/// Whether an addition is a service of this kind.
+fn is_service(addition: Addition, kind: ServiceKind) -> bool {
     match addition {
-        Addition::Service { code, .. } => ServiceCode::new(code).kind() == Some(ServiceKind::Purse),
+        Addition::Service { code, .. } => ServiceCode::new(code).kind() == Some(kind),
         _ => false,
     }
 }

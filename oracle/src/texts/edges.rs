@@ -1,7 +1,9 @@
 //! Texts that are always in the list: the rules about lines, each by its smallest input.
 
+use crate::replay::line::MOST_BYTES;
+
 /// The texts, with `|` for a tab.
-pub const TEXTS: [&str; 48] = [
+const TEXTS: [&str; 52] = [
     // The whole case of docs/RULES.md.
     "card|0001|0000\nsvc|1|1049|2|0000\nsvc|1|104B|5|0000\n\
      W|O|1049|1|8001|11111111111111111111111111111111\nR|O|104B|1|8001\nR|O|104B|1|8002\n",
@@ -80,9 +82,54 @@ pub const TEXTS: [&str; 48] = [
     // Areas and the system in a request.
     "card|0001|0000\narea|1|0100|01FF|0000\nsvc|2|0149|1|0000\nR|O|0100FFFF0149|3|820080008100\n\
      R|S|0100FFFF0149|1|8100\nR|S|0100FFFF0149|1|8300\n",
+    // Refusals of an image that few random texts meet, and lines of blanks and of NUL.
+    "card|0001|0000\narea|1|0000|FFFD|0000\n",
+    "card|0001|0000\n \nR|O|-|0|-\n",
+    "card|0001|0000\nR|O|-|0|-\n \n\0\n|\n\r\nR|O|-|0|-\0\n",
+    "card|0001|0000\n\u{FEFF}R|O|-|0|-\n",
 ];
 
-/// The text of this number, from 0.
-pub fn text(number: usize) -> Vec<u8> {
-    TEXTS[number].replace('|', "\t").into_bytes()
+/// A text that is told every place: a read of one element that fails, of two of which the second
+/// fails, and so on beyond the 255th.
+fn places() -> String {
+    let mut text = "card|0001|0000\nsvc|1|1049|1|0000\n".to_string();
+    for count in 1..=257 {
+        let passing = "8000".repeat(count - 1);
+        text += &format!("R|O|1049|{count}|{passing}8001\n");
+    }
+    text
+}
+
+/// A text that is told more than any buffer holds: reads of 512 blocks, and short answers between
+/// them, so that the long ones start at different places.
+fn full() -> String {
+    let mut text = "card|0001|0000\nsvc|1|1049|2|0000\nblk|1049|1|\
+                    00112233445566778899AABBCCDDEEFF\n"
+        .to_string();
+    for turn in 0..6 {
+        text += &format!("R|O|1049|512|{}\n", "80008001".repeat(256));
+        text += &"R|O|-|0|-\n".repeat(turn);
+    }
+    text
+}
+
+/// A text with two writes of these lengths; the last one has no LF. One as long as a line may be is
+/// carried out.
+fn longest(lengths: [usize; 2]) -> String {
+    let start = "W|O|10491049|1|8000|";
+    let [first, last] = lengths.map(|length| "0".repeat(length - start.len()));
+    format!("card|0001|0000\nsvc|1|1049|2|0000\n{start}{first}\n{start}{last}")
+}
+
+/// The texts, the whole case of docs/RULES.md first.
+pub fn texts() -> impl Iterator<Item = Vec<u8>> {
+    let texts = TEXTS.iter().map(|text| text.to_string());
+    let bytes = |text: String| text.replace('|', "\t").into_bytes();
+    texts
+        .chain([places(), full()])
+        .chain([
+            longest([MOST_BYTES, MOST_BYTES + 1]),
+            longest([MOST_BYTES + 1, MOST_BYTES]),
+        ])
+        .map(bytes)
 }

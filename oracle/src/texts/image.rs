@@ -1,9 +1,10 @@
-//! Texts whose image is refused: each refusal in turn, after an image that grew for a while.
+//! Texts about trees: images that are refused, each refusal in turn, after they grew for a while,
+//! and images that grow large and are then looked at service by service.
 
 use super::line::Line;
 use super::spoil;
 use crate::draw::additions::{self, Habit, Stores};
-use crate::draw::{cards, codes};
+use crate::draw::{cards, codes, requests};
 use crate::felica_standard::emulator::doors::Block;
 use crate::random::Random;
 use crate::refusal::{self, Refusal};
@@ -23,6 +24,20 @@ const HABIT: Habit = Habit {
     deep: false,
     stores: Stores::Any,
 };
+
+/// How the additions of a large tree are drawn, in turn: wide, deep, and all on one store.
+const LARGE: [Habit; 3] = [
+    HABIT,
+    Habit {
+        areas: 6,
+        deep: true,
+        ..HABIT
+    },
+    Habit {
+        stores: Stores::OneLarge,
+        ..HABIT
+    },
+];
 
 /// After this many draws without what is looked for, the image ends.
 const MOST_TRIES: usize = 600;
@@ -44,17 +59,36 @@ pub fn text(random: &mut Random, turn: usize) -> Vec<u8> {
         if card.nodes().len() >= grown {
             break;
         }
-        text.extend(accepted(random, &mut card));
+        text.extend(accepted(random, &mut card, HABIT));
     }
     text.extend(refused(random, &mut card, wanted));
     text.extend(b"R\tO\t-\t0\t-\n");
     text
 }
 
+/// A text whose image is accepted, and reads of each service's last block and of the one beyond.
+pub fn grown(random: &mut Random) -> Vec<u8> {
+    let mut card = Card::new(random.word() as u16, random.word() as u16);
+    let first = Line::card(card.rust().system_code(), card.key_version(0xFFFF));
+    let mut text = first.bytes(random);
+    let habit = random.pick(&LARGE);
+    for _ in 0..random.below(200) {
+        text.extend(accepted(random, &mut card, habit));
+    }
+    for code in codes::services(&card) {
+        let beyond = card.store(code).unwrap_or(0) as u16;
+        for numbers in [[0, beyond.saturating_sub(1)], [0, beyond]] {
+            let read = requests::read_of(code, numbers.into_iter());
+            text.extend(Line::request(&read).bytes(random));
+        }
+    }
+    text
+}
+
 /// The lines of an addition that the card accepts, and at times of a block; nothing if it
 /// refuses what was drawn.
-fn accepted(random: &mut Random, card: &mut Card) -> Vec<u8> {
-    let addition = additions::addition(random, card, ARENA, HABIT);
+fn accepted(random: &mut Random, card: &mut Card, habit: Habit) -> Vec<u8> {
+    let addition = additions::addition(random, card, ARENA, habit);
     if card.add(ARENA, addition).is_err() {
         return Vec::new();
     }
@@ -85,7 +119,7 @@ fn refused(random: &mut Random, card: &mut Card, wanted: Refusal) -> Vec<u8> {
             break;
         }
         if turn % 10 == 0 {
-            lines.extend(accepted(random, card));
+            lines.extend(accepted(random, card, HABIT));
         }
     }
     lines

@@ -1,81 +1,167 @@
-//! Random replay texts and what is printed for them.
+//! Replay texts: those that are the same for every seed, then random ones of every kind; and what
+//! is printed for them.
 
 mod edges;
 mod image;
-mod line;
+pub mod line;
 mod long;
-mod served;
-mod spoil;
+mod malformed;
+pub mod served;
+pub mod spoil;
 
 use crate::counts::Counts;
 use crate::random::Random;
 use crate::replay::replay;
+use crate::terminals;
+use served::Taste;
+use std::collections::VecDeque;
 
-/// Length and seed of the list that is small enough to be stored.
-pub const SMALL: (usize, u64) = (300, 1);
+/// Length and seed of the list that is stored.
+pub const SMALL: (usize, u64) = (542, 1);
 
-/// A text and what is printed for it.
+/// A text, with the name of its kind, and what is printed for it.
 pub struct Text {
+    pub kind: &'static str,
     pub input: Vec<u8>,
     pub output: String,
 }
 
+impl Text {
+    /// A text of no kind in particular, answered.
+    pub fn of(input: Vec<u8>) -> Self {
+        Text::new("other", input)
+    }
+
+    /// The text of a kind, answered.
+    fn new(kind: &'static str, input: Vec<u8>) -> Self {
+        let output = replay(&input);
+        Text {
+            kind,
+            input,
+            output,
+        }
+    }
+}
+
 /// This many texts, fixed by the seed, and what they met.
 pub fn all(length: usize, seed: u64) -> (Vec<Text>, Counts) {
-    let mut random = Random::new(seed);
     let mut counts = Counts::default();
-    let texts = (0..length)
-        .map(|at| {
-            let (kind, input) = text(&mut random, at);
-            let output = replay(&input);
-            counts.meet(format!("text: {kind}"));
-            count(&mut counts, &output);
-            Text { input, output }
-        })
-        .collect();
+    let texts: Vec<Text> = Texts::new(seed).take(length).collect();
+    for text in &texts {
+        count(&mut counts, text);
+    }
     (texts, counts)
 }
 
-/// The text at this place of the list, with the name of its kind. The edges come first; of the
-/// others, every 20th has a long line and every 150th is large.
-fn text(random: &mut Random, at: usize) -> (&'static str, Vec<u8>) {
-    let Some(at) = at.checked_sub(edges::TEXTS.len()) else {
-        return ("edge", edges::text(at));
-    };
-    if at % 20 == 19 {
-        return ("long line", long::text(at / 20));
-    }
-    if at % 150 == 60 {
-        let requests = 200 + random.below(200);
-        return ("large", served::text(random, requests));
-    }
-    let (kind, mut text) = if random.once_in(3) {
-        ("refused image", image::text(random, at))
-    } else {
-        let requests = random.below(21);
-        ("requests", served::text(random, requests))
-    };
-    if random.once_in(6) {
-        text.pop();
-    }
-    (kind, text)
+/// The texts of a seed, without end.
+pub struct Texts {
+    random: Random,
+    fixed: VecDeque<(&'static str, Vec<u8>)>,
+    drawn: usize,
+    terminals: Vec<Vec<u8>>,
 }
 
-/// Counts the lines that are printed for a text.
-fn count(counts: &mut Counts, output: &str) {
-    if output.is_empty() {
+impl Texts {
+    /// The texts of this seed, those that every seed has first.
+    pub fn new(seed: u64) -> Self {
+        let edges = edges::texts().map(|text| ("edge", text));
+        let malformed = malformed::texts().into_iter();
+        let malformed = malformed.map(|text| ("malformed line", text));
+        Texts {
+            random: Random::new(seed),
+            fixed: edges.chain(malformed).collect(),
+            drawn: 0,
+            terminals: Vec::new(),
+        }
+    }
+
+    /// The next random text, with the name of its kind. Of twenty, one has a long line, seven are
+    /// trees, two have requests of two terminals; one in 150 is large.
+    fn draw(&mut self) -> (&'static str, Vec<u8>) {
+        let at = self.drawn;
+        self.drawn += 1;
+        let random = &mut self.random;
+        if at % 150 == 60 {
+            let lines = 200 + random.below(200);
+            return ("large", served::text(random, Taste::MIXED, lines));
+        }
+        let lines = random.below(21);
+        match at % 20 {
+            turn @ 0..6 => ("refused image", image::text(random, at / 20 * 6 + turn)),
+            6 => ("tree", image::grown(random)),
+            7 | 8 => ("element checks", served::text(random, Taste::CHECKS, lines)),
+            9 | 10 => ("purse", served::text(random, Taste::PURSE, lines)),
+            11 | 12 => ("cyclic", served::text(random, Taste::CYCLIC, lines)),
+            13 | 14 => ("malformed", served::text(random, Taste::MALFORMED, lines)),
+            15 | 16 => ("mixed", served::text(random, Taste::MIXED, lines)),
+            17 | 18 => ("two terminals", self.terminal()),
+            _ => ("long line", long::text(at / 20)),
+        }
+    }
+
+    /// The next text of two terminals: all orders of a pair, then those of another one.
+    fn terminal(&mut self) -> Vec<u8> {
+        if self.terminals.is_empty() {
+            self.terminals = terminals::Pair::draw(&mut self.random).texts();
+        }
+        self.terminals.pop().expect("a pair has several orders")
+    }
+}
+
+impl Iterator for Texts {
+    type Item = Text;
+
+    /// The next text. One random text in six lacks its last byte, mostly an LF.
+    fn next(&mut self) -> Option<Text> {
+        if let Some((kind, input)) = self.fixed.pop_front() {
+            return Some(Text::new(kind, input));
+        }
+        let (kind, mut input) = self.draw();
+        if kind != "long line" && self.random.once_in(6) {
+            input.pop();
+        }
+        Some(Text::new(kind, input))
+    }
+}
+
+/// Counts a text by its kind, and each line that is printed for it.
+pub fn count(counts: &mut Counts, text: &Text) {
+    counts.meet(format!("text: {}", text.kind));
+    if text.output.is_empty() {
         counts.meet("nothing printed");
     }
-    for line in output.lines() {
+    for line in text.output.lines() {
         let fields: Vec<&str> = line.split('\t').collect();
-        counts.meet(match fields.as_slice() {
-            ["image", _, refusal] => format!("image refused {refusal}"),
-            [_, "!", refusal, ..] => format!("request refused {refusal}"),
-            [_, "00", ..] => "done".to_string(),
-            [_, "FE", sf2, ..] => format!("SF2 {sf2} at place 254"),
-            [_, "FF", sf2, ..] if *sf2 != "AC" => format!("SF2 {sf2} at place 255 or beyond"),
-            [_, _, sf2, ..] => format!("SF2 {sf2}"),
+        match fields.as_slice() {
+            ["image", _, refusal] => counts.meet(format!("image refused {refusal}")),
+            [_, "!", refusal, ..] => counts.meet(format!("request refused {refusal}")),
+            [_, "00", ..] => counts.meet("done"),
+            [_, sf1, sf2, ..] => {
+                counts.meet(format!("SF1 {sf1}"));
+                counts.meet(format!("SF2 {sf2}"));
+            }
             _ => unreachable!("replay prints three or five fields"),
-        });
+        }
     }
+}
+
+/// What replay can say: every refusal, every place from 01 to FF and every SF2. Refusals 4, 5, 7
+/// and 8 are not among them: replay lends enough of each and its card is always a built one.
+fn possible() -> impl Iterator<Item = String> {
+    let image = (11..=23).chain([28, 30]);
+    let requests = [1, 2, 3, 6].into_iter();
+    let sf2 = [
+        0x01, 0x02, 0x03, 0xA3, 0xA4, 0xA5, 0xA6, 0xA7, 0xA8, 0xAC, 0xAF,
+    ];
+    image
+        .map(|number| format!("image refused {number}"))
+        .chain(requests.map(|number| format!("request refused {number}")))
+        .chain((1..=255).map(|sf1| format!("SF1 {sf1:02X}")))
+        .chain(sf2.map(|sf2| format!("SF2 {sf2:02X}")))
+        .chain(["done".to_string()])
+}
+
+/// What replay can say and a list did not meet.
+pub fn unmet(counts: &Counts) -> Vec<String> {
+    possible().filter(|name| counts.of(name) == 0).collect()
 }

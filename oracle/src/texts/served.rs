@@ -3,17 +3,84 @@
 use super::line::Line;
 use super::spoil;
 use crate::draw::{cards, requests};
+use crate::felica_standard::ServiceKind;
 use crate::random::Random;
 use crate::replay::ARENA;
 use crate::request;
 use crate::tree::Card;
 
-/// A text with this many lines after its image, most of them good requests.
-pub fn text(random: &mut Random, lines: usize) -> Vec<u8> {
+/// What a text is mostly about.
+#[derive(Clone, Copy)]
+pub struct Taste {
+    /// The only kind of service on the card, if there is one.
+    only: Option<ServiceKind>,
+    /// Whether every request has an element that may fail.
+    failing: bool,
+    /// One line after the image in this many is spoilt.
+    spoilt: usize,
+    /// After a line, once in this many times, stands one that is no request.
+    stray: usize,
+}
+
+impl Taste {
+    /// A bit of everything.
+    pub const MIXED: Taste = Taste {
+        only: None,
+        failing: false,
+        spoilt: 12,
+        stray: 30,
+    };
+    pub const CHECKS: Taste = Taste {
+        failing: true,
+        spoilt: 40,
+        ..Taste::MIXED
+    };
+    pub const PURSE: Taste = Taste {
+        only: Some(ServiceKind::Purse),
+        spoilt: 40,
+        ..Taste::MIXED
+    };
+    pub const CYCLIC: Taste = Taste {
+        only: Some(ServiceKind::Cyclic),
+        ..Taste::PURSE
+    };
+    pub const MALFORMED: Taste = Taste {
+        spoilt: 2,
+        stray: 4,
+        ..Taste::MIXED
+    };
+}
+
+/// A text with about this many lines after its image.
+pub fn text(random: &mut Random, taste: Taste, lines: usize) -> Vec<u8> {
+    let (mut card, mut text) = image(random, taste.only);
+    for at in 0..lines {
+        let request = if taste.failing {
+            requests::failing(random, &card)
+        } else {
+            requests::request(random, &card)
+        };
+        let mut line = Line::request(&request);
+        if random.once_in(taste.spoilt) {
+            spoil::spoil(random, &mut line);
+        } else {
+            // The card goes along, so that later requests are drawn for what it then holds.
+            let _ = request::serve(&mut card, ARENA, ARENA, &request);
+        }
+        text.extend(line.bytes(random));
+        if at > 0 && random.once_in(taste.stray) {
+            text.extend(stray(random, &card));
+        }
+    }
+    text
+}
+
+/// A card and the lines of its image, with services of one kind alone if one is given.
+pub fn image(random: &mut Random, only: Option<ServiceKind>) -> (Card, Vec<u8>) {
     let mut card = Card::new(random.word() as u16, random.word() as u16);
     let first = Line::card(card.rust().system_code(), card.key_version(0xFFFF));
     let mut text = first.bytes(random);
-    for addition in cards::additions(random, ARENA) {
+    for addition in cards::additions_of(random, ARENA, only) {
         card.add(ARENA, addition)
             .expect("a card accepts what was drawn for it");
         text.extend(Line::addition(addition).bytes(random));
@@ -21,21 +88,7 @@ pub fn text(random: &mut Random, lines: usize) -> Vec<u8> {
             text.extend(set(random, &mut card));
         }
     }
-    for at in 0..lines {
-        let request = requests::request(random, &card);
-        let mut line = Line::request(&request);
-        if random.once_in(12) {
-            spoil::spoil(random, &mut line);
-        } else {
-            // The card goes along, so that later requests are drawn for what it then holds.
-            let _ = request::serve(&mut card, ARENA, ARENA, &request);
-        }
-        text.extend(line.bytes(random));
-        if at > 0 && random.once_in(30) {
-            text.extend(stray(random, &card));
-        }
-    }
-    text
+    (card, text)
 }
 
 /// The line that sets a block of the card, if one was drawn.

@@ -5,13 +5,13 @@ use super::line::Line;
 use crate::random::Random;
 
 /// Bytes beside the digits and letters that a field may have, and some that end lines elsewhere.
-const STRAY: [u8; 18] = [
+pub const STRAY: [u8; 18] = [
     b'/', b':', b'@', b'G', b'`', b'g', b'-', b'+', b'.', b' ', b'_', b'\r', b'\0', 0x0B, 0x7F,
     0x80, 0xC1, 0xFF,
 ];
 
 /// Decimals that some width cannot hold, or that are not written as they should be.
-const DECIMALS: [&str; 22] = [
+pub const DECIMALS: [&str; 22] = [
     "00",
     "01",
     "-0",

@@ -1,0 +1,66 @@
+//! A process that has to end in time.
+
+use std::io::{self, Read, Write};
+use std::process::{Child, Command, Stdio};
+use std::thread;
+use std::time::{Duration, Instant};
+
+/// What a process printed, and how it ended where that was not by itself with status 0.
+pub struct Ran {
+    pub printed: Vec<u8>,
+    pub fault: Option<String>,
+}
+
+/// A process is asked this often whether it has ended, and this long is waited between two pieces
+/// of its input.
+const PAUSE: Duration = Duration::from_millis(2);
+
+/// Runs a command: its input comes in these pieces, it has to end within the limit, and of what
+/// it prints no more than `most` bytes are kept.
+pub fn run(
+    command: &mut Command,
+    pieces: Vec<Vec<u8>>,
+    limit: Duration,
+    most: usize,
+) -> io::Result<Ran> {
+    let mut child = command
+        .stdin(Stdio::piped())
+        .stdout(Stdio::piped())
+        .spawn()?;
+    let mut input = child.stdin.take().expect("standard input is piped");
+    let output = child.stdout.take().expect("standard output is piped");
+    thread::spawn(move || {
+        for piece in pieces {
+            // A program that has seen enough may end before it has read all.
+            if input.write_all(&piece).is_err() {
+                break;
+            }
+            thread::sleep(PAUSE);
+        }
+    });
+    let reader = thread::spawn(move || {
+        let mut printed = Vec::new();
+        let read = output.take(most as u64).read_to_end(&mut printed);
+        read.map(|_| printed)
+    });
+    let fault = wait(&mut child, limit)?;
+    let printed = reader.join().expect("reading does not panic")?;
+    Ok(Ran { printed, fault })
+}
+
+/// Waits until a process ends, or ends it; says how, if that is not with status 0.
+fn wait(child: &mut Child, limit: Duration) -> io::Result<Option<String>> {
+    let began = Instant::now();
+    loop {
+        match child.try_wait()? {
+            Some(status) if status.success() => return Ok(None),
+            Some(status) => return Ok(Some(format!("it ended with {status}"))),
+            None if began.elapsed() > limit => {
+                child.kill()?;
+                child.wait()?;
+                return Ok(Some(format!("it did not end within {limit:?}")));
+            }
+            None => thread::sleep(PAUSE),
+        }
+    }
+}

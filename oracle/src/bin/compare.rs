@@ -1,0 +1,37 @@
+//! `compare N SEED RUN`: puts N texts of a seed to the program `traces` that `RUN traces` runs, and
+//! one in a hundred, in pieces on standard input, to `RUN replay`. Fails at the first that is answered otherwise
+//! than by the oracle, and prints the smallest text that shows it.
+
+use std::io::{self, Write};
+use uluvoli_oracle::beside::{AT_ONCE, Beside, LIMIT};
+use uluvoli_oracle::counts::Counts;
+use uluvoli_oracle::program;
+use uluvoli_oracle::random::Random;
+use uluvoli_oracle::texts::{self, Text, Texts};
+
+/// One text in this many is put to `replay` as well.
+const PIPED: usize = 100;
+
+/// Compares batch by batch.
+fn main() -> io::Result<()> {
+    let ([length, seed], run) = program::numbers("compare N SEED RUN")?;
+    let beside = Beside::new(run.as_ref(), LIMIT)?;
+    let mut random = Random::new(!seed);
+    let mut counts = Counts::default();
+    let mut texts = Texts::new(seed).take(length as usize);
+    loop {
+        let some: Vec<Text> = texts.by_ref().take(AT_ONCE).collect();
+        if some.is_empty() {
+            break;
+        }
+        some.iter().for_each(|text| texts::count(&mut counts, text));
+        beside.agree(&some)?;
+        for text in some.iter().step_by(PIPED) {
+            beside.agree_piped(&mut random, text)?;
+            counts.meet("piped");
+        }
+    }
+    let mut out = io::stdout().lock();
+    write!(out, "{counts}")?;
+    writeln!(out, "compare: {length} texts, answered as by the oracle")
+}

@@ -1,0 +1,32 @@
+//! `fuzz MINUTES SEED RUN`: puts changed texts to the program that `RUN traces` runs, for so many
+//! minutes. Fails at the first that is answered otherwise than by the oracle, or that stops the
+//! program, and keeps the smallest text that shows it.
+
+use std::io;
+use std::time::{Duration, Instant};
+use uluvoli_oracle::beside::mutate::Stock;
+use uluvoli_oracle::beside::{AT_ONCE, Beside, LIMIT};
+use uluvoli_oracle::counts::Counts;
+use uluvoli_oracle::program;
+use uluvoli_oracle::texts::{self, Text};
+
+/// Changes and compares until the time is over.
+fn main() -> io::Result<()> {
+    let ([minutes, seed], run) = program::numbers("fuzz MINUTES SEED RUN")?;
+    let beside = Beside::new(run.as_ref(), LIMIT)?;
+    let mut stock = Stock::new(seed);
+    let mut counts = Counts::default();
+    let (began, mut runs, mut bytes) = (Instant::now(), 0, 0);
+    while began.elapsed() < Duration::from_secs(60 * minutes) {
+        let changed: Vec<Text> = stock.by_ref().take(AT_ONCE).collect();
+        for text in &changed {
+            texts::count(&mut counts, text);
+            bytes += text.input.len();
+        }
+        beside.agree(&changed)?;
+        runs += 1;
+    }
+    print!("{counts}");
+    println!("fuzz: {bytes} bytes in {runs} runs, answered as by the oracle");
+    Ok(())
+}
