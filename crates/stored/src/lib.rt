@@ -10,11 +10,11 @@ fn last_digit(n: u32) -> u8 {
     b'0' + (n % 10) as u8
 }
 
-// Reads file number n, as much as the buffer holds; nothing where it is missing.
-pub fn load(n: u32, buffer: &mut [u8]) -> usize
-    ensures { λ r. ⌜ r ≤ length (now (buffer .exit)) ⌝ }
+// The name of file number n: its last four digits, then `.in`.
+pub fn name(n: u32) -> [u8; 7]
+    ensures { λ r. ⌜ 7 ≡ length r ⌝ }
 {
-    let name = [
+    [
         last_digit(n / 1000),
         last_digit(n / 100),
         last_digit(n / 10),
@@ -22,7 +22,14 @@ pub fn load(n: u32, buffer: &mut [u8]) -> usize
         b'.',
         b'i',
         b'n',
-    ];
+    ]
+}
+
+// Reads file number n, as much as the buffer holds; nothing where it is missing.
+pub fn load(n: u32, buffer: &mut [u8]) -> usize
+    ensures { λ r. ⌜ r ≤ length (now (buffer .exit)) ⌝ }
+{
+    let name = name(n);
     let file = os::open_read(&name);
     if file < 0 {
         return 0;
