@@ -1,0 +1,4 @@
+// Replays standard input.
+fn main() {
+    shell::replay(0);
+}
