@@ -12,15 +12,17 @@ use Rattle.once.proofs.Law.{once, of-two, result}
 use Rattle.nodes.proofs.find.taken as nodes·taken
 use Rattle.nodes.proofs.find.find_service as nodes·find-service
 use Rattle.nodes.proofs.find.find_area as nodes·find-area
-use Rattle.nodes.proofs.grow.judge_area as nodes·judge-area
-use Rattle.nodes.proofs.grow.place_service as nodes·place-service
+use Rattle.nodes.proofs.find.find_shared as nodes·find-shared
+use Rattle.nodes.proofs.find.find_parent as nodes·find-parent
 use Rattle.nodes.proofs.node.Node.root as nodes·Node·root
+use Rattle.grow.proofs.judge_area as grow·judge-area
+use Rattle.grow.proofs.place_service as grow·place-service
 use Rattle.sound.proofs.sound as sound·sound
 use Rattle.listing.proofs.directory.directory as listing·directory
-use Rattle.listing.proofs.keys.key_version as listing·key-version
-use Rattle.listing.proofs.keys.area_list_well_formed as listing·area-list-well-formed
-use Rattle.listing.proofs.keys.service_list_well_formed as listing·service-list-well-formed
 use Rattle.listing.proofs.total.block_total as listing·block-total
+use Rattle.keys.proofs.key_version as keys·key-version
+use Rattle.keys.proofs.area_list_well_formed as keys·area-list-well-formed
+use Rattle.keys.proofs.service_list_well_formed as keys·service-list-well-formed
 use Rattle.structure.proofs.card.Card.add_area as structure·Card·add-area
 use Rattle.structure.proofs.card.Card.add_service as structure·Card·add-service
 use Rattle.structure.proofs.card.Card.set_limit as structure·Card·set-limit
@@ -42,14 +44,20 @@ module _ {M : Type 1} (𝓤 : URA M) (H : Heap 𝓤) (A : Atoms 𝓤) (mem : Mem
   pub nodes·find-area-once : OneAnswer 𝓤 nodes·find-area.ended (nodes·find-area.clauses 𝓤 H A mem run)
   nodes·find-area-once κs a g r r′ ws ws′ = result 𝓤 refl
 
-  pub nodes·judge-area-once : OneAnswer 𝓤 nodes·judge-area.ended (nodes·judge-area.clauses 𝓤 H A mem run)
-  nodes·judge-area-once κs a g r r′ ws ws′ = result 𝓤 refl
+  pub nodes·find-shared-once : OneAnswer 𝓤 nodes·find-shared.ended (nodes·find-shared.clauses 𝓤 H A mem run)
+  nodes·find-shared-once κs a g r r′ ws ws′ = result 𝓤 refl
 
-  pub nodes·place-service-once : OneAnswer 𝓤 nodes·place-service.ended (nodes·place-service.clauses 𝓤 H A mem run)
-  nodes·place-service-once κs a g r r′ ws ws′ = result 𝓤 refl
+  pub nodes·find-parent-once : OneAnswer 𝓤 nodes·find-parent.ended (nodes·find-parent.clauses 𝓤 H A mem run)
+  nodes·find-parent-once κs a g r r′ ws ws′ = result 𝓤 refl
 
   pub nodes·Node·root-once : OneAnswer 𝓤 nodes·Node·root.ended (nodes·Node·root.clauses 𝓤 H A mem run)
   nodes·Node·root-once κs a g r r′ ws ws′ = result 𝓤 refl
+
+  pub grow·judge-area-once : OneAnswer 𝓤 grow·judge-area.ended (grow·judge-area.clauses 𝓤 H A mem run)
+  grow·judge-area-once κs a g r r′ ws ws′ = result 𝓤 refl
+
+  pub grow·place-service-once : OneAnswer 𝓤 grow·place-service.ended (grow·place-service.clauses 𝓤 H A mem run)
+  grow·place-service-once κs a g r r′ ws ws′ = result 𝓤 refl
 
   pub sound·sound-once : OneAnswer 𝓤 sound·sound.ended (sound·sound.clauses 𝓤 H A mem run)
   sound·sound-once κs a g r r′ ws ws′ = result 𝓤 refl
@@ -57,17 +65,17 @@ module _ {M : Type 1} (𝓤 : URA M) (H : Heap 𝓤) (A : Atoms 𝓤) (mem : Mem
   pub listing·directory-once : OneAnswer 𝓤 listing·directory.ended (listing·directory.clauses 𝓤 H A mem run)
   listing·directory-once κs a g r r′ ws ws′ = of-two 𝓤 (λ p p′ q q′. (once p q, λ i. (tt, (tt, (once p′ q′ i, tt)))))
 
-  pub listing·key-version-once : OneAnswer 𝓤 listing·key-version.ended (listing·key-version.clauses 𝓤 H A mem run)
-  listing·key-version-once κs a g r r′ ws ws′ = result 𝓤 refl
-
-  pub listing·area-list-well-formed-once : OneAnswer 𝓤 listing·area-list-well-formed.ended (listing·area-list-well-formed.clauses 𝓤 H A mem run)
-  listing·area-list-well-formed-once κs a g r r′ ws ws′ = result 𝓤 refl
-
-  pub listing·service-list-well-formed-once : OneAnswer 𝓤 listing·service-list-well-formed.ended (listing·service-list-well-formed.clauses 𝓤 H A mem run)
-  listing·service-list-well-formed-once κs a g r r′ ws ws′ = result 𝓤 refl
-
   pub listing·block-total-once : OneAnswer 𝓤 listing·block-total.ended (listing·block-total.clauses 𝓤 H A mem run)
   listing·block-total-once κs a g r r′ ws ws′ = result 𝓤 refl
+
+  pub keys·key-version-once : OneAnswer 𝓤 keys·key-version.ended (keys·key-version.clauses 𝓤 H A mem run)
+  keys·key-version-once κs a g r r′ ws ws′ = result 𝓤 refl
+
+  pub keys·area-list-well-formed-once : OneAnswer 𝓤 keys·area-list-well-formed.ended (keys·area-list-well-formed.clauses 𝓤 H A mem run)
+  keys·area-list-well-formed-once κs a g r r′ ws ws′ = result 𝓤 refl
+
+  pub keys·service-list-well-formed-once : OneAnswer 𝓤 keys·service-list-well-formed.ended (keys·service-list-well-formed.clauses 𝓤 H A mem run)
+  keys·service-list-well-formed-once κs a g r r′ ws ws′ = result 𝓤 refl
 
   pub structure·Card·add-area-once : OneAnswer 𝓤 structure·Card·add-area.ended (structure·Card·add-area.clauses 𝓤 H A mem run)
   structure·Card·add-area-once κs a g r r′ ws ws′ = result 𝓤 refl

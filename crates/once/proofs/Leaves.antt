@@ -27,9 +27,9 @@ use Rattle.types.proofs.code.ServiceCode.attributes as types·ServiceCode·attr
 use Rattle.types.proofs.code.ServiceCode.attribute as types·ServiceCode·attribute
 use Rattle.types.proofs.code.ServiceCode.kind as types·ServiceCode·kind
 use Rattle.types.proofs.code.ServiceCode.requires_key as types·ServiceCode·requires-key
-use Rattle.types.proofs.refusal.Refusal.number as types·Refusal·number
-use Rattle.types.proofs.status.Fault.status_flag2 as types·Fault·status-flag2
-use Rattle.types.proofs.status.list_error_index as types·list-error-index
+use Rattle.answers.proofs.refusal.Refusal.number as answers·Refusal·number
+use Rattle.answers.proofs.status.Fault.status_flag2 as answers·Fault·status-flag2
+use Rattle.answers.proofs.status.list_error_index as answers·list-error-index
 use Rattle.places.proofs.bitmap_positions as places·bitmap-positions
 use Rattle.lists.proofs.element.BlockListElement.pack as lists·BlockListElement·pack
 use Rattle.lists.proofs.element.unpack as lists·unpack
@@ -96,14 +96,14 @@ module _ {M : Type 1} (𝓤 : URA M) (H : Heap 𝓤) (A : Atoms 𝓤) (mem : Mem
   pub types·ServiceCode·requires-key-once : OneAnswer 𝓤 types·ServiceCode·requires-key.ended (types·ServiceCode·requires-key.clauses 𝓤 H A mem run)
   types·ServiceCode·requires-key-once κs a g r r′ ws ws′ = result 𝓤 refl
 
-  pub types·Refusal·number-once : OneAnswer 𝓤 types·Refusal·number.ended (types·Refusal·number.clauses 𝓤 H A mem run)
-  types·Refusal·number-once κs a g r r′ ws ws′ = result 𝓤 refl
+  pub answers·Refusal·number-once : OneAnswer 𝓤 answers·Refusal·number.ended (answers·Refusal·number.clauses 𝓤 H A mem run)
+  answers·Refusal·number-once κs a g r r′ ws ws′ = result 𝓤 refl
 
-  pub types·Fault·status-flag2-once : OneAnswer 𝓤 types·Fault·status-flag2.ended (types·Fault·status-flag2.clauses 𝓤 H A mem run)
-  types·Fault·status-flag2-once κs a g r r′ ws ws′ = result 𝓤 refl
+  pub answers·Fault·status-flag2-once : OneAnswer 𝓤 answers·Fault·status-flag2.ended (answers·Fault·status-flag2.clauses 𝓤 H A mem run)
+  answers·Fault·status-flag2-once κs a g r r′ ws ws′ = result 𝓤 refl
 
-  pub types·list-error-index-once : OneAnswer 𝓤 types·list-error-index.ended (types·list-error-index.clauses 𝓤 H A mem run)
-  types·list-error-index-once κs a g r r′ ws ws′ = result 𝓤 refl
+  pub answers·list-error-index-once : OneAnswer 𝓤 answers·list-error-index.ended (answers·list-error-index.clauses 𝓤 H A mem run)
+  answers·list-error-index-once κs a g r r′ ws ws′ = result 𝓤 refl
 
   pub places·bitmap-positions-once : OneAnswer 𝓤 places·bitmap-positions.ended (places·bitmap-positions.clauses 𝓤 H A mem run)
   places·bitmap-positions-once κs a g r r′ ws ws′ = result 𝓤 refl

@@ -4,3 +4,4 @@ pub mod Leaves
 pub mod Cards
 pub mod Requests
 pub mod Texts
+pub mod Lines

@@ -1,4 +1,4 @@
--- One answer only: requests: codes and elements, runs, reads and writes.
+-- One answer only: requests: codes and elements, runs, reads and writes, single blocks, turns of two terminals.
 use mathlib.Core.Path.{_≡_, refl, sym, _∙_}
 use Prim.Native.Nat.{ℕ, _*_}
 use native.Mathlib.Omega.{arith}
@@ -11,15 +11,15 @@ use prog.Wp.{Heap}
 use ghost.Atoms.{Atoms}
 use contract.Lifetimes.{Lfts}
 use contract.Monad.{Fun, fact}
-use denote.Ref.{RefT, now}
+use denote.Ref.{now}
 use denote.Triple.Clauses.{Lasts}
 use denote.Triple.Entry.{Args}
 use Rattle.runs.specs.Ready.{walkedTo}
 use Rattle.runs.specs.declared.run.Applied.{Applied}
 use Rattle.runs.specs.declared.run.Applied.the-variants.{Done, Failed}
-use Rattle.system.specs.Serve.{stagingBy}
-use Rattle.system.specs.declared.plan.Reply.{Reply}
-use Rattle.once.specs.One.{Promised, OneAnswer}
+use Rattle.plan.specs.Serve.{stagingBy}
+use Rattle.plan.specs.declared.Reply.{Reply}
+use Rattle.once.specs.One.{Promised, OneAnswer, OneSeen}
 use Rattle.once.proofs.Law.{once, once-by, of-one, of-two, of-three, result}
 use Rattle.checks.proofs.check.element_check as checks·element-check
 use Rattle.checks.proofs.check.check_all as checks·check-all
@@ -28,14 +28,16 @@ use Rattle.checks.proofs.row.table_of as checks·table-of
 use Rattle.checks.proofs.row.Table.row as checks·Table·row
 use Rattle.runs.proofs.rule.element_on as runs·element-on
 use Rattle.runs.proofs.rule.end_on as runs·end-on
-use Rattle.system.proofs.block.set_block as system·set-block
-use Rattle.system.proofs.plan.Reply.status_flag1 as system·Reply·status-flag1
-use Rattle.system.proofs.plan.Reply.status_flag2 as system·Reply·status-flag2
-use Rattle.system.proofs.plan.judge as system·judge
-use Rattle.system.proofs.read.read as system·read
 use Rattle.runs.proofs.run.apply as runs·apply
+use Rattle.plan.proofs.Reply.status_flag1 as plan·Reply·status-flag1
+use Rattle.plan.proofs.Reply.status_flag2 as plan·Reply·status-flag2
+use Rattle.plan.proofs.judge as plan·judge
+use Rattle.block.proofs.set_block as block·set-block
+use Rattle.block.proofs.stored_block as block·stored-block
+use Rattle.system.proofs.read.read as system·read
 use Rattle.system.proofs.write.write as system·write
-use Rattle.system.proofs.block.stored_block as system·stored-block
+use Rattle.terminals.proofs.turn.read_turn as terminals·read-turn
+use Rattle.terminals.proofs.turn.write_turn as terminals·write-turn
 
 -- what was walked to is one answer: the same, and where it is done also the same stage
 walked-once : {S : Type 0} (r r′ : Applied) (s s′ : S) → walkedTo r s ≡ walkedTo r′ s′ → (r ≡ r′) × (r ≡ Done → s ≡ s′)
@@ -43,6 +45,10 @@ walked-once Done Done s s′ e = (refl, λ d. cc)
 walked-once Done (Failed i f) s s′ e = let z : _≡_ {A = ℕ} 0 1 = cc in absurd (omega arith)
 walked-once (Failed i f) Done s s′ e = let z : _≡_ {A = ℕ} 0 1 = cc in absurd (omega arith)
 walked-once (Failed i f) (Failed j h) s s′ e = let x : i ≡ j = cc in let y : f ≡ h = cc in (rw (x, y), λ d. let z : _≡_ {A = ℕ} 0 1 = cc in absurd (omega arith))
+
+-- staging goes by the reply
+staged-once : {x x′ : Reply} {t t′ : List ℕ} (n : ℕ) (s : List ℕ) → x ≡ x′ → t ≡ stagingBy x n s → t′ ≡ stagingBy x′ n s → t ≡ t′
+staged-once n s e p q = once-by (λ (x : Reply). stagingBy x n s) e p q
 
 module _ {M : Type 1} (𝓤 : URA M) (H : Heap 𝓤) (A : Atoms 𝓤) (mem : Memory → SProp 𝓤) (run : Routine → Fun 𝓤) where
   pub checks·element-check-once : OneAnswer 𝓤 checks·element-check.ended (checks·element-check.clauses 𝓤 H A mem run)
@@ -66,39 +72,43 @@ module _ {M : Type 1} (𝓤 : URA M) (H : Heap 𝓤) (A : Atoms 𝓤) (mem : Mem
   pub runs·end-on-once : OneAnswer 𝓤 runs·end-on.ended (runs·end-on.clauses 𝓤 H A mem run)
   runs·end-on-once κs a g r r′ ws ws′ = of-two 𝓤 (λ p p′ q q′. (once p q, λ i. (once p′ q′ i, (tt, (tt, tt)))))
 
-  pub system·set-block-once : OneAnswer 𝓤 system·set-block.ended (system·set-block.clauses 𝓤 H A mem run)
-  system·set-block-once κs a g r r′ ws ws′ = of-two 𝓤 (λ p p′ q q′. (once p q, λ i. (tt, (once p′ q′ i, (tt, (tt, (tt, tt)))))))
-
-  pub system·Reply·status-flag1-once : OneAnswer 𝓤 system·Reply·status-flag1.ended (system·Reply·status-flag1.clauses 𝓤 H A mem run)
-  system·Reply·status-flag1-once κs a g r r′ ws ws′ = result 𝓤 refl
-
-  pub system·Reply·status-flag2-once : OneAnswer 𝓤 system·Reply·status-flag2.ended (system·Reply·status-flag2.clauses 𝓤 H A mem run)
-  system·Reply·status-flag2-once κs a g r r′ ws ws′ = result 𝓤 refl
-
-  pub system·judge-once : OneAnswer 𝓤 system·judge.ended (system·judge.clauses 𝓤 H A mem run)
-  system·judge-once κs a g r r′ ws ws′ = result 𝓤 refl
-
-  pub system·read-once : OneAnswer 𝓤 system·read.ended (system·read.clauses 𝓤 H A mem run)
-  system·read-once κs a g r r′ ws ws′ = of-two 𝓤 (λ p p′ q q′. (once p q, λ i. (tt, (tt, (once p′ q′ i, (tt, (tt, (tt, (tt, tt)))))))))
-
-  -- the staging goes by the reply
-  pub system·write-once : OneAnswer 𝓤 system·write.ended (system·write.clauses 𝓤 H A mem run)
-  system·write-once κs a g r r′ ws ws′ =
-      of-three 𝓤 (λ p p′ p″ q q′ q″.
-      let e = once p q in
-      let staged = once-by (λ (x : Reply). stagingBy x (16 * a .0 .used) (now (a .1 .1 .0))) e p″ q″ in
-      (e, λ i. (tt, (once p′ q′ i, (staged i, (tt, (tt, (tt, (tt, (tt, tt))))))))))
-
-  -- a part of the lent arena: its bytes are one answer, and nothing is said of where they lie
-  pub system·stored-block-once
-      : (κs : Lfts 1) (a : Args system·stored-block.signature κs) (r r′ : RefT (List ℕ))
-      → ent 𝓤 (sep 𝓤 (Promised 𝓤 system·stored-block.ended (system·stored-block.clauses 𝓤 H A mem run) κs a tt r (tt, (tt, (tt, (tt, tt)))))
-      (Promised 𝓤 system·stored-block.ended (system·stored-block.clauses 𝓤 H A mem run) κs a tt r′ (tt, (tt, (tt, (tt, tt)))))) (fact 𝓤 (now r ≡ now r′))
-  system·stored-block-once κs a r r′ = of-one 𝓤 (λ p q. once p q)
-
   -- after a failure nothing is said of the stage
   pub runs·apply-once
       : (κs : Lfts 3) (a : Args runs·apply.signature κs) (r r′ : Applied) (ws ws′ : Lasts runs·apply.ended κs a)
       → ent 𝓤 (sep 𝓤 (Promised 𝓤 runs·apply.ended (runs·apply.clauses 𝓤 H A mem run) κs a tt r ws) (Promised 𝓤 runs·apply.ended (runs·apply.clauses 𝓤 H A mem run) κs a tt r′ ws′))
       (fact 𝓤 ((r ≡ r′) × (r ≡ Done → ws ≡ ws′)))
   runs·apply-once κs a r r′ ws ws′ = of-one 𝓤 (λ p q. let w = walked-once r r′ (ws .0) (ws′ .0) (sym p ∙ q) in (w .0, λ d i. (w .1 d i, (tt, (tt, (tt, (tt, tt)))))))
+
+  pub plan·Reply·status-flag1-once : OneAnswer 𝓤 plan·Reply·status-flag1.ended (plan·Reply·status-flag1.clauses 𝓤 H A mem run)
+  plan·Reply·status-flag1-once κs a g r r′ ws ws′ = result 𝓤 refl
+
+  pub plan·Reply·status-flag2-once : OneAnswer 𝓤 plan·Reply·status-flag2.ended (plan·Reply·status-flag2.clauses 𝓤 H A mem run)
+  plan·Reply·status-flag2-once κs a g r r′ ws ws′ = result 𝓤 refl
+
+  pub plan·judge-once : OneAnswer 𝓤 plan·judge.ended (plan·judge.clauses 𝓤 H A mem run)
+  plan·judge-once κs a g r r′ ws ws′ = result 𝓤 refl
+
+  pub block·set-block-once : OneAnswer 𝓤 block·set-block.ended (block·set-block.clauses 𝓤 H A mem run)
+  block·set-block-once κs a g r r′ ws ws′ = of-two 𝓤 (λ p p′ q q′. (once p q, λ i. (tt, (once p′ q′ i, (tt, (tt, (tt, tt)))))))
+
+  -- a part of the lent arena: its bytes are one answer, and nothing is said of where they lie
+  pub block·stored-block-once : OneSeen 𝓤 block·stored-block.ended (block·stored-block.clauses 𝓤 H A mem run) (λ κs x. now x)
+  block·stored-block-once κs a g r r′ ws ws′ = result 𝓤 refl
+
+  pub system·read-once : OneAnswer 𝓤 system·read.ended (system·read.clauses 𝓤 H A mem run)
+  system·read-once κs a g r r′ ws ws′ = of-two 𝓤 (λ p p′ q q′. (once p q, λ i. (tt, (tt, (once p′ q′ i, (tt, (tt, (tt, (tt, tt)))))))))
+
+  pub system·write-once : OneAnswer 𝓤 system·write.ended (system·write.clauses 𝓤 H A mem run)
+  system·write-once κs a g r r′ ws ws′ =
+      of-three 𝓤 (λ p p′ p″ q q′ q″.
+      let staged = staged-once (16 * a .0 .used) (now (a .1 .1 .0)) (once p q) p″ q″ in
+      (once p q, λ i. (tt, (once p′ q′ i, (staged i, (tt, (tt, (tt, (tt, (tt, tt))))))))))
+
+  pub terminals·read-turn-once : OneAnswer 𝓤 terminals·read-turn.ended (terminals·read-turn.clauses 𝓤 H A mem run)
+  terminals·read-turn-once κs a g r r′ ws ws′ = of-one 𝓤 (λ p q. (once (p .0) (q .0), λ i. (tt, (tt, (once (p .1) (q .1) i, (tt, (tt, (tt, (tt, tt)))))))))
+
+  pub terminals·write-turn-once : OneAnswer 𝓤 terminals·write-turn.ended (terminals·write-turn.clauses 𝓤 H A mem run)
+  terminals·write-turn-once κs a g r r′ ws ws′ =
+      of-one 𝓤 (λ p q.
+      let staged = staged-once (16 * a .0 .used) (now (a .1 .1 .0)) (once (p .0) (q .0)) (p .1) (q .1) in
+      (once (p .0) (q .0), λ i. (tt, (once (p .2) (q .2) i, (staged i, (tt, (tt, (tt, (tt, (tt, tt))))))))))

@@ -17,3 +17,9 @@ module _ {M : Type 1} (𝓤 : URA M) (T : Ended) (c : Clauses 𝓤 T) where
   OneAnswer =
       (κs : Lfts (T .signature .lifetimes)) (a : Args (T .signature) κs) (g : c κs a .ghost) (r r′ : Res (T .signature) κs) (ws ws′ : Lasts T κs a)
       → ent 𝓤 (sep 𝓤 (Promised κs a g r ws) (Promised κs a g r′ ws′)) (fact 𝓤 ((r ≡ r′) × (ws ≡ ws′)))
+
+  -- so of what is seen of a result, where that is all that the contract speaks of
+  abbrev pub OneSeen : {X : Type 0} → ((κs : Lfts (T .signature .lifetimes)) → Res (T .signature) κs → X) → Type 1
+  OneSeen seen =
+      (κs : Lfts (T .signature .lifetimes)) (a : Args (T .signature) κs) (g : c κs a .ghost) (r r′ : Res (T .signature) κs) (ws ws′ : Lasts T κs a)
+      → ent 𝓤 (sep 𝓤 (Promised κs a g r ws) (Promised κs a g r′ ws′)) (fact 𝓤 ((seen κs r ≡ seen κs r′) × (ws ≡ ws′)))
