@@ -33,6 +33,9 @@ module _ {M : Type 1} (𝓤 : URA M) where
   abbrev three : Type 0 → Type 0 → Type 0 → SProp 𝓤
   three φ φ′ φ″ = sep 𝓤 (fact 𝓤 φ) (two φ′ φ″)
 
+  abbrev four : Type 0 → Type 0 → Type 0 → Type 0 → SProp 𝓤
+  four φ φ′ φ″ φ‴ = sep 𝓤 (fact 𝓤 φ) (three φ′ φ″ φ‴)
+
   -- of two
   pub of-two : {φ φ′ ψ ψ′ χ : Type 0} → (φ → φ′ → ψ → ψ′ → χ) → ent 𝓤 (sep 𝓤 (two φ φ′) (two ψ ψ′)) (fact 𝓤 χ)
   of-two {φ′ = φ′} {ψ′ = ψ′} f = more (fact 𝓤 φ′) (fact 𝓤 ψ′) (λ x y. of-one (λ x′ y′. f x x′ y y′))
@@ -40,6 +43,24 @@ module _ {M : Type 1} (𝓤 : URA M) where
   -- of three
   pub of-three : {φ φ′ φ″ ψ ψ′ ψ″ χ : Type 0} → (φ → φ′ → φ″ → ψ → ψ′ → ψ″ → χ) → ent 𝓤 (sep 𝓤 (three φ φ′ φ″) (three ψ ψ′ ψ″)) (fact 𝓤 χ)
   of-three {φ′ = φ′} {φ″ = φ″} {ψ′ = ψ′} {ψ″ = ψ″} f = more (two φ′ φ″) (two ψ′ ψ″) (λ x y. of-two (λ x′ x″ y′ y″. f x x′ x″ y y′ y″))
+
+  -- of four equations
+  pub of-four
+      : {X X′ X″ X‴ χ : Type 0} {d x y : X} {d′ x′ y′ : X′} {d″ x″ y″ : X″} {d‴ x‴ y‴ : X‴}
+      → (x ≡ y → x′ ≡ y′ → x″ ≡ y″ → x‴ ≡ y‴ → χ)
+      → ent 𝓤 (sep 𝓤 (four (x ≡ d) (x′ ≡ d′) (x″ ≡ d″) (x‴ ≡ d‴)) (four (y ≡ d) (y′ ≡ d′) (y″ ≡ d″) (y‴ ≡ d‴))) (fact 𝓤 χ)
+  of-four {d′ = d′} {x′} {y′} {d″} {x″} {y″} {d‴} {x‴} {y‴} f =
+      more (three (x′ ≡ d′) (x″ ≡ d″) (x‴ ≡ d‴)) (three (y′ ≡ d′) (y″ ≡ d″) (y‴ ≡ d‴)) (λ p q.
+      of-three (λ p′ p″ p‴ q′ q″ q‴. f (once p q) (once p′ q′) (once p″ q″) (once p‴ q‴)))
+
+  -- of five
+  pub of-five
+      : {W X X′ X″ X‴ χ : Type 0} {c v w : W} {d x y : X} {d′ x′ y′ : X′} {d″ x″ y″ : X″} {d‴ x‴ y‴ : X‴}
+      → (v ≡ w → x ≡ y → x′ ≡ y′ → x″ ≡ y″ → x‴ ≡ y‴ → χ)
+      → ent 𝓤 (sep 𝓤 (sep 𝓤 (fact 𝓤 (v ≡ c)) (four (x ≡ d) (x′ ≡ d′) (x″ ≡ d″) (x‴ ≡ d‴))) (sep 𝓤 (fact 𝓤 (w ≡ c)) (four (y ≡ d) (y′ ≡ d′) (y″ ≡ d″) (y‴ ≡ d‴))))
+      (fact 𝓤 χ)
+  of-five {d = d} {x} {y} {d′} {x′} {y′} {d″} {x″} {y″} {d‴} {x‴} {y‴} f =
+      more (four (x ≡ d) (x′ ≡ d′) (x″ ≡ d″) (x‴ ≡ d‴)) (four (y ≡ d) (y′ ≡ d′) (y″ ≡ d″) (y‴ ≡ d‴)) (λ p q. of-four (f (once p q)))
 
   -- nothing was lent, and the result is given by an equation
   pub result : {X W : Type 0} {d x y : X} {u v : W} → u ≡ v → ent 𝓤 (sep 𝓤 (fact 𝓤 (x ≡ d)) (fact 𝓤 (y ≡ d))) (fact 𝓤 ((x ≡ y) × (u ≡ v)))
