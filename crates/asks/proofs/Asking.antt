@@ -14,7 +14,7 @@ use Rattle.hex.specs.Hex.{hexField}
 use Rattle.hex.specs.Codes.{codesField}
 use Rattle.asks.specs.declared.Ask.{Ask}
 use Rattle.asks.specs.declared.Ask.the-variants.{Malformed, Read, Write}
-use Rattle.asks.specs.Ask.{fieldIn, isLetter, isOpen, hasKind, shaped, isWrite, countIn, readAsk, writeAsk, askOf}
+use Rattle.asks.specs.Ask.{fieldIn, isLetter, isEither, isOpen, shaped, isWrite, countIn, countedAsk, askOf}
 
 -- No letter, where there is not one byte.
 pub no-letter : (x : ℕ) (s : List ℕ) → (length s ≡ 1 → ⊥) → false ≡ isLetter x s
@@ -38,7 +38,7 @@ unfolding shaped
 shape letter n line b e =
     let k = and-eq-true-iff (isLetter letter (fieldIn line 0)) _ .0 e in
     let f = and-eq-true-iff (eqb (length (split 9 line)) n) _ .0 (k .1) in
-    let g = and-eq-true-iff (hasKind line) _ .0 (f .1) in
+    let g = and-eq-true-iff (isEither 79 83 (fieldIn line 1)) _ .0 (f .1) in
     let h = and-eq-true-iff (codesField (fieldIn line 2)) (hexField (fieldIn line 4)) .0 (g .1) in
     record { long = ltb-false 32768 (length line) b; codes = h .0; list = h .1 }
 
@@ -51,46 +51,54 @@ module _ {keyless : Bool} {count : ℕ} where
   no-write : {A : Type 0} → Malformed ≡ Write keyless count → A
   no-write e = let z : _≡_ {A = ℕ} 0 1 = cc in absurd (omega arith)
 
-  -- A write is no read.
-  write-no-read : {A : Type 0} (o : Bool) (m : Number) → writeAsk o m ≡ Read keyless count → A
-  write-no-read o (Is n) e = let z : _≡_ {A = ℕ} 0 1 = cc in absurd (omega arith)
-  write-no-read o Bad e = no-read e
-
-  -- A read is no write.
-  read-no-write : {A : Type 0} (o : Bool) (m : Number) → readAsk o m ≡ Write keyless count → A
-  read-no-write o (Is n) e = let z : _≡_ {A = ℕ} 0 1 = cc in absurd (omega arith)
-  read-no-write o Bad e = no-write e
-
   -- The tests that a read has passed.
   read-tests
-      : (b s w o : Bool) (m : Number) → cond b Malformed (cond s (readAsk o m) (cond w (writeAsk o m) Malformed)) ≡ Read keyless count
-      → (b ≡ false) × (s ≡ true)
-  read-tests true s w o m e = no-read e
-  read-tests false true w o m e = (refl, refl)
-  read-tests false false true o m e = write-no-read o m e
-  read-tests false false false o m e = no-read e
+      : (s w o : Bool) (n : ℕ) → cond s (Read o n) (cond w (Write o n) Malformed) ≡ Read keyless count → s ≡ true
+  read-tests true w o n e = refl
+  read-tests false true o n e = let z : _≡_ {A = ℕ} 0 1 = cc in absurd (omega arith)
+  read-tests false false o n e = no-read e
 
   -- Those that a write has passed.
   write-tests
-      : (b s w o : Bool) (m : Number) → cond b Malformed (cond s (readAsk o m) (cond w (writeAsk o m) Malformed)) ≡ Write keyless count
-      → (b ≡ false) × (w ≡ true)
-  write-tests true s w o m e = no-write e
-  write-tests false true w o m e = read-no-write o m e
-  write-tests false false true o m e = (refl, refl)
-  write-tests false false false o m e = no-write e
+      : (s w o : Bool) (n : ℕ) → cond s (Read o n) (cond w (Write o n) Malformed) ≡ Write keyless count → w ≡ true
+  write-tests true w o n e = let z : _≡_ {A = ℕ} 0 1 = cc in absurd (omega arith)
+  write-tests false true o n e = refl
+  write-tests false false o n e = no-write e
 
   module _ (line : List ℕ) where
+    -- By the count of a read.
+    read-counted : (m : Number) → countedAsk line m ≡ Read keyless count → shaped 82 5 line ≡ true
+    read-counted (Is n) e = read-tests (shaped 82 5 line) (isWrite line) (isOpen line) n e
+    read-counted Bad e = no-read e
+
+    -- By that of a write.
+    write-counted : (m : Number) → countedAsk line m ≡ Write keyless count → isWrite line ≡ true
+    write-counted (Is n) e = write-tests (shaped 82 5 line) (isWrite line) (isOpen line) n e
+    write-counted Bad e = no-write e
+
+    -- A read's line is not too long.
+    read-long
+        : (b : Bool) → cond b Malformed (countedAsk line (countIn line)) ≡ Read keyless count
+        → (b ≡ false) × (shaped 82 5 line ≡ true)
+    read-long true e = no-read e
+    read-long false e = (refl, read-counted (countIn line) e)
+
+    -- Nor is a write's.
+    write-long
+        : (b : Bool) → cond b Malformed (countedAsk line (countIn line)) ≡ Write keyless count
+        → (b ≡ false) × (isWrite line ≡ true)
+    write-long true e = no-write e
+    write-long false e = (refl, write-counted (countIn line) e)
+
     -- The fields of a read.
     pub read-fields : askOf line ≡ Read keyless count → Fields line
     unfolding askOf
-    read-fields e =
-        let t = read-tests (ltb 32768 (length line)) (shaped 82 5 line) (isWrite line) (isOpen line) (countIn line) e in
-        shape 82 5 line (t .0) (t .1)
+    read-fields e = let t = read-long (ltb 32768 (length line)) e in shape 82 5 line (t .0) (t .1)
 
     -- Those of a write, which has data too.
     pub write-fields : askOf line ≡ Write keyless count → Fields line × (hexField (fieldIn line 5) ≡ true)
     unfolding askOf isWrite
     write-fields e =
-        let t = write-tests (ltb 32768 (length line)) (shaped 82 5 line) (isWrite line) (isOpen line) (countIn line) e in
+        let t = write-long (ltb 32768 (length line)) e in
         let d = and-eq-true-iff (shaped 87 6 line) (hexField (fieldIn line 5)) .0 (t .1) in
         (shape 87 6 line (t .0) (d .0), d .1)

@@ -22,24 +22,24 @@ fieldIn line k = getD (split 9 line) k []
 unfoldable pub isLetter : ℕ → List ℕ → Bool
 isLetter x s = eqb (length s) 1 && eqb (getD s 0 0) x
 
+-- or one of two
+unfoldable pub isEither : ℕ → ℕ → List ℕ → Bool
+isEither x y s = isLetter x s || isLetter y s
+
 -- a line whose first field is `R` or `W` is a request
 unfoldable pub requestLine : List ℕ → Bool
-requestLine line = isLetter 82 (fieldIn line 0) || isLetter 87 (fieldIn line 0)
+requestLine line = isEither 82 87 (fieldIn line 0)
 
 -- an open request, `O`, may use no service that needs a key
 abbrev pub isOpen : List ℕ → Bool
 isOpen line = isLetter 79 (fieldIn line 1)
-
--- open, or in a session: `S`
-unfoldable pub hasKind : List ℕ → Bool
-hasKind line = isOpen line || isLetter 83 (fieldIn line 1)
 
 -- whether a line has a first letter and n fields, and kind, codes and list are well formed
 unfoldable pub shaped : ℕ → ℕ → List ℕ → Bool
 shaped letter n line =
     isLetter letter (fieldIn line 0)
     && (eqb (length (split 9 line)) n
-    && (hasKind line
+    && (isEither 79 83 (fieldIn line 1)
     && (codesField (fieldIn line 2) && hexField (fieldIn line 4))))
 
 -- a write has data too
@@ -50,16 +50,10 @@ isWrite line = shaped 87 6 line && hexField (fieldIn line 5)
 abbrev pub countIn : List ℕ → Number
 countIn line = decimal 4294967295 (fieldIn line 3)
 
-abbrev pub readAsk : Bool → Number → Ask
-readAsk keyless (Is count) = Read keyless count
-readAsk keyless Bad = Malformed
-
-abbrev pub writeAsk : Bool → Number → Ask
-writeAsk keyless (Is count) = Write keyless count
-writeAsk keyless Bad = Malformed
+abbrev pub countedAsk : List ℕ → Number → Ask
+countedAsk line Bad = Malformed
+countedAsk line (Is count) =
+    cond (shaped 82 5 line) (Read (isOpen line) count) (cond (isWrite line) (Write (isOpen line) count) Malformed)
 
 unfoldable pub askOf : List ℕ → Ask
-askOf line =
-    cond (ltb 32768 (length line)) Malformed
-    (cond (shaped 82 5 line) (readAsk (isOpen line) (countIn line))
-    (cond (isWrite line) (writeAsk (isOpen line) (countIn line)) Malformed))
+askOf line = cond (ltb 32768 (length line)) Malformed (countedAsk line (countIn line))

@@ -3,7 +3,7 @@ use decimals::Number;
 ghost use mathlib.Core.Path.{_≡_};
 ghost use Rattle.hex.specs.Hex.{hexField};
 ghost use Rattle.hex.specs.Codes.{codesField};
-ghost use Rattle.asks.specs.Ask.{fieldIn, isLetter, requestLine, hasKind, shaped, isWrite, readAsk, writeAsk, countIn, askOf};
+ghost use Rattle.asks.specs.Ask.{fieldIn, isLetter, isEither, requestLine, shaped, isWrite, countIn, askOf};
 
 // What a line asks: a read or a write, open or in a session, and how many elements it has. Codes, list and data stand in the line.
 pub enum Ask {
@@ -23,24 +23,21 @@ fn is_letter(line: &[u8], k: usize, letter: u8) -> bool
     s[0] == letter
 }
 
+// Whether it is one of two letters.
+fn is_either(line: &[u8], k: usize, one: u8, other: u8) -> bool
+    ensures { λ r. ⌜ r ≡ isEither one other (fieldIn (now (line .entry)) k) ⌝ }
+{
+    if is_letter(line, k, one) {
+        return true;
+    }
+    is_letter(line, k, other)
+}
+
 // Whether a line is a request, well formed or not.
 pub fn is_request(line: &[u8]) -> bool
     ensures { λ r. ⌜ r ≡ requestLine (now (line .entry)) ⌝ }
 {
-    if is_letter(line, 0, b'R') {
-        return true;
-    }
-    is_letter(line, 0, b'W')
-}
-
-// Whether a line says that its request is open or in a session.
-fn has_kind(line: &[u8]) -> bool
-    ensures { λ r. ⌜ r ≡ hasKind (now (line .entry)) ⌝ }
-{
-    if is_letter(line, 1, b'O') {
-        return true;
-    }
-    is_letter(line, 1, b'S')
+    is_either(line, 0, b'R', b'W')
 }
 
 // Whether field k of a line is hex.
@@ -74,7 +71,7 @@ fn is_shaped(line: &[u8], letter: u8, count: usize) -> bool
     if fields::field_count(line, b'\t') != count {
         return false;
     }
-    if !has_kind(line) {
+    if !is_either(line, 1, b'O', b'S') {
         return false;
     }
     if !has_codes(line) {
@@ -93,26 +90,6 @@ fn is_write(line: &[u8]) -> bool
     has_hex(line, 5)
 }
 
-// A read, if its count is a number.
-fn read_ask(keyless: bool, count: Number) -> Ask
-    ensures { λ r. ⌜ r ≡ readAsk keyless count ⌝ }
-{
-    match count {
-        Number::Is(n) => Ask::Read { keyless, count: n },
-        Number::Bad => Ask::Malformed,
-    }
-}
-
-// A write, if its count is a number.
-fn write_ask(keyless: bool, count: Number) -> Ask
-    ensures { λ r. ⌜ r ≡ writeAsk keyless count ⌝ }
-{
-    match count {
-        Number::Is(n) => Ask::Write { keyless, count: n },
-        Number::Bad => Ask::Malformed,
-    }
-}
-
 // What a line asks.
 pub fn ask_of(line: &[u8]) -> Ask
     ensures { λ r. ⌜ r ≡ askOf (now (line .entry)) ⌝ }
@@ -120,11 +97,15 @@ pub fn ask_of(line: &[u8]) -> Ask
     if 32768 < line.len() {
         return Ask::Malformed;
     }
+    let Number::Is(count) = count_in(line) else {
+        return Ask::Malformed;
+    };
+    let keyless = is_letter(line, 1, b'O');
     if is_shaped(line, b'R', 5) {
-        return read_ask(is_letter(line, 1, b'O'), count_in(line));
+        return Ask::Read { keyless, count };
     }
     if is_write(line) {
-        return write_ask(is_letter(line, 1, b'O'), count_in(line));
+        return Ask::Write { keyless, count };
     }
     Ask::Malformed
 }

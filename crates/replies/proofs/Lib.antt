@@ -1,2 +1,3 @@
--- What callers cite, and the functions' proofs share.
+-- What callers cite, and what this crate's proofs share.
+pub mod Rows
 pub mod Writing

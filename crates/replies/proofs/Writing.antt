@@ -5,15 +5,27 @@ use native.Mathlib.Nat.{zero-add}
 use mathlib.Core.Path.{_≡_, _∙_}
 use mathlib.Core.List.{List, [], _∷_, _++_}
 use lib.ListN.{length, set, length-append}
+use borrow.Author.Tests.{eq-eqb, ne-eqb}
 use Rattle.spans.specs.Part.{put}
 use Rattle.spans.proofs.Put.{put-snoc, put-append}
-use Rattle.replies.specs.Answer.{ended}
+use Rattle.decimals.specs.Decimal.{decText}
+use Rattle.replies.specs.Answer.{ended, whereText}
 
 -- A text that was put at a place, and the byte that ends it.
 pub ending
     : (d : List ℕ) (at : ℕ) (t : List ℕ) (end : ℕ) {last : ℕ} {s : List ℕ} → last ≡ at + length t → s ≡ put d at (length t) t
     → (last + 1 ≡ at + length (ended end t)) × (set s last end ≡ put d at (length (ended end t)) (ended end t))
 ending d at t end e p = (omega (arith, length-append t (end ∷ [])), rw (e, p) (put-snoc d at t end))
+
+-- No error is nowhere.
+pub nowhere : (flag : ℕ) → flag ≡ 0 → whereText flag ≡ 45 ∷ []
+unfolding whereText
+nowhere flag e = rw (eq-eqb flag 0 e)
+
+-- Any other is where its number says.
+pub somewhere : (flag : ℕ) → (flag ≡ 0 → ⊥) → whereText flag ≡ decText flag
+unfolding whereText
+somewhere flag e = rw (ne-eqb flag 0 e)
 
 -- s is d with the text t at its front, and a the place after it.
 pub record Written (d t : List ℕ) (a : ℕ) (s : List ℕ) : Type 0 where

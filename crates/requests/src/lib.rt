@@ -6,8 +6,9 @@ use structure::card::Card;
 ghost use mathlib.Core.Path.{_≡_};
 ghost use Prim.Native.Nat.{_≤_};
 ghost use lib.ListN.{length};
-ghost use Rattle.served.specs.Line.{readLong, lineServed, workAfter, bytesAfter};
-ghost use Rattle.requests.specs.Answered.{answeredLine};
+ghost use Rattle.asks.specs.Ask.{askOf};
+ghost use Rattle.served.specs.Line.{readLong, bytesRead, lineServed, workAfter, bytesAfter};
+ghost use Rattle.requests.specs.Answered.{PrintedIn, answeredLine};
 
 // What was printed of a line.
 pub enum Printed {
@@ -15,12 +16,6 @@ pub enum Printed {
     Bytes(usize),
     // Nothing: less room was lent than a line may need.
     NoRoom,
-}
-
-// A reply, and how many bytes were read.
-struct Told {
-    reply: Reply,
-    read: usize,
 }
 
 // How many bytes a read has put out.
@@ -35,31 +30,43 @@ fn read_long(reply: Reply, count: u32) -> usize
     }
 }
 
+// How many bytes what is asked has put out.
+fn bytes_read(ask: Ask, reply: Reply) -> usize
+    ensures { λ r. ⌜ r ≡ bytesRead reply ask ⌝ }
+{
+    match ask {
+        Ask::Malformed => 0,
+        Ask::Read { keyless: _, count } => read_long(reply, count),
+        Ask::Write {
+            keyless: _,
+            count: _,
+        } => 0,
+    }
+}
+
 // What a line asks, carried out.
-fn carry_out(card: Card, arena: &mut [u8], work: &mut [u8], bytes: &mut [u8], line: &[u8]) -> Told
-    requires { ⌜ 16384 ≤ length (now bytes) ⌝ }
-    ensures { λ r. ⌜ r .reply ≡ lineServed card (now (arena .entry)) (length (now (work .entry))) (now (line .entry)) .reply ⌝ }
-    ensures { λ r. ⌜ r .read ≡ length (lineServed card (now (arena .entry)) (length (now (work .entry))) (now (line .entry)) .read) ⌝ }
+fn carry_out(
+    card: Card,
+    arena: &mut [u8],
+    work: &mut [u8],
+    bytes: &mut [u8],
+    line: &[u8],
+    ask: Ask,
+) -> Reply
+    requires { ⌜ (ask ≡ askOf (now line)) × (16384 ≤ length (now bytes)) ⌝ }
+    ensures { λ r. ⌜ r ≡ lineServed card (now (arena .entry)) (length (now (work .entry))) (now (line .entry)) .reply ⌝ }
     ensures { λ _. ⌜ now (arena .exit) ≡ lineServed card (now (arena .entry)) (length (now (work .entry))) (now (line .entry)) .arena ⌝ }
     ensures { λ _. ⌜ now (work .exit) ≡ workAfter card (now (arena .entry)) (now (work .entry)) (now (line .entry)) ⌝ }
     ensures { λ _. ⌜ now (bytes .exit) ≡ bytesAfter (now (bytes .entry)) (now (line .entry)) ⌝ }
 {
-    match asks::ask_of(line) {
-        Ask::Malformed => Told {
-            reply: Reply::Refused(Refusal::MalformedRequest),
-            read: 0,
-        },
+    match ask {
+        Ask::Malformed => Reply::Refused(Refusal::MalformedRequest),
         Ask::Read { keyless, count } => {
-            let reply = served::read_asked(card, arena, work, bytes, line, keyless, count);
-            Told {
-                reply,
-                read: read_long(reply, count),
-            }
+            served::read_asked(card, arena, work, bytes, line, keyless, count)
         }
-        Ask::Write { keyless, count } => Told {
-            reply: served::write_asked(card, arena, work, bytes, line, keyless, count),
-            read: 0,
-        },
+        Ask::Write { keyless, count } => {
+            served::write_asked(card, arena, work, bytes, line, keyless, count)
+        }
     }
 }
 
@@ -74,7 +81,7 @@ pub fn request_line(
     line: &[u8],
     ordinal: u64,
 ) -> Printed
-    ensures { λ r. ⌜ r ≡ answeredLine card (now (arena .entry)) (now (work .entry)) (now (bytes .entry)) (now (out .entry)) (now (line .entry)) ordinal .printed ⌝ }
+    ensures { λ r. ⌜ (r ≡ answeredLine card (now (arena .entry)) (now (work .entry)) (now (bytes .entry)) (now (out .entry)) (now (line .entry)) ordinal .printed) × PrintedIn r (length (now (out .entry))) ⌝ }
     ensures { λ _. ⌜ now (arena .exit) ≡ answeredLine card (now (arena .entry)) (now (work .entry)) (now (bytes .entry)) (now (out .entry)) (now (line .entry)) ordinal .arena ⌝ }
     ensures { λ _. ⌜ now (work .exit) ≡ answeredLine card (now (arena .entry)) (now (work .entry)) (now (bytes .entry)) (now (out .entry)) (now (line .entry)) ordinal .work ⌝ }
     ensures { λ _. ⌜ now (bytes .exit) ≡ answeredLine card (now (arena .entry)) (now (work .entry)) (now (bytes .entry)) (now (out .entry)) (now (line .entry)) ordinal .bytes ⌝ }
@@ -86,8 +93,8 @@ pub fn request_line(
     if out.len() < 16448 {
         return Printed::NoRoom;
     }
-    let told = carry_out(card, arena, work, bytes, line);
-    let reply = told.reply;
-    let read = told.read;
-    Printed::Bytes(replies::put_answer(ordinal, reply, &work[0..read], out))
+    let ask = asks::ask_of(line);
+    let reply = carry_out(card, arena, work, bytes, line, ask);
+    let n = bytes_read(ask, reply);
+    Printed::Bytes(replies::put_answer(ordinal, reply, &work[0..n], out))
 }

@@ -20,7 +20,7 @@ use Rattle.asks.specs.declared.Ask.{Ask}
 use Rattle.asks.specs.declared.Ask.the-variants.{Malformed, Read, Write}
 use Rattle.asks.specs.Ask.{fieldIn, askOf}
 use Rattle.asks.proofs.Asking.{Fields}
-use Rattle.served.specs.Line.{codesIn, listIn, dataIn, readLong, askServed, lineServed, workBy, workAfter, spelledBy, bytesAfter}
+use Rattle.served.specs.Line.{codesIn, listIn, dataIn, bytesRead, askServed, lineServed, workBy, workAfter, spelledBy, bytesAfter}
 use Rattle.served.proofs.Parts.{front-put, both, first, second}
 use Rattle.served.proofs.Served.{read-said, write-read, cut}
 
@@ -49,9 +49,9 @@ module _ (card : Card) (arena work line : List ℕ) where
   pub malformed
       : (bytes : List ℕ) → askOf line ≡ Malformed → let s = lineServed card arena (length work) line in
       (Refused MalformedRequest ≡ s .reply)
-      × ((0 ≡ length (s .read)) × ((arena ≡ s .arena) × ((work ≡ workAfter card arena work line) × (bytes ≡ bytesAfter bytes line))))
+      × ((arena ≡ s .arena) × ((work ≡ workAfter card arena work line) × (bytes ≡ bytesAfter bytes line)))
   unfolding lineServed workAfter bytesAfter
-  malformed bytes k = rw k (refl, (refl, (refl, (refl, sym (put-zero bytes 0 [])))))
+  malformed bytes k = rw k (refl, (refl, (refl, sym (put-zero bytes 0 []))))
 
   module _ {keyless : Bool} {count : ℕ} where
     -- a read, which any seventeen codes decide
@@ -103,20 +103,10 @@ module _ (card : Card) (arena work line : List ℕ) where
           let y = rw (d, l, m, write-served k) at r in
           rw k (y, (rw (d, l, m, write-served k) at o, (rw y at w, both bytes (listIn line) (dataIn line) h e f p q)))
 
-    -- how many bytes a read puts out, and that it leaves the arena
-    pub read-told
-        : length (card .nodes) ≡ 64 → askOf line ≡ Read keyless count → let s = lineServed card arena (length work) line in
-        (readLong (s .reply) count ≡ length (s .read)) × (arena ≡ s .arena)
+    -- it leaves the arena
+    pub read-kept : length (card .nodes) ≡ 64 → askOf line ≡ Read keyless count → arena ≡ lineServed card arena (length work) line .arena
     unfolding lineServed
-    read-told h k =
-        let s = read-said card arena keyless (codesIn line) count (listIn line) (length work) h in
-        rw k (sym (s .long), sym (s .kept))
-
-    -- a write puts out none
-    pub write-told : askOf line ≡ Write keyless count → 0 ≡ length (lineServed card arena (length work) line .read)
-    unfolding lineServed
-    write-told k =
-        rw k (sym (ap length (write-read card arena keyless (codesIn line) count (listIn line) (dataIn line) (length work))))
+    read-kept h k = rw k (sym (read-said card arena keyless (codesIn line) count (listIn line) (length work) h .kept))
 
   module _ (h : length (card .nodes) ≡ 64) where
     -- by what the line asks
@@ -140,6 +130,21 @@ module _ (card : Card) (arena work line : List ℕ) where
     pub shown : Shown work (workAfter card arena work line) (lineServed card arena (length work) line)
     unfolding lineServed workAfter
     shown = shown-by (askOf line)
+
+    -- how many they are, by what the line asks
+    count-by
+        : (k : Ask) → bytesRead (askServed card arena (length work) line k .reply) k ≡ length (askServed card arena (length work) line k .read)
+    count-by Malformed = refl
+    count-by (Read keyless count) = sym (read-said card arena keyless (codesIn line) count (listIn line) (length work) h .long)
+    count-by (Write keyless count) =
+        sym (ap length (write-read card arena keyless (codesIn line) count (listIn line) (dataIn line) (length work)))
+
+    -- of any line
+    pub read-count
+        : {k : Ask} {x : Reply} → k ≡ askOf line → x ≡ lineServed card arena (length work) line .reply
+        → bytesRead x k ≡ length (lineServed card arena (length work) line .read)
+    unfolding lineServed
+    read-count e r = rw (e, r) (count-by (askOf line))
 
     -- as they are lent
     pub read-part

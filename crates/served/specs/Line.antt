@@ -32,6 +32,12 @@ readLong Done count = 16 * count
 readLong ShortData count = 0
 readLong (Failed i f) count = 0
 
+-- and how many what is asked puts out
+abbrev pub bytesRead : Reply → Ask → ℕ
+bytesRead reply Malformed = 0
+bytesRead reply (Read keyless count) = readLong reply count
+bytesRead reply (Write keyless count) = 0
+
 -- malformed is refusal 6, anything else a whole request on a buffer of `room` bytes
 abbrev pub askServed : Card → List ℕ → ℕ → List ℕ → Ask → Served
 askServed card arena room line Malformed = told arena (Refused MalformedRequest)

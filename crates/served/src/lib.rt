@@ -79,8 +79,8 @@ pub fn write_asked(
 {
     let mut codes = [0u16; 17];
     let n = read_codes(line, &mut codes);
-    let end = put_field(line, 4, bytes, 0);
-    let last = put_field(line, 5, bytes, end);
+    let middle = put_field(line, 4, bytes, 0);
+    let last = put_field(line, 5, bytes, middle);
     write::write(
         card,
         arena,
@@ -88,7 +88,7 @@ pub fn write_asked(
         keyless,
         &codes[0..n],
         count,
-        &bytes[0..end],
-        &bytes[end..last],
+        &bytes[0..middle],
+        &bytes[middle..last],
     )
 }

@@ -6,7 +6,8 @@ use mathlib.Core.Bool.{false}
 use lib.Dec.{ltb}
 use lib.ListN.{length}
 use denote.Ref.{now}
-use Rattle.asks.specs.Ask.{shaped, askOf}
+use Rattle.decimals.specs.declared.Number.the-variants.{Is}
+use Rattle.asks.specs.Ask.{shaped, countIn, askOf}
 use Rattle.asks.proofs.ask_of.Statement.{statement}
 use Rattle.asks.proofs.ask_of.Tie as tie
 
@@ -14,33 +15,40 @@ use Rattle.asks.proofs.ask_of.Tie as tie
 short : (c : tie.Else1) → ltb 32768 (length (now (c .before .before .args .line))) ≡ false
 short c = le-ltb _ _ (c .if1 .left)
 
+-- its count is a number
+count : (c : tie.After-count) → countIn (now (c .before .before .before .before .before .args .line)) ≡ Is (c .count .given .0 .0)
+count c = sym (c .before .before .count-in .ensures) ∙ c .count .given .1
+
 -- it is no read
-no-read : (c : tie.Else2) → shaped 82 5 (now (c .before .before .before .before .args .line)) ≡ false
+no-read : (c : tie.Else2) → shaped 82 5 (now (c .before .before .before .before .before .before .before .before .before .args .line)) ≡ false
 no-read c = sym (c .before .is-shaped .ensures) ∙ c .if2 .left
 
 returns-2 : tie.Need-returns-2
 unfolding askOf
-returns-2 c =
-    let l = c .before .before in
-    let t = l .before in
-    let e = t .before in
-    c .read-ask .ensures
-    ∙ rw (short (e .before), sym (e .is-shaped .ensures) ∙ t .if2 .taken, l .is-letter .ensures, c .before .count-in .ensures)
+returns-2 c = let n = c .before .before in rw (short (n .before), sym (n .count-in .ensures) ∙ c .enum-told .given .1)
 
 returns-3 : tie.Need-returns-3
 unfolding askOf
 returns-3 c =
-    let l = c .before .before in
-    let t = l .before in
-    let e = t .before in
-    c .write-ask .ensures
-    ∙ rw (short (e .before .before .before), no-read (e .before), sym (e .is-write .ensures) ∙ t .if3 .taken, l .is-letter2 .ensures, c .before .count-in2 .ensures)
+    let s = c .before in
+    let l = s .before in
+    let k = l .before .before in
+    rw (short (k .before .before .before), count k, sym (s .is-shaped .ensures) ∙ c .if2 .taken, l .is-letter .ensures)
 
 returns-4 : tie.Need-returns-4
 unfolding askOf
 returns-4 c =
-    let e = c .before in
-    rw (short (e .before .before .before), no-read (e .before), sym (e .is-write .ensures) ∙ c .if3 .left)
+    let w = c .before in
+    let l = w .before .before .before in
+    let k = l .before .before in
+    rw (short (k .before .before .before), count k, no-read (w .before), sym (w .is-write .ensures) ∙ c .if3 .taken, l .is-letter .ensures)
+
+returns-5 : tie.Need-returns-5
+unfolding askOf
+returns-5 c =
+    let w = c .before in
+    let k = w .before .before .before .before .before in
+    rw (short (k .before .before .before), count k, no-read (w .before), sym (w .is-write .ensures) ∙ c .if3 .left)
 
 pub ask-of-spec : {M : Type 1} → statement M
 unfolding askOf
@@ -49,13 +57,12 @@ ask-of-spec =
     (tie.spec
     (λ c. search (lt-ltb _ _ (c .if1 .taken)))
     (λ c κs. search needs)
-    (λ c κs. search needs)
-    (λ c κs. search needs)
-    (λ c κs. search needs)
+    (λ c. search needs)
+    (λ c. search needs)
     returns-2
     (λ c κs. search needs)
     (λ c κs. search needs)
-    (λ c κs. search needs)
-    (λ c κs. search needs)
     returns-3
-    returns-4)
+    (λ c κs. search needs)
+    returns-4
+    returns-5)

@@ -7,7 +7,7 @@ use lib.Dec.{eqb}
 use lib.ListN.{length}
 use denote.Ref.{now}
 use Rattle.fields.specs.Field.{split}
-use Rattle.asks.specs.Ask.{fieldIn, isLetter, hasKind, shaped}
+use Rattle.asks.specs.Ask.{fieldIn, isLetter, isEither, shaped}
 use Rattle.hex.specs.Codes.{codesField}
 use Rattle.asks.proofs.is_shaped.Statement.{statement}
 use Rattle.asks.proofs.is_shaped.Tie as tie
@@ -25,8 +25,8 @@ other : (c : tie.Then2) → let a = c .before .before .before .before .before .a
 other c = ne-eqb _ _ (λ e. c .if2 .taken (c .before .field-count .ensures ∙ e))
 
 -- the kind is there
-kind : (c : tie.Else3) → hasKind (now (c .before .before .before .before .before .before .before .args .line)) ≡ true
-kind c = sym (c .before .has-kind .ensures) ∙ not-false _ (c .if3 .left)
+kind : (c : tie.Else3) → isEither 79 83 (fieldIn (now (c .before .before .before .before .before .before .before .args .line)) 1) ≡ true
+kind c = sym (c .before .is-either .ensures) ∙ not-false _ (c .if3 .left)
 
 -- so are the codes
 codes : (c : tie.Else4) → codesField (fieldIn (now (c .before .before .before .before .before .before .before .before .before .args .line)) 2) ≡ true
@@ -44,7 +44,7 @@ returns-3 : tie.Need-returns-3
 unfolding shaped
 returns-3 c =
     let f = c .before .before in
-    rw (letter (f .before .before), fields f, sym (c .before .has-kind .ensures) ∙ not-true _ (c .if3 .taken))
+    rw (letter (f .before .before), fields f, sym (c .before .is-either .ensures) ∙ not-true _ (c .if3 .taken))
 
 returns-4 : tie.Need-returns-4
 unfolding shaped

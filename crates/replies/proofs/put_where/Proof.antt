@@ -1,23 +1,20 @@
 -- `replies::put_where` meets its contract: `-` for 00, or else the number. Assumes nothing.
 use borrow.Author.Needs.{needs}
 use native.Mathlib.Omega.{arith}
-use borrow.Author.Tests.{eq-eqb, ne-eqb}
-use Rattle.replies.specs.Answer.{whereText}
+use Rattle.replies.proofs.Writing.{nowhere, somewhere}
 use Rattle.replies.proofs.put_where.Statement.{statement}
 use Rattle.replies.proofs.put_where.Tie as tie
 
 returns : tie.Need-returns
-unfolding whereText
 returns c =
     let p = c .before .before in
     let e = p .put-mark .ensures in
-    rw (eq-eqb _ _ (p .before .before .if1 .taken)) ((e .0, omega arith), e .1)
+    rw (nowhere _ (p .before .before .if1 .taken)) ((e .0, omega arith), e .1)
 
 returns-2 : tie.Need-returns-2
-unfolding whereText
 returns-2 c =
     let p = c .before .before in
-    rw (ne-eqb _ _ (p .before .before .if1 .left)) (p .put-number .ensures)
+    rw (somewhere _ (p .before .before .if1 .left)) (p .put-number .ensures)
 
 pub put-where-spec : {M : Type 1} → statement M
 put-where-spec =

@@ -1,13 +1,13 @@
--- `asks::has_kind` meets its contract: one letter or the other. Assumes nothing.
+-- `asks::is_either` meets its contract: one letter or the other. Assumes nothing.
 use borrow.Author.Needs.{needs}
 use mathlib.Core.Path.{sym, _∙_}
-use Rattle.asks.specs.Ask.{hasKind}
-use Rattle.asks.proofs.has_kind.Statement.{statement}
-use Rattle.asks.proofs.has_kind.Tie as tie
+use Rattle.asks.specs.Ask.{isEither}
+use Rattle.asks.proofs.is_either.Statement.{statement}
+use Rattle.asks.proofs.is_either.Tie as tie
 
-pub has-kind-spec : {M : Type 1} → statement M
-unfolding hasKind
-has-kind-spec =
+pub is-either-spec : {M : Type 1} → statement M
+unfolding isEither
+is-either-spec =
     tie.close
     (tie.spec
     (λ c κs. search needs)
