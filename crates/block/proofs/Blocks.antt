@@ -14,8 +14,8 @@ use Rattle.grow.specs.declared.Answer.{Answer}
 use Rattle.grow.specs.declared.Answer.the-variants.{Done, Refused}
 use Rattle.structure.specs.declared.card.Card.{Card}
 use Rattle.structure.specs.Card.{nodesOf, isSound}
-use Rattle.checks.specs.declared.row.Row.{Row}
-use Rattle.checks.specs.Row.{rowOf}
+use Rattle.table.specs.declared.Row.{Row}
+use Rattle.table.specs.Row.{rowOf}
 use Rattle.block.specs.Block.{blockPlace, hasBlock, blockJudged, storedBlock, arenaSet}
 use Rattle.plan.proofs.Tests.{held, unheld}
 use Rattle.plan.proofs.Ready.{row-within, sound-laid}

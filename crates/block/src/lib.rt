@@ -1,6 +1,5 @@
 // One stored block: as the caller's own arena bytes, and set.
 use answers::refusal::Refusal;
-use checks::row;
 use grow::Answer;
 use structure::card::Card;
 ghost use mathlib.Core.Path.{_≡_};
@@ -18,7 +17,7 @@ fn judge_block(card: Card, long: usize, code: u16, number: u32) -> Answer
         return Answer::Refused(Refusal::ShortArena);
     }
     let nodes = card.nodes;
-    let own = row::row_of(nodes, card.count, code);
+    let own = table::row_of(nodes, card.count, code);
     if number < own.blocks as u32 {
         Answer::Done
     } else {
@@ -34,7 +33,7 @@ pub fn stored_block<'a>(card: Card, arena: &'a [u8], code: u16, number: u32) -> 
         Answer::Refused(_) => &arena[0..0],
         Answer::Done => {
             let nodes = card.nodes;
-            let own = row::row_of(nodes, card.count, code);
+            let own = table::row_of(nodes, card.count, code);
             let at = 16 * (own.start as usize + number as usize);
             &arena[at..at + 16]
         }
@@ -50,7 +49,7 @@ pub fn set_block(card: Card, arena: &mut [u8], code: u16, number: u32, block: [u
         Answer::Refused(refusal) => Answer::Refused(refusal),
         Answer::Done => {
             let nodes = card.nodes;
-            let own = row::row_of(nodes, card.count, code);
+            let own = table::row_of(nodes, card.count, code);
             let at = 16 * (own.start as usize + number as usize);
             spans::copy(arena, at, &block, 0, 16);
             Answer::Done

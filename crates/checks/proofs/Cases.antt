@@ -12,10 +12,10 @@ use Rattle.types.specs.declared.code.ServiceAttribute.{ServiceAttribute}
 use Rattle.types.specs.Code.{requiresKey}
 use Rattle.answers.specs.declared.status.Fault.{Fault}
 use Rattle.answers.specs.declared.status.Fault.the-variants.{ListIndex, AccessMode, Attribute, NoService, KeyNeeded, BlockNumber}
-use Rattle.checks.specs.declared.row.Row.{Row}
+use Rattle.table.specs.declared.Row.{Row}
 use Rattle.checks.specs.declared.check.Check.{Check}
 use Rattle.checks.specs.declared.check.Check.the-variants.{Passed, Failed}
-use Rattle.checks.specs.Row.{rowIn}
+use Rattle.table.specs.Row.{rowIn}
 use Rattle.checks.specs.Check.{modeAllowed, attributeCheck, rowCheck, elementCheck}
 
 module _ (rows : List Row) (n : ℕ) (write keyless : Bool) (e : BlockListElement) where

@@ -1,12 +1,11 @@
--- What callers cite: the rows of a table are those of the codes, and what is known once all elements passed.
+-- What callers cite: what is known once all elements passed.
 use mathlib.Core.Path.{_≡_, refl, _∙_}
 use mathlib.Core.Bool.{Bool, true, false, cond, _&&_}
-use mathlib.Core.List.{List, [], _∷_, _++_}
-use Prim.Native.Nat.{ℕ, _+_, _≤_, _<_, min}
+use mathlib.Core.List.{List, [], _∷_}
+use Prim.Native.Nat.{ℕ, _+_, _<_}
 use native.Mathlib.Omega.{arith}
 use lib.Dec.{leb, ltb}
-use lib.ListN.{length, take, replicate, length-map}
-use lib.Seq.{take-take, take-at}
+use lib.ListN.{length}
 use borrow.Author.Tests.{leb-false, ltb-true}
 use Rattle.types.specs.declared.code.Decoded.{Decoded}
 use Rattle.types.specs.declared.code.Decoded.the-variants.{Defined, Undefined}
@@ -15,23 +14,12 @@ use Rattle.answers.specs.declared.status.Fault.{Fault}
 use Rattle.answers.specs.declared.status.Fault.the-variants.{ListIndex, AccessMode, NoService, KeyNeeded, ReadOnly, BlockNumber}
 use Rattle.types.specs.Code.{requiresKey, allowsWrite}
 use Rattle.lists.specs.declared.element.BlockListElement.{BlockListElement}
-use Rattle.nodes.specs.declared.node.Node.{Node}
-use Rattle.checks.specs.declared.row.Row.{Row}
-use Rattle.checks.specs.declared.row.Table.{Table}
+use Rattle.table.specs.declared.Row.{Row}
 use Rattle.checks.specs.declared.check.Check.{Check}
 use Rattle.checks.specs.declared.check.Check.the-variants.{Passed, Failed}
 use Rattle.checks.specs.declared.check.Checked.the-variants.{Passed as AllPassed}
-use Rattle.checks.specs.Row.{noRow, rowsOf, tableOf, rowIn}
+use Rattle.table.specs.Row.{rowIn}
 use Rattle.checks.specs.Check.{modeAllowed, attributeCheck, thenCheck, definedCheck, rowCheck, elementCheck, nextCheck, checkedFrom}
-
--- of at most sixteen codes the table holds every row, and no other
-pub table-rows : {t : Table} (ns : List Node) (codes : List ℕ) → length codes ≤ 16 → t ≡ tableOf ns codes →
-    take (t .count) (t .rows) ≡ rowsOf ns codes
-unfolding tableOf
-table-rows ns codes h e =
-    let long : length (rowsOf ns codes) ≡ min (length codes) 16 = simp length-map (omega arith) in
-    rw e (take-take (min (length codes) 16) 16 (rowsOf ns codes ++ replicate 16 noRow) (omega arith)
-    ∙ take-at (rowsOf ns codes) (replicate 16 noRow) (min (length codes) 16) long)
 
 -- each element passes its check
 abbrev pub AllPass : List Row → Bool → Bool → List BlockListElement → Type 0

@@ -1,5 +1,4 @@
 -- The laws of the definitions: what the functions' proofs cite, and what callers may.
-mod Rows
 mod Cases
 mod Steps
 pub mod Laws

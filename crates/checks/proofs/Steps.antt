@@ -10,7 +10,7 @@ use Rattle.lists.specs.declared.element.Unpacked.{Unpacked}
 use Rattle.lists.specs.declared.element.Unpacked.the-variants.{Element, Short}
 use Rattle.lists.specs.Element.{unpackAt, elementsFrom}
 use Rattle.lists.proofs.Lists.{elements-short, elements-element}
-use Rattle.checks.specs.declared.row.Row.{Row}
+use Rattle.table.specs.declared.Row.{Row}
 use Rattle.checks.specs.declared.check.Check.{Check}
 use Rattle.checks.specs.declared.check.Check.the-variants.{Passed, Failed}
 use Rattle.checks.specs.declared.check.Checked.the-variants.{Passed as AllPassed, Failed as FailedAt}

@@ -10,12 +10,12 @@ use Rattle.types.specs.declared.code.ServiceAttribute.{ServiceAttribute}
 use Rattle.lists.specs.declared.element.BlockListElement.{BlockListElement}
 use Rattle.answers.specs.declared.status.Fault.the-variants.{ListIndex, AccessMode, Attribute, NoService, KeyNeeded, ReadOnly, NoCashback, BlockNumber}
 use Rattle.types.specs.Code.{requiresKey, allowsWrite, allowsCashback}
-use Rattle.checks.specs.declared.row.Row.{Row}
+use Rattle.table.specs.declared.Row.{Row}
 use Rattle.checks.specs.declared.check.Check.{Check}
 use Rattle.checks.specs.declared.check.Check.the-variants.{Passed, Failed}
 use Rattle.checks.specs.declared.check.Checked.{Checked}
 use Rattle.checks.specs.declared.check.Checked.the-variants.{Passed as AllPassed, Failed as FailedAt}
-use Rattle.checks.specs.Row.{rowIn}
+use Rattle.table.specs.Row.{rowIn}
 
 -- mode 0; on a write 0 or 1
 unfoldable pub modeAllowed : Bool → ℕ → Bool

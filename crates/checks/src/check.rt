@@ -1,10 +1,10 @@
 // The checks of a block list element, in their order (`validate_block_element` of the Rust).
-use crate::row::Row;
-use crate::row::Table;
 use answers::status::Fault;
 use lists::element;
 use lists::element::BlockListElement;
 use lists::element::Unpacked;
+use table::Row;
+use table::Table;
 use types::code::Decoded;
 use types::code::ServiceAttribute;
 use types::code::ServiceCode;
@@ -93,7 +93,7 @@ fn row_check(row: Row, write: bool, keyless: bool, number: u16, mode: u8) -> Che
 }
 
 // The check of one element.
-pub fn element_check(table: Table, write: bool, keyless: bool, e: BlockListElement) -> Check
+fn element_check(table: Table, write: bool, keyless: bool, e: BlockListElement) -> Check
     ensures { λ r. ⌜ r ≡ elementCheck (take (table .count) (table .rows)) write keyless e ⌝ }
 {
     let index = e.index as usize;

@@ -8,8 +8,8 @@ use Rattle.nodes.specs.declared.node.Node.{Node}
 use Rattle.nodes.specs.declared.find.Found.{Found}
 use Rattle.nodes.specs.declared.find.Found.the-variants.{At, Nothing}
 use Rattle.nodes.specs.Find.{isSharerOf, parentOf, sharedOf}
-use Rattle.nodes.proofs.Searches.{Below, below-cond, first-below, parent-below}
-use Rattle.nodes.proofs.Records.{Records, free, indexed, recorded}
+use Rattle.nodes.proofs.Searches.{Below, below-cond, parent-below}
+use Rattle.nodes.proofs.Records.{Records, free, indexed, recorded, found-node}
 use Rattle.grow.specs.declared.Answer.{Answer}
 use Rattle.grow.specs.declared.Placed.{Placed}
 use Rattle.grow.specs.Grow.{parentAt, areaUnder, areaJudged, serviceUnder, joinedTo, storeOf, ifDone, placedOf}
@@ -43,12 +43,7 @@ module _ {nodes : List Node} {count : ℕ} (r : Records nodes count) where
         rw (free r h, sym told ∙ e, recorded r (parent-at-below (take count nodes) depth) (sym told ∙ e) z, k, e')
 
   module _ {f : Found} {j : ℕ} (code : ℕ) (told : f ≡ sharedOf (take count nodes) code) (e : f ≡ At j) where
-    -- the index of the first service of a number
-    pub shared-index : j < 64
-    shared-index = indexed r (first-below (isSharerOf code) 0 (take count nodes)) (sym told ∙ e)
-
     -- a later one joins it at its record
     pub joined : (z : Node) (used long blocks : ℕ) →
         joinedTo (getD nodes j z) code used ≡ storeOf (take count nodes) used long code blocks (sharedOf (take count nodes) code)
-    joined z used long blocks =
-        rw (sym told ∙ e, recorded r (first-below (isSharerOf code) 0 (take count nodes)) (sym told ∙ e) z)
+    joined z used long blocks = rw (sym told ∙ e, found-node r (isSharerOf code) told e z)

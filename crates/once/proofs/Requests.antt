@@ -21,13 +21,10 @@ use Rattle.plan.specs.Serve.{stagingBy}
 use Rattle.plan.specs.declared.Reply.{Reply}
 use Rattle.once.specs.One.{Promised, OneAnswer, OneSeen}
 use Rattle.once.proofs.Law.{once, once-by, of-one, of-two, of-three, result}
-use Rattle.checks.proofs.check.element_check as checks·element-check
 use Rattle.checks.proofs.check.check_all as checks·check-all
-use Rattle.checks.proofs.row.row_of as checks·row-of
-use Rattle.checks.proofs.row.table_of as checks·table-of
-use Rattle.checks.proofs.row.Table.row as checks·Table·row
-use Rattle.runs.proofs.rule.element_on as runs·element-on
-use Rattle.runs.proofs.rule.end_on as runs·end-on
+use Rattle.table.proofs.row_of as table·row-of
+use Rattle.table.proofs.table_of as table·table-of
+use Rattle.table.proofs.Table.row as table·Table·row
 use Rattle.runs.proofs.run.apply as runs·apply
 use Rattle.plan.proofs.Reply.status_flag1 as plan·Reply·status-flag1
 use Rattle.plan.proofs.Reply.status_flag2 as plan·Reply·status-flag2
@@ -51,26 +48,17 @@ staged-once : {x x′ : Reply} {t t′ : List ℕ} (n : ℕ) (s : List ℕ) → 
 staged-once n s e p q = once-by (λ (x : Reply). stagingBy x n s) e p q
 
 module _ {M : Type 1} (𝓤 : URA M) (H : Heap 𝓤) (A : Atoms 𝓤) (mem : Memory → SProp 𝓤) (run : Routine → Fun 𝓤) where
-  pub checks·element-check-once : OneAnswer 𝓤 checks·element-check.ended (checks·element-check.clauses 𝓤 H A mem run)
-  checks·element-check-once κs a g r r′ ws ws′ = result 𝓤 refl
-
   pub checks·check-all-once : OneAnswer 𝓤 checks·check-all.ended (checks·check-all.clauses 𝓤 H A mem run)
   checks·check-all-once κs a g r r′ ws ws′ = result 𝓤 refl
 
-  pub checks·row-of-once : OneAnswer 𝓤 checks·row-of.ended (checks·row-of.clauses 𝓤 H A mem run)
-  checks·row-of-once κs a g r r′ ws ws′ = result 𝓤 refl
+  pub table·row-of-once : OneAnswer 𝓤 table·row-of.ended (table·row-of.clauses 𝓤 H A mem run)
+  table·row-of-once κs a g r r′ ws ws′ = result 𝓤 refl
 
-  pub checks·table-of-once : OneAnswer 𝓤 checks·table-of.ended (checks·table-of.clauses 𝓤 H A mem run)
-  checks·table-of-once κs a g r r′ ws ws′ = result 𝓤 refl
+  pub table·table-of-once : OneAnswer 𝓤 table·table-of.ended (table·table-of.clauses 𝓤 H A mem run)
+  table·table-of-once κs a g r r′ ws ws′ = result 𝓤 refl
 
-  pub checks·Table·row-once : OneAnswer 𝓤 checks·Table·row.ended (checks·Table·row.clauses 𝓤 H A mem run)
-  checks·Table·row-once κs a g r r′ ws ws′ = result 𝓤 refl
-
-  pub runs·element-on-once : OneAnswer 𝓤 runs·element-on.ended (runs·element-on.clauses 𝓤 H A mem run)
-  runs·element-on-once κs a g r r′ ws ws′ = of-two 𝓤 (λ p p′ q q′. (once p q, λ i. (once p′ q′ i, (tt, (tt, (tt, (tt, tt)))))))
-
-  pub runs·end-on-once : OneAnswer 𝓤 runs·end-on.ended (runs·end-on.clauses 𝓤 H A mem run)
-  runs·end-on-once κs a g r r′ ws ws′ = of-two 𝓤 (λ p p′ q q′. (once p q, λ i. (once p′ q′ i, (tt, (tt, tt)))))
+  pub table·Table·row-once : OneAnswer 𝓤 table·Table·row.ended (table·Table·row.clauses 𝓤 H A mem run)
+  table·Table·row-once κs a g r r′ ws ws′ = result 𝓤 refl
 
   -- after a failure nothing is said of the stage
   pub runs·apply-once

@@ -22,9 +22,9 @@ use Rattle.structure.specs.declared.card.Card.{Card}
 use Rattle.structure.specs.Card.{nodesOf, isSound}
 use Rattle.built.proofs.Built.{sound-built}
 use Rattle.built.proofs.Laid.{Laid, laid}
-use Rattle.checks.specs.declared.row.Row.{Row}
+use Rattle.table.specs.declared.Row.{Row}
 use Rattle.checks.specs.declared.check.Checked.the-variants.{Passed as AllPassed}
-use Rattle.checks.specs.Row.{rowBy, rowAt, rowOf, rowsOf, rowAtIndex}
+use Rattle.table.specs.Row.{rowBy, rowAt, rowOf, rowsOf, rowAtIndex}
 use Rattle.checks.specs.Check.{checkedFrom}
 use Rattle.checks.proofs.Laws.{AllPass, all-pass, good}
 use Rattle.runs.specs.Ready.{Ready, AllReady}

@@ -9,10 +9,10 @@ use Rattle.answers.specs.declared.refusal.Refusal.the-variants.{TooManyElements
 use Rattle.lists.specs.Element.{endsAfter, elementsFrom}
 use Rattle.structure.specs.declared.card.Card.{Card}
 use Rattle.structure.specs.Card.{nodesOf, isSound}
-use Rattle.checks.specs.declared.row.Row.{Row}
+use Rattle.table.specs.declared.Row.{Row}
 use Rattle.checks.specs.declared.check.Checked.{Checked}
 use Rattle.checks.specs.declared.check.Checked.the-variants.{Passed as AllPassed, Failed as FailedAt}
-use Rattle.checks.specs.Row.{rowsOf}
+use Rattle.table.specs.Row.{rowsOf}
 use Rattle.checks.specs.Check.{checkedFrom}
 use Rattle.plan.specs.declared.Reply.{Reply}
 use Rattle.plan.specs.declared.Reply.the-variants.{Refused, ShortData, Failed}

@@ -7,8 +7,8 @@ use Rattle.lists.specs.declared.element.BlockListElement.{BlockListElement}
 use Rattle.answers.specs.declared.refusal.Refusal.{Refusal}
 use Rattle.spans.specs.Part.{part, put}
 use Rattle.structure.specs.declared.card.Card.{Card}
-use Rattle.checks.specs.declared.row.Row.{Row}
-use Rattle.checks.specs.Row.{rowIn}
+use Rattle.table.specs.declared.Row.{Row}
+use Rattle.table.specs.Row.{rowIn}
 use Rattle.runs.specs.Runs.{Walked, bad, good}
 use Rattle.runs.specs.Rules.{staged}
 use Rattle.plan.specs.declared.Reply.{Reply}

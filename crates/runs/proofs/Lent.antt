@@ -8,7 +8,7 @@ use Rattle.spans.specs.Part.{part, put}
 use Rattle.spans.proofs.Part.{length-part, put-part, put-lent}
 use Rattle.blocks.specs.declared.Written.{Written}
 use Rattle.blocks.specs.Outcome.{Outcome, passed, failed, writtenOf, bytesAfter}
-use Rattle.checks.specs.declared.row.Row.{Row}
+use Rattle.table.specs.declared.Row.{Row}
 use Rattle.runs.specs.Lens.{back, within}
 use Rattle.runs.specs.Rules.{onStore}
 

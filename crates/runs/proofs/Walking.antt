@@ -16,8 +16,8 @@ use Rattle.lists.proofs.Lists.{elements-short, elements-element}
 use Rattle.blocks.specs.declared.Written.{Written}
 use Rattle.blocks.specs.declared.Written.the-variants.{Done, Failed}
 use Rattle.blocks.specs.Outcome.{Outcome, passed, failed}
-use Rattle.checks.specs.declared.row.Row.{Row}
-use Rattle.checks.specs.Row.{rowIn, numberIn}
+use Rattle.table.specs.declared.Row.{Row}
+use Rattle.table.specs.Row.{rowIn, numberIn}
 use Rattle.runs.specs.declared.run.Applied.{Applied}
 use Rattle.runs.specs.declared.run.Applied.the-variants.{Done as AllDone}
 use Rattle.runs.specs.Runs.{Walked, bad, good}

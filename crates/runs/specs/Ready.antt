@@ -2,8 +2,8 @@
 use Prim.Native.Nat.{ℕ, _+_, _*_, _≤_, _<_}
 use mathlib.Core.List.{List, [], _∷_}
 use Rattle.lists.specs.declared.element.BlockListElement.{BlockListElement}
-use Rattle.checks.specs.declared.row.Row.{Row}
-use Rattle.checks.specs.Row.{rowIn}
+use Rattle.table.specs.declared.Row.{Row}
+use Rattle.table.specs.Row.{rowIn}
 use Rattle.runs.specs.declared.run.Applied.{Applied}
 use Rattle.runs.specs.declared.run.Applied.the-variants.{Done, Failed}
 use Rattle.runs.specs.Runs.{Walked, bad, good}

@@ -16,8 +16,8 @@ use Rattle.blocks.specs.declared.purse.Limit.{Limit}
 use Rattle.blocks.specs.Outcome.{Outcome, passed, failed}
 use Rattle.blocks.specs.Cyclic.{cyclicOf}
 use Rattle.blocks.specs.Purse.{purseOf}
-use Rattle.checks.specs.declared.row.Row.{Row}
-use Rattle.checks.specs.Row.{rowIn, numberIn}
+use Rattle.table.specs.declared.Row.{Row}
+use Rattle.table.specs.Row.{rowIn, numberIn}
 use Rattle.runs.specs.Runs.{Walked, bad, good, runsOf, walk}
 use Rattle.runs.specs.Lens.{within}
 

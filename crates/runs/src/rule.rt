@@ -5,7 +5,7 @@ use blocks::cyclic;
 use blocks::purse;
 use blocks::purse::Limit;
 use blocks::purse::PurseOperation;
-use checks::row::Row;
+use table::Row;
 use types::code::Decoded;
 use types::code::ServiceAttribute;
 ghost use mathlib.Core.Path.{_≡_};
@@ -82,7 +82,7 @@ fn element_by(
 }
 
 // The same where the store lies in the stage, `block` being the element's sixteen bytes.
-pub fn element_on(stage: &mut [u8], block: &[u8], row: Row, number: u16, mode: u8) -> Written
+pub(crate) fn element_on(stage: &mut [u8], block: &[u8], row: Row, number: u16, mode: u8) -> Written
     requires { ⌜ (16 * row .start + 16 * row .blocks ≤ length (now stage)) × (16 * number + 16 ≤ 16 * row .blocks) × (16 ≤ length (now block)) ⌝ }
     ensures { λ r. ⌜ r ≡ writtenOf (onStore row (elementBy (row .attribute) (row .limit) number mode (now (block .entry))) (now (stage .entry))) ⌝ }
     ensures { λ r. ⌜ now (stage .exit) ≡ bytesAfter (now (stage .entry)) (onStore row (elementBy (row .attribute) (row .limit) number mode (now (block .entry))) (now (stage .entry))) ⌝ }
@@ -117,7 +117,7 @@ fn end_by(store: &mut [u8], run: &[u8], attribute: ServiceAttribute) -> Written
 }
 
 // The same where the store lies in the stage.
-pub fn end_on(stage: &mut [u8], run: &[u8], row: Row) -> Written
+pub(crate) fn end_on(stage: &mut [u8], run: &[u8], row: Row) -> Written
     requires { ⌜ 16 * row .start + 16 * row .blocks ≤ length (now stage) ⌝ }
     ensures { λ r. ⌜ r ≡ writtenOf (onStore row (endBy (row .attribute) (now (run .entry))) (now (stage .entry))) ⌝ }
     ensures { λ r. ⌜ now (stage .exit) ≡ bytesAfter (now (stage .entry)) (onStore row (endBy (row .attribute) (now (run .entry))) (now (stage .entry))) ⌝ }

@@ -2,10 +2,10 @@
 use crate::rule;
 use answers::status::Fault;
 use blocks::Written;
-use checks::row::Row;
-use checks::row::Table;
 use lists::element;
 use lists::element::Unpacked;
+use table::Row;
+use table::Table;
 use types::code::ServiceCode;
 ghost use mathlib.Core.Path.{_≡_};
 ghost use Prim.Native.Nat.{_*_, _≤_};

@@ -18,10 +18,10 @@ use Rattle.spans.specs.Part.{part}
 use Rattle.spans.proofs.Part.{length-part}
 use Rattle.structure.specs.declared.card.Card.{Card}
 use Rattle.structure.specs.Card.{isSound}
-use Rattle.checks.specs.declared.row.Row.{Row}
+use Rattle.table.specs.declared.Row.{Row}
 use Rattle.checks.specs.declared.check.Checked.{Checked}
 use Rattle.checks.specs.declared.check.Checked.the-variants.{Passed, Failed as FailedAt}
-use Rattle.checks.specs.Row.{rowIn}
+use Rattle.table.specs.Row.{rowIn}
 use Rattle.checks.specs.Check.{checkedFrom}
 use Rattle.runs.specs.Runs.{Walked, bad, good}
 use Rattle.runs.specs.Rules.{staged}

@@ -2,30 +2,25 @@
 use mathlib.Core.Path.{_≡_, refl, sym, _∙_, subst}
 use mathlib.Core.List.{List, [], _∷_, _++_}
 use Prim.Native.Nat.{ℕ, zero, suc, _+_, _-_, _*_, _≤_, _<_}
-use native.Mathlib.Nat.{sub-zero, add-zero, add-suc, suc-add}
+use native.Mathlib.Nat.{sub-zero}
 use native.Mathlib.Omega.{arith}
-use lib.ListN.{length, set, drop}
-use lib.Seq.{sets, take-length}
+use lib.ListN.{length, drop}
+use lib.Seq.{take-length}
 use Rattle.lists.specs.declared.element.BlockListElement.{BlockListElement}
 use Rattle.lists.specs.declared.element.Unpacked.{Unpacked}
 use Rattle.lists.specs.declared.element.Unpacked.the-variants.{Element, Short}
 use Rattle.lists.specs.Element.{unpackAt, elementsFrom}
 use Rattle.lists.proofs.Lists.{elements-short, elements-element}
 use Rattle.spans.specs.Part.{part, put}
-use Rattle.spans.proofs.Part.{length-part, length-put, put-zero, put-take, part-part}
-use Rattle.checks.specs.declared.row.Row.{Row}
-use Rattle.checks.specs.Row.{rowIn}
+use Rattle.spans.proofs.Part.{sets-append, length-part, length-put, put-zero, put-take, part-part}
+use Rattle.table.specs.declared.Row.{Row}
+use Rattle.table.specs.Row.{rowIn}
 use Rattle.runs.specs.Ready.{Ready, AllReady}
 use Rattle.plan.specs.Serve.{storeIn, blocksRead}
 
 -- bytes put from a place on
 abbrev pub filled : List ℕ → ℕ → List ℕ → List ℕ
 filled s at t = put s at (length t) t
-
--- stores of two runs, one after the other
-sets-append : (xs ys l : List ℕ) (i : ℕ) → sets l i (xs ++ ys) ≡ sets (sets l i xs) (i + length xs) ys
-sets-append [] ys l i = rw (add-zero i)
-sets-append (x ∷ xs) ys l i = rw (add-suc i (length xs), ← suc-add i (length xs)) (sets-append xs ys (set l i x) (suc i))
 
 -- two runs are put one after the other
 put-append : (s : List ℕ) (at : ℕ) (t u : List ℕ) → filled s at (t ++ u) ≡ filled (filled s at t) (at + length t) u

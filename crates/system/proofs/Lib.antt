@@ -1,3 +1,4 @@
 mod Copied
+mod Fits
 mod Reading
 mod Writing

@@ -17,12 +17,11 @@ use Rattle.spans.specs.Part.{put}
 use Rattle.spans.proofs.Part.{put-split, put-take}
 use Rattle.structure.specs.declared.card.Card.{Card}
 use Rattle.structure.specs.Card.{nodesOf, isSound}
-use Rattle.checks.specs.declared.row.Table.{Table}
+use Rattle.table.specs.declared.Table.{Table}
 use Rattle.checks.specs.declared.check.Checked.{Checked}
 use Rattle.checks.specs.declared.check.Checked.the-variants.{Passed as AllPassed, Failed as FailedAt}
-use Rattle.checks.specs.Row.{tableOf}
+use Rattle.table.specs.Row.{tableOf}
 use Rattle.checks.specs.Check.{checkedFrom}
-use Rattle.checks.proofs.Laws.{table-rows}
 use Rattle.runs.specs.declared.run.Applied.{Applied}
 use Rattle.runs.specs.declared.run.Applied.the-variants.{Done as AllDone, Failed as RunFailed}
 use Rattle.runs.specs.Runs.{Walked, bad, good}
@@ -33,11 +32,12 @@ use Rattle.plan.specs.declared.Judged.the-variants.{Refused as NotFit, ShortDat
 use Rattle.plan.specs.declared.Reply.{Reply}
 use Rattle.plan.specs.declared.Reply.the-variants.{Done, Failed}
 use Rattle.plan.specs.Request.{Request}
-use Rattle.plan.specs.Plan.{lentJudged, judgedBy, lengthsOf, judgedOf, rowsIn, elementsIn, checkedPlan, planOf}
+use Rattle.plan.specs.Plan.{lentJudged, judgedBy, judgedOf, rowsIn, elementsIn, checkedPlan, planOf}
 use Rattle.plan.specs.Serve.{Served, told, committed, carried, planServed, serve, stagingBy}
 use Rattle.plan.proofs.Tests.{held, unheld}
-use Rattle.plan.proofs.Ready.{Fitting, fits, all-ready}
+use Rattle.plan.proofs.Ready.{all-ready}
 use Rattle.plan.proofs.Serves.{failed, passed}
+use Rattle.system.proofs.Fits.{fit, rows, checked}
 
 -- the staging s, once `size` bytes of the arena a were copied over its old bytes g
 module _ (a g s : List ℕ) (size : ℕ) (fa : size ≤ length a) (fg : size ≤ length g) (e : s ≡ put g 0 size (drop 0 a)) where
@@ -86,46 +86,37 @@ pub unchanged : {a : List ℕ} {x : Reply} {s : Served} → s ≡ told a x → (
 unchanged e = rw e (refl, refl)
 
 module _ (c : Card) (a : List ℕ) (r : Request) (j : judgedOf c (length a) r ≡ Fit) where
-  -- what fits
-  fit : Fitting c (r .write) (r .count) (r .list) (lengthsOf (length a) r)
-  fit = fits c (r .write) (r .count) (r .list) (lengthsOf (length a) r) j
-
   -- a write that fits has its stores in arena and staging
   pub stores-fit : r .write ≡ true → (16 * c .used ≤ length a) × (16 * c .used ≤ r .room)
-  stores-fit w = (fit .arena, fit .staging w)
+  stores-fit w = let f = fit c a r j in (f .arena, f .staging w)
 
   module _ {t : Table} (made : t ≡ tableOf (nodesOf c) (r .codes)) {k : Checked}
       (e : k ≡ checkedFrom (take (t .count) (t .rows)) (r .write) (r .keyless) 0 (elementsIn r)) where
-    -- the table's rows are the request's
-    rows : take (t .count) (t .rows) ≡ rowsIn c r
-    rows = table-rows (nodesOf c) (r .codes) (fit .codes) made
-
-    -- so the elements are checked against those
-    checked : {x : Checked} → k ≡ x → checkedFrom (rowsIn c r) (r .write) (r .keyless) 0 (elementsIn r) ≡ x
-    checked h = sym (rw rows at e) ∙ h
-
     -- an element that fails
     pub write-failed : {i : ℕ} {f : Fault} → k ≡ FailedAt i f → (Failed i f ≡ serve c a r .reply) × (a ≡ serve c a r .arena)
-    write-failed h = unchanged (failed c a r j (checked h))
+    write-failed h = unchanged (failed c a r j (checked c a r j made e h))
 
     module _ (w : r .write ≡ true) (p : k ≡ AllPassed) where
       -- all pass: the stores are there, and each element names a block of one
       pub write-ready : length (c .nodes) ≡ 64 →
           (16 * c .used ≤ length a) × (16 * c .used ≤ r .room) × (16 * r .count ≤ length (r .sent))
           × AllReady (take (t .count) (t .rows)) (16 * c .used) (elementsIn r)
-      write-ready h = (
-        fit .arena,
-        fit .staging w,
-        fit .sent w,
-        rw rows (all-ready c h (fit .sound) (r .codes) (r .write) (r .keyless) (elementsIn r) (checked p) (16 * c .used) (omega arith)),
-      )
+      write-ready h =
+          let f = fit c a r j in (
+            f .arena,
+            f .staging w,
+            f .sent w,
+            rw (rows c a r j made)
+                (all-ready c h (f .sound) (r .codes) (r .write) (r .keyless) (elementsIn r) (checked c a r j made e p) (16 * c .used) (omega arith)),
+          )
 
       -- the runs are carried out
       pub write-done : {x : Reply} {new : List ℕ} →
           let s = committed (16 * c .used) a (staged (take (t .count) (t .rows)) (r .sent) (elementsIn r) (take (16 * c .used) a)) in
           x ≡ s .reply → new ≡ s .arena → (x ≡ serve c a r .reply) × (new ≡ serve c a r .arena)
       unfolding carried
-      write-done m n = rw (passed c a r j (checked p), w) (rw rows at m, rw rows at n)
+      write-done m n =
+          let q = rows c a r j made in rw (passed c a r j (checked c a r j made e p), w) (rw q at m, rw q at n)
 
 -- after a status pair the staging is zero where stores were staged
 abbrev Zeroes : Reply → Type 0

@@ -1,14 +1,13 @@
 // Reading: all elements are checked, then their blocks copied (`validate_read_block` of the Rust).
 use checks::check;
 use checks::check::Checked;
-use checks::row;
-use checks::row::Table;
 use lists::element;
 use lists::element::Unpacked;
 use plan::Judged;
 use plan::Lengths;
 use plan::Reply;
 use structure::card::Card;
+use table::Table;
 ghost use mathlib.Core.Path.{_≡_};
 ghost use Prim.Native.Nat.{_*_, _≤_};
 ghost use lib.ListN.{length, take};
@@ -61,7 +60,7 @@ pub fn read(
         Judged::ShortData => Reply::ShortData,
         Judged::Fit => {
             let nodes = card.nodes;
-            let table = row::table_of(nodes, card.count, codes);
+            let table = table::table_of(nodes, card.count, codes);
             match check::check_all(table, false, keyless, list, count as usize) {
                 Checked::Failed { index, fault } => Reply::Failed { index, fault },
                 Checked::Passed => {

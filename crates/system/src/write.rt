@@ -1,14 +1,13 @@
 // Writing: all elements are checked, then the runs work on staged stores, which are committed only if every run passes.
 use checks::check;
 use checks::check::Checked;
-use checks::row;
-use checks::row::Table;
 use plan::Judged;
 use plan::Lengths;
 use plan::Reply;
 use runs::run;
 use runs::run::Applied;
 use structure::card::Card;
+use table::Table;
 ghost use mathlib.Core.Path.{_≡_};
 ghost use Prim.Native.Nat.{_*_, _≤_};
 ghost use lib.ListN.{length, take, drop};
@@ -62,7 +61,7 @@ fn checked_write(
     ensures { λ _. ⌜ drop (16 * card .used) (now (staging .exit)) ≡ drop (16 * card .used) (now (staging .entry)) ⌝ }
 {
     let nodes = card.nodes;
-    let table = row::table_of(nodes, card.count, codes);
+    let table = table::table_of(nodes, card.count, codes);
     match check::check_all(table, true, keyless, list, count) {
         Checked::Failed { index, fault } => Reply::Failed { index, fault },
         Checked::Passed => carry_out(arena, staging, 16 * card.used, table, list, count, input),

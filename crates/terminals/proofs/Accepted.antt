@@ -14,8 +14,8 @@ use Rattle.structure.specs.Card.{nodesOf}
 use Rattle.spans.specs.Part.{put}
 use Rattle.checks.specs.declared.check.Checked.{Checked}
 use Rattle.checks.specs.declared.check.Checked.the-variants.{Passed as AllPassed, Failed as FailedAt}
-use Rattle.checks.specs.declared.row.Row.{Row}
-use Rattle.checks.specs.Row.{rowIn}
+use Rattle.table.specs.declared.Row.{Row}
+use Rattle.table.specs.Row.{rowIn}
 use Rattle.checks.specs.Check.{checkedFrom}
 use Rattle.checks.proofs.Laws.{AllPass, all-pass, Good, good}
 use Rattle.runs.specs.Runs.{Walked, bad, good as walked}

@@ -24,7 +24,7 @@ use Rattle.structure.specs.declared.card.Card.{Card}
 use Rattle.structure.specs.Card.{newCard}
 use Rattle.structure.specs.Grow.{addService}
 use Rattle.built.specs.Built.{Built, new, service}
-use Rattle.checks.specs.Row.{rowOf}
+use Rattle.table.specs.Row.{rowOf}
 use Rattle.checks.specs.Check.{modeAllowed, attributeCheck, rowCheck, elementCheck, checkedFrom}
 use Rattle.runs.specs.Runs.{then, push, runsOf, scan, walk}
 use Rattle.runs.specs.Lens.{back, within}

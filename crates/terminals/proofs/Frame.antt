@@ -8,8 +8,8 @@ use Rattle.lists.specs.declared.element.BlockListElement.{BlockListElement}
 use Rattle.spans.specs.Part.{part}
 use Rattle.blocks.specs.Outcome.{Outcome, passed, failed}
 use Rattle.structure.specs.declared.card.Card.{Card}
-use Rattle.checks.specs.declared.row.Row.{Row}
-use Rattle.checks.specs.Row.{rowAtIndex, rowIn, numberIn}
+use Rattle.table.specs.declared.Row.{Row}
+use Rattle.table.specs.Row.{rowAtIndex, rowIn, numberIn}
 use Rattle.runs.specs.Runs.{Walked, bad, good, then, runsOf}
 use Rattle.runs.specs.Lens.{back, within}
 use Rattle.runs.specs.Rules.{onStore, atIndex, elementOn, endOn, staged}

@@ -11,8 +11,8 @@ use Rattle.lists.specs.declared.element.BlockListElement.{BlockListElement}
 use Rattle.spans.specs.Part.{part}
 use Rattle.spans.proofs.Part.{length-part, part-part}
 use Rattle.structure.specs.declared.card.Card.{Card}
-use Rattle.checks.specs.declared.row.Row.{Row}
-use Rattle.checks.specs.Row.{rowIn}
+use Rattle.table.specs.declared.Row.{Row}
+use Rattle.table.specs.Row.{rowIn}
 use Rattle.runs.specs.Ready.{Ready, AllReady}
 use Rattle.plan.specs.declared.Reply.the-variants.{Done}
 use Rattle.plan.specs.Request.{Request}

@@ -17,8 +17,8 @@ use Rattle.nodes.specs.declared.find.Found.the-variants.{At, Nothing}
 use Rattle.nodes.specs.Node.{isService, startOf, blocksOf}
 use Rattle.nodes.specs.Find.{serviceOf}
 use Rattle.built.proofs.Laid.{nodeAt, Laid, served, shared, apart}
-use Rattle.checks.specs.declared.row.Row.{Row}
-use Rattle.checks.specs.Row.{rowBy, rowAt, rowOf, rowsOf, rowAtIndex, rowIn}
+use Rattle.table.specs.declared.Row.{Row}
+use Rattle.table.specs.Row.{rowBy, rowAt, rowOf, rowsOf, rowAtIndex, rowIn}
 use Rattle.checks.proofs.Laws.{Good}
 use Rattle.terminals.specs.Two.{Any}
 use Rattle.terminals.proofs.Frame.{LiesIn}

@@ -23,8 +23,8 @@ use Rattle.spans.proofs.Part.{length-part, length-put, part-put, part-put-apart
 use Rattle.blocks.specs.Outcome.{Outcome, passed, failed}
 use Rattle.nodes.specs.declared.node.Node.{Node}
 use Rattle.built.proofs.Laid.{Laid}
-use Rattle.checks.specs.declared.row.Row.{Row}
-use Rattle.checks.specs.Row.{rowsOf, rowIn, numberIn}
+use Rattle.table.specs.declared.Row.{Row}
+use Rattle.table.specs.Row.{rowsOf, rowIn, numberIn}
 use Rattle.checks.proofs.Laws.{Good}
 use Rattle.runs.specs.Runs.{good, runsOf}
 use Rattle.runs.specs.Lens.{back, within}

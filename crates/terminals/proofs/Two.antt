@@ -8,7 +8,7 @@ use Rattle.structure.specs.declared.card.Card.{Card}
 use Rattle.structure.specs.Card.{nodesOf}
 use Rattle.built.specs.Built.{Built}
 use Rattle.built.proofs.Laid.{Laid, laid}
-use Rattle.checks.specs.Row.{rowAtIndex}
+use Rattle.table.specs.Row.{rowAtIndex}
 use Rattle.plan.specs.Request.{Request}
 use Rattle.plan.specs.Plan.{rowsIn}
 use Rattle.plan.specs.Serve.{serve, outputAfter, stagingBy}

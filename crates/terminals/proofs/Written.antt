@@ -16,8 +16,8 @@ use Rattle.structure.specs.declared.card.Card.{Card}
 use Rattle.structure.specs.Card.{nodesOf}
 use Rattle.built.specs.Built.{Built}
 use Rattle.built.proofs.Laid.{laid}
-use Rattle.checks.specs.declared.row.Row.{Row}
-use Rattle.checks.specs.Row.{rowIn}
+use Rattle.table.specs.declared.Row.{Row}
+use Rattle.table.specs.Row.{rowIn}
 use Rattle.checks.proofs.Laws.{AllPass, good}
 use Rattle.plan.specs.declared.Reply.the-variants.{Done}
 use Rattle.plan.specs.Request.{Request}

@@ -3,8 +3,8 @@ use mathlib.Core.Path.{sym, _∙_}
 use Prim.Native.Nat.{_<_}
 use native.Mathlib.Omega.{arith}
 use borrow.Author.Needs.{needs}
-use Rattle.nodes.proofs.Records.{Records}
-use Rattle.grow.proofs.Judged.{shared-index, joined}
+use Rattle.nodes.proofs.Records.{Records, found-index}
+use Rattle.grow.proofs.Judged.{joined}
 use Rattle.grow.proofs.store_of.Statement.{statement}
 use Rattle.grow.proofs.store_of.Tie as tie
 
@@ -14,7 +14,7 @@ records c = record { all = search needs }
 
 -- the first of its number is one of the records
 inside : (c : tie.After-j) → c .j .given .0 .0 < 64
-inside c = shared-index (records (c .before .before .before)) _ (c .before .before .find-shared .ensures) (c .j .given .1)
+inside c = found-index (records (c .before .before .before)) _ (c .before .before .find-shared .ensures) (c .j .given .1)
 
 returns : tie.Need-returns
 returns c =

@@ -9,8 +9,8 @@ use denote.Ref.{now}
 use borrow.Author.Needs.{needs}
 use Rattle.lists.specs.declared.element.Unpacked.the-variants.{Element}
 use Rattle.lists.specs.Element.{unpackAt}
-use Rattle.checks.specs.declared.row.Row.{Row}
-use Rattle.checks.specs.declared.row.Table.{Table}
+use Rattle.table.specs.declared.Row.{Row}
+use Rattle.table.specs.declared.Table.{Table}
 use Rattle.runs.proofs.Walking.{Between, Inside, Closing, begins, opens, finished, left-over, left-short, fits, counted-out, cut-short, other-number, passes, fails, closes, end-failed}
 use Rattle.runs.proofs.run.apply.Statement.{statement}
 use Rattle.runs.proofs.run.apply.Tie as tie

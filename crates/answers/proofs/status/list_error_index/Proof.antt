@@ -1,0 +1,7 @@
+-- The place is the smaller of index + 1 and 255.
+use native.Mathlib.Omega.{arith}
+use Rattle.answers.proofs.status.list_error_index.Statement.{statement}
+use Rattle.answers.proofs.status.list_error_index.Tie as tie
+
+pub list-error-index-spec : {M : Type 1} → statement M
+list-error-index-spec = tie.close (tie.spec (λ c. omega arith) (λ c. omega arith) (λ c. omega arith) (λ c. omega arith))

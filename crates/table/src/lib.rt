@@ -1,0 +1,115 @@
+// What the codes of a request come to on a card. Each code is looked up once.
+use blocks::purse::Limit;
+use nodes::find;
+use nodes::find::Found;
+use nodes::node::Entry;
+use nodes::node::Node;
+use types::code::Decoded;
+use types::code::ServiceCode;
+ghost use mathlib.Core.Path.{_≡_};
+ghost use lib.ListN.{take};
+ghost use Rattle.table.specs.Row.{noRow, rowBy, rowOf, tableOf, rowAtIndex};
+
+// What a code comes to: its attribute and, where the card has that service, its store and limit.
+pub struct Row {
+    pub code: u16,
+    pub attribute: Decoded,
+    pub found: bool,
+    pub start: u16,
+    pub blocks: u16,
+    pub limit: Limit,
+}
+
+// The rows of a request's codes, of sixteen the first `count`.
+pub struct Table {
+    pub rows: [Row; 16],
+    pub count: usize,
+}
+
+// What is read of a code that is not there.
+fn no_row() -> Row
+    ensures { λ r. ⌜ r ≡ noRow ⌝ }
+{
+    Row {
+        code: 0,
+        attribute: Decoded::Undefined,
+        found: false,
+        start: 0,
+        blocks: 0,
+        limit: Limit::Unlimited,
+    }
+}
+
+// A code whose first service is a node of this entry.
+fn row_by(code: u16, entry: Entry) -> Row
+    ensures { λ r. ⌜ r ≡ rowBy code entry ⌝ }
+{
+    let attribute = ServiceCode(code).attribute();
+    match entry {
+        Entry::Area { end: _ } => Row {
+            code,
+            attribute,
+            found: false,
+            start: 0,
+            blocks: 0,
+            limit: Limit::Unlimited,
+        },
+        Entry::Service {
+            start,
+            blocks,
+            limit,
+        } => Row {
+            code,
+            attribute,
+            found: true,
+            start,
+            blocks,
+            limit,
+        },
+    }
+}
+
+// What a code comes to: the first service of that code.
+pub fn row_of(nodes: [Node; 64], count: usize, code: u16) -> Row
+    ensures { λ r. ⌜ r ≡ rowOf (take count nodes) code ⌝ }
+{
+    match find::find_service(nodes, count, code) {
+        Found::At(i) => {
+            let node = nodes[i];
+            let entry = node.entry;
+            row_by(code, entry)
+        }
+        Found::Nothing => row_by(code, Entry::Area { end: 0 }),
+    }
+}
+
+// The rows of the first sixteen codes.
+pub fn table_of(nodes: [Node; 64], count: usize, codes: &[u16]) -> Table
+    ensures { λ r. ⌜ r ≡ tableOf (take count nodes) (now (codes .entry)) ⌝ }
+{
+    let none = no_row();
+    let mut rows = [none; 16];
+    let n = if codes.len() < 16 { codes.len() } else { 16 };
+    let mut i = 0;
+    while i < n {
+        rows[i] = row_of(nodes, count, codes[i]);
+        i += 1;
+    }
+    Table { rows, count: n }
+}
+
+impl Table {
+    // The row at an index of the codes, or none.
+    pub fn row(self, index: u8) -> Row
+        ensures { λ r. ⌜ r ≡ rowAtIndex (take (self .count) (self .rows)) index ⌝ }
+    {
+        let i = index as usize;
+        if 16 <= i {
+            return no_row();
+        }
+        if self.count <= i {
+            return no_row();
+        }
+        self.rows[i]
+    }
+}
