@@ -1,5 +1,5 @@
 -- A request line carried out and answered: what is printed, and every lent buffer after it.
-use Prim.Native.Nat.{ℕ, _≤_}
+use Prim.Native.Nat.{ℕ}
 use mathlib.Core.Bool.{Bool, cond, _&&_}
 use mathlib.Core.List.{List}
 use lib.Dec.{leb}
@@ -19,11 +19,6 @@ lineText card arena room line ordinal =
 -- room for the bytes of any list and data, and for any answer line
 unfoldable pub roomy : List ℕ → List ℕ → Bool
 roomy bytes out = leb 16384 (length bytes) && leb 16448 (length out)
-
--- what is printed lies in the output
-abbrev pub PrintedIn : Printed → ℕ → Type 0
-PrintedIn (Bytes n) long = n ≤ long
-PrintedIn NoRoom long = Unit {0}
 
 pub record Answered : Type 0 where
   pub printed : Printed

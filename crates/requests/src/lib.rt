@@ -8,7 +8,7 @@ ghost use Prim.Native.Nat.{_≤_};
 ghost use lib.ListN.{length};
 ghost use Rattle.asks.specs.Ask.{askOf};
 ghost use Rattle.served.specs.Line.{readLong, bytesRead, lineServed, workAfter, bytesAfter};
-ghost use Rattle.requests.specs.Answered.{PrintedIn, answeredLine};
+ghost use Rattle.requests.specs.Answered.{answeredLine};
 
 // What was printed of a line.
 pub enum Printed {
@@ -81,7 +81,7 @@ pub fn request_line(
     line: &[u8],
     ordinal: u64,
 ) -> Printed
-    ensures { λ r. ⌜ (r ≡ answeredLine card (now (arena .entry)) (now (work .entry)) (now (bytes .entry)) (now (out .entry)) (now (line .entry)) ordinal .printed) × PrintedIn r (length (now (out .entry))) ⌝ }
+    ensures { λ r. ⌜ r ≡ answeredLine card (now (arena .entry)) (now (work .entry)) (now (bytes .entry)) (now (out .entry)) (now (line .entry)) ordinal .printed ⌝ }
     ensures { λ _. ⌜ now (arena .exit) ≡ answeredLine card (now (arena .entry)) (now (work .entry)) (now (bytes .entry)) (now (out .entry)) (now (line .entry)) ordinal .arena ⌝ }
     ensures { λ _. ⌜ now (work .exit) ≡ answeredLine card (now (arena .entry)) (now (work .entry)) (now (bytes .entry)) (now (out .entry)) (now (line .entry)) ordinal .work ⌝ }
     ensures { λ _. ⌜ now (bytes .exit) ≡ answeredLine card (now (arena .entry)) (now (work .entry)) (now (bytes .entry)) (now (out .entry)) (now (line .entry)) ordinal .bytes ⌝ }

@@ -13,7 +13,7 @@ returns c =
     let a = k .before .before .before .before .before .before .before .before .before .before .before .before .args in
     let e = k .before .before .before .before .before .one-more .ensures in
     let o = rw e at (k .request-line .ensures) in
-    (asked-line (a .replay) (answeredLine (a .replay .card) (now (a .arena)) (now (a .work)) (now (a .bytes)) (now (a .out)) (now (a .line)) (oneMore (a .replay .asked))) e (o .0 .0), o .1)
+    (asked-line (a .replay) (answeredLine (a .replay .card) (now (a .arena)) (now (a .work)) (now (a .bytes)) (now (a .out)) (now (a .line)) (oneMore (a .replay .asked))) e (o .0), o .1)
 
 pub request-line-spec : {M : Type 1} → statement M
 request-line-spec =

@@ -50,18 +50,14 @@ part-of c =
 returns : tie.Need-returns
 returns c =
     let a = c .before .before .before .before .before .before .args in
-    let u =
     unchanged (now (a .bytes)) (now (a .out)) (a .card) (now (a .arena)) (now (a .work)) (now (a .line)) (a .ordinal)
-    (short-bytes (now (a .bytes)) (now (a .out)) (c .if1 .taken)) in
-    ((u .0, tt), u .1)
+    (short-bytes (now (a .bytes)) (now (a .out)) (c .if1 .taken))
 
 returns-2 : tie.Need-returns-2
 returns-2 c =
     let a = c .before .before .before .before .before .before .before .args in
-    let u =
     unchanged (now (a .bytes)) (now (a .out)) (a .card) (now (a .arena)) (now (a .work)) (now (a .line)) (a .ordinal)
-    (short-out (now (a .bytes)) (now (a .out)) (c .before .if1 .left) (c .if2 .taken)) in
-    ((u .0, tt), u .1)
+    (short-out (now (a .bytes)) (now (a .out)) (c .before .if1 .left) (c .if2 .taken))
 
 part-put-answer-end : tie.Need-part-put-answer-end
 part-put-answer-end c =
@@ -80,12 +76,9 @@ returns-3 c =
     let a = start-of n .args in
     let o = carried-of n .carry-out .ensures in
     let e = carried-of n .before .before .before .before .before in
-    let x = p .put-answer .ensures in
-    let u =
     answered (now (a .bytes)) (now (a .out)) (a .card) (now (a .arena)) (now (a .work)) (now (a .line)) (a .ordinal)
     (enough (now (a .bytes)) (now (a .out)) (e .before .if1 .left) (e .if2 .left))
-    (o .0) (part-of n) (o .1 .0) (o .1 .1 .0) (o .1 .1 .1) (x .0 .0) (x .1) in
-    ((u .0, x .0 .1), u .1)
+    (o .0) (part-of n) (o .1 .0) (o .1 .1 .0) (o .1 .1 .1) (p .put-answer .ensures .0 .0) (p .put-answer .ensures .1)
 
 pub request-line-spec : {M : Type 1} → statement M
 request-line-spec =
