@@ -11,6 +11,9 @@ const LENGTHS: [usize; 12] = [
     300_000,
 ];
 
+/// A text that is shorter than this is taken as it comes; the time is better spent on many short texts.
+const SHORT_TEXT: usize = 10_000;
+
 /// A text that is longer than this is not made longer.
 const LONG_TEXT: usize = 400_000;
 
@@ -37,11 +40,12 @@ impl Stock {
         stock
     }
 
-    /// A text of the list. Of those whose image is refused, most are passed over.
+    /// A text of the list. Of those that are long or whose image is refused, most are passed over.
     fn drawn(&mut self) -> Vec<u8> {
         loop {
             let text = self.source.next().expect("the list has no end");
-            if !text.output.starts_with("image") || self.random.once_in(8) {
+            let plain = text.input.len() < SHORT_TEXT && !text.output.starts_with("image");
+            if plain || self.random.once_in(8) {
                 return text.input;
             }
         }
@@ -164,7 +168,7 @@ fn whole(random: &mut Random, lines: &mut Lines, at: usize, other: &Lines) {
             lines.truncate(at + 1);
             lines.extend_from_slice(&other[others..]);
         }
-        5 if length < LONG_TEXT => fill(random, &mut lines[at]),
+        5 if length < LONG_TEXT && random.once_in(4) => fill(random, &mut lines[at]),
         6 => lines[at].retain(|&byte| byte != b'\n'),
         7 if length < LONG_TEXT => {
             let tail = lines[at..].to_vec();
