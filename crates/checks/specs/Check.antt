@@ -1,4 +1,4 @@
--- The checks of an element, in the order of document 01's 'One element'. Manual, sections 4.4.5 (read) and 4.4.6 (write).
+-- The checks of an element, in the order of RULES.md, "One element's check". Manual, sections 4.4.5 (read) and 4.4.6 (write).
 use Prim.Native.Nat.{ℕ, _+_}
 use mathlib.Core.List.{List, [], _∷_}
 use mathlib.Core.Bool.{Bool, cond, _&&_}
