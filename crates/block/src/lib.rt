@@ -7,7 +7,7 @@ ghost use lib.ListN.{length};
 ghost use Rattle.block.specs.Block.{blockJudged, storedBlock, arenaSet};
 
 // Whether a service has a block of a number, in an arena of `long` bytes.
-fn judge_block(card: Card, long: usize, code: u16, number: u32) -> Answer
+pub fn judge_block(card: Card, long: usize, code: u16, number: u32) -> Answer
     ensures { λ r. ⌜ r ≡ blockJudged card long code number ⌝ }
 {
     if !card.is_sound() {

@@ -5,3 +5,4 @@ pub mod Cards
 pub mod Requests
 pub mod Texts
 pub mod Lines
+pub mod Library

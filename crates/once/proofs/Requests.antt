@@ -29,6 +29,7 @@ use Rattle.runs.proofs.run.apply as runs·apply
 use Rattle.plan.proofs.Reply.status_flag1 as plan·Reply·status-flag1
 use Rattle.plan.proofs.Reply.status_flag2 as plan·Reply·status-flag2
 use Rattle.plan.proofs.judge as plan·judge
+use Rattle.block.proofs.judge_block as block·judge-block
 use Rattle.block.proofs.set_block as block·set-block
 use Rattle.block.proofs.stored_block as block·stored-block
 use Rattle.system.proofs.read.read as system·read
@@ -75,6 +76,9 @@ module _ {M : Type 1} (𝓤 : URA M) (H : Heap 𝓤) (A : Atoms 𝓤) (mem : Mem
 
   pub plan·judge-once : OneAnswer 𝓤 plan·judge.ended (plan·judge.clauses 𝓤 H A mem run)
   plan·judge-once κs a g r r′ ws ws′ = result 𝓤 refl
+
+  pub block·judge-block-once : OneAnswer 𝓤 block·judge-block.ended (block·judge-block.clauses 𝓤 H A mem run)
+  block·judge-block-once κs a g r r′ ws ws′ = result 𝓤 refl
 
   pub block·set-block-once : OneAnswer 𝓤 block·set-block.ended (block·set-block.clauses 𝓤 H A mem run)
   block·set-block-once κs a g r r′ ws ws′ = of-two 𝓤 (λ p p′ q q′. (once p q, λ i. (tt, (once p′ q′ i, (tt, (tt, (tt, tt)))))))

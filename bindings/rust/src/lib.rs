@@ -1,0 +1,308 @@
+//! A soft FeliCa card: safe calls of the proved library `libhandset.a`.
+//!
+//! A [`Card`] owns its bytes; the blocks of its services lie in an arena that the caller lends. Every call checks the
+//! card's bytes and all lengths for itself, so nothing has to be checked before a call. `include/uluvoli.h` says what
+//! each call means; the names here are the same.
+#![deny(missing_docs)]
+
+mod ffi;
+
+/// Bytes of a card.
+pub const CARD_SIZE: usize = 1288;
+/// Bytes of a block.
+pub const BLOCK_SIZE: usize = 16;
+/// The code that names the system.
+pub const SYSTEM: u16 = 0xffff;
+
+/// Why a call was refused: the card's number for it. Nothing was changed.
+#[derive(Clone, Copy, Debug, PartialEq, Eq)]
+pub struct Refusal(pub u32);
+
+/// Why a request was not carried out. The arena and the output are as they were.
+#[derive(Clone, Copy, Debug, PartialEq, Eq)]
+pub enum Failure {
+    /// It was refused.
+    Refused(Refusal),
+    /// It got a status pair other than 00 00.
+    Status {
+        /// Status flag 1: the place of the element that failed, or FF.
+        sf1: u8,
+        /// Status flag 2: the cause.
+        sf2: u8,
+    },
+}
+
+/// A read or a write, but for its data.
+#[derive(Clone, Copy, Debug)]
+pub struct Request<'a> {
+    /// True for an open request, which no service that needs a key serves; false in a session.
+    pub keyless: bool,
+    /// The service codes, at most 16.
+    pub codes: &'a [u16],
+    /// How many elements the list has, at most 512.
+    pub count: u32,
+    /// The elements, packed.
+    pub list: &'a [u8],
+}
+
+/// A card, as its bytes.
+#[derive(Clone, Debug, PartialEq, Eq)]
+pub struct Card([u8; CARD_SIZE]);
+
+/// An answer of a call that is done or refused.
+fn done(answer: u32) -> Result<(), Refusal> {
+    match answer >> 16 {
+        0 => Ok(()),
+        number => Err(Refusal(number)),
+    }
+}
+
+/// An answer to a request.
+fn replied(answer: u32) -> Result<(), Failure> {
+    done(answer).map_err(Failure::Refused)?;
+    match answer.to_be_bytes() {
+        [_, _, 0, 0] => Ok(()),
+        [_, _, sf1, sf2] => Err(Failure::Status { sf1, sf2 }),
+    }
+}
+
+impl Card {
+    /// A card with nothing but its root area.
+    pub fn new(system: u16, version: u16) -> Self {
+        let mut bytes = [0; CARD_SIZE];
+        // SAFETY: the pointer is valid for its length.
+        unsafe { ffi::uluvoli_new(bytes.as_mut_ptr(), CARD_SIZE, system, version) };
+        Card(bytes)
+    }
+
+    /// A card from bytes that were kept. Bytes that no calls build are refused by every call, with 8.
+    pub fn from_bytes(bytes: [u8; CARD_SIZE]) -> Self {
+        Card(bytes)
+    }
+
+    /// The card's bytes, to keep.
+    pub fn as_bytes(&self) -> &[u8; CARD_SIZE] {
+        &self.0
+    }
+
+    /// Adds an area from `code` to `end` under the latest node of depth - 1.
+    pub fn add_area(
+        &mut self,
+        depth: u32,
+        code: u16,
+        end: u16,
+        version: u16,
+    ) -> Result<(), Refusal> {
+        // SAFETY: the pointer is valid for its length, and lent for writing.
+        done(unsafe {
+            ffi::uluvoli_add_area(self.0.as_mut_ptr(), CARD_SIZE, depth, code, end, version)
+        })
+    }
+
+    /// Adds a service. The first of its number makes a zeroed store in the arena; a later one joins it.
+    pub fn add_service(
+        &mut self,
+        arena: &mut [u8],
+        depth: u32,
+        code: u16,
+        blocks: u32,
+        version: u16,
+    ) -> Result<(), Refusal> {
+        let (card, lent) = (self.0.as_mut_ptr(), arena.as_mut_ptr());
+        // SAFETY: both pointers are valid for their lengths, lent for writing, and apart.
+        done(unsafe {
+            ffi::uluvoli_add_service(
+                card,
+                CARD_SIZE,
+                lent,
+                arena.len(),
+                depth,
+                code,
+                blocks,
+                version,
+            )
+        })
+    }
+
+    /// Sets the purse limits of the node added last, which must be a service.
+    pub fn set_limit(&mut self, upper: i32, lower: i32, generation: u8) -> Result<(), Refusal> {
+        // SAFETY: the pointer is valid for its length, and lent for writing.
+        done(unsafe {
+            ffi::uluvoli_set_limit(self.0.as_mut_ptr(), CARD_SIZE, upper, lower, generation)
+        })
+    }
+
+    /// Sets a stored block, whatever its service's kind.
+    pub fn set_block(
+        &self,
+        arena: &mut [u8],
+        code: u16,
+        number: u32,
+        block: &[u8; BLOCK_SIZE],
+    ) -> Result<(), Refusal> {
+        let (lent, long) = (arena.as_mut_ptr(), arena.len());
+        // SAFETY: the pointers are valid for their lengths; the arena is lent for writing, and apart.
+        done(unsafe {
+            ffi::uluvoli_set_block(
+                self.0.as_ptr(),
+                CARD_SIZE,
+                lent,
+                long,
+                code,
+                number,
+                block.as_ptr(),
+                BLOCK_SIZE,
+            )
+        })
+    }
+
+    /// Reads the elements' blocks to the front of `out`, 16 bytes for each element.
+    pub fn read(&self, arena: &[u8], out: &mut [u8], request: &Request) -> Result<(), Failure> {
+        let Request {
+            keyless,
+            codes,
+            count,
+            list,
+        } = *request;
+        // SAFETY: the pointers are valid for their lengths; the output is lent for writing, and apart.
+        replied(unsafe {
+            ffi::uluvoli_read(
+                self.0.as_ptr(),
+                CARD_SIZE,
+                arena.as_ptr(),
+                arena.len(),
+                out.as_mut_ptr(),
+                out.len(),
+                keyless,
+                codes.as_ptr(),
+                codes.len(),
+                count,
+                list.as_ptr(),
+                list.len(),
+            )
+        })
+    }
+
+    /// Writes `data`, 16 bytes for each element, to the elements' blocks: all of it or nothing. The staging needs 16
+    /// bytes for each block in use.
+    pub fn write(
+        &self,
+        arena: &mut [u8],
+        staging: &mut [u8],
+        request: &Request,
+        data: &[u8],
+    ) -> Result<(), Failure> {
+        let Request {
+            keyless,
+            codes,
+            count,
+            list,
+        } = *request;
+        // SAFETY: the pointers are valid for their lengths; arena and staging are lent for writing, and all are apart.
+        replied(unsafe {
+            ffi::uluvoli_write(
+                self.0.as_ptr(),
+                CARD_SIZE,
+                arena.as_mut_ptr(),
+                arena.len(),
+                staging.as_mut_ptr(),
+                staging.len(),
+                keyless,
+                codes.as_ptr(),
+                codes.len(),
+                count,
+                list.as_ptr(),
+                list.len(),
+                data.as_ptr(),
+                data.len(),
+            )
+        })
+    }
+
+    /// Writes the tree to the front of `out`, a pair for each node, and gives how many nodes there are.
+    pub fn directory(&self, out: &mut [u16]) -> Result<usize, Refusal> {
+        let mut nodes = 0;
+        // SAFETY: the pointers are valid for their lengths; output and count are lent for writing.
+        done(unsafe {
+            ffi::uluvoli_directory(
+                self.0.as_ptr(),
+                CARD_SIZE,
+                out.as_mut_ptr(),
+                out.len(),
+                &mut nodes,
+            )
+        })?;
+        Ok(nodes)
+    }
+
+    /// How many blocks a service's store has, or the services under an area; 0 for an unknown code.
+    pub fn total(&self, code: u16) -> Result<u16, Refusal> {
+        let mut blocks = 0;
+        // SAFETY: the pointers are valid; the number is lent for writing.
+        done(unsafe { ffi::uluvoli_total(self.0.as_ptr(), CARD_SIZE, code, &mut blocks) })?;
+        Ok(blocks)
+    }
+
+    /// The key version of the system, a service or an area; FFFF for an unknown code.
+    pub fn key_version(&self, code: u16) -> Result<u16, Refusal> {
+        let mut version = 0;
+        // SAFETY: the pointers are valid; the number is lent for writing.
+        done(unsafe { ffi::uluvoli_key_version(self.0.as_ptr(), CARD_SIZE, code, &mut version) })?;
+        Ok(version)
+    }
+
+    /// Whether an area list of a mutual authentication is well formed.
+    pub fn area_list(&self, areas: &[u16]) -> Result<bool, Refusal> {
+        let mut well_formed = false;
+        // SAFETY: the pointers are valid for their lengths; the flag is lent for writing.
+        done(unsafe {
+            ffi::uluvoli_area_list(
+                self.0.as_ptr(),
+                CARD_SIZE,
+                areas.as_ptr(),
+                areas.len(),
+                &mut well_formed,
+            )
+        })?;
+        Ok(well_formed)
+    }
+
+    /// Whether a service list of a mutual authentication is well formed.
+    pub fn service_list(&self, services: &[u16]) -> Result<bool, Refusal> {
+        let mut well_formed = false;
+        // SAFETY: the pointers are valid for their lengths; the flag is lent for writing.
+        done(unsafe {
+            ffi::uluvoli_service_list(
+                self.0.as_ptr(),
+                CARD_SIZE,
+                services.as_ptr(),
+                services.len(),
+                &mut well_formed,
+            )
+        })?;
+        Ok(well_formed)
+    }
+
+    /// The sixteen bytes of a stored block, which are the arena's own.
+    pub fn stored_block<'a>(
+        &self,
+        arena: &'a [u8],
+        code: u16,
+        number: u32,
+    ) -> Result<&'a [u8], Refusal> {
+        let mut offset = 0;
+        // SAFETY: the pointers are valid for their lengths; the offset is lent for writing.
+        done(unsafe {
+            ffi::uluvoli_stored_block(
+                self.0.as_ptr(),
+                CARD_SIZE,
+                arena.as_ptr(),
+                arena.len(),
+                code,
+                number,
+                &mut offset,
+            )
+        })?;
+        Ok(&arena[offset..offset + BLOCK_SIZE])
+    }
+}

@@ -1,0 +1,142 @@
+//! A marshal and a tower through the safe calls.
+
+use uluvoli::{Card, Failure, Refusal, Request, BLOCK_SIZE, CARD_SIZE, SYSTEM};
+
+const MARSHAL: u16 = 0x1049;
+const TOWER: u16 = 0x104b;
+const CREDIT: u16 = 0x10d5;
+
+/// A card with an area, two lanes that two services share, and a purse with limits.
+fn race(arena: &mut [u8]) -> Card {
+    let mut card = Card::new(0x0001, 0x1234);
+    card.add_area(1, 0x1000, 0x10ff, 0x0007).unwrap();
+    card.add_service(arena, 2, MARSHAL, 2, 0x0008).unwrap();
+    card.add_service(arena, 2, TOWER, 9, 0x0009).unwrap();
+    card.add_service(arena, 2, CREDIT, 1, 0x000a).unwrap();
+    card.set_limit(200, -50, 0).unwrap();
+    card
+}
+
+/// An open request for the first `count` blocks of a service.
+fn blocks<'a>(codes: &'a [u16], count: usize) -> Request<'a> {
+    const LIST: [u8; 6] = [0x80, 0, 0x80, 1, 0x80, 2];
+    Request {
+        keyless: true,
+        codes,
+        count: count as u32,
+        list: &LIST[..2 * count],
+    }
+}
+
+#[test]
+fn the_tower_reads_what_the_marshal_wrote_last() {
+    let (mut arena, mut staging) = ([0u8; 256], [7u8; 256]);
+    let card = race(&mut arena);
+    for lanes in [
+        b"lane 1: LEANDER lane 2: THAMES  ",
+        b"lane 1: THAMES  lane 2: LEANDER ",
+    ] {
+        card.write(&mut arena, &mut staging, &blocks(&[MARSHAL], 2), lanes)
+            .unwrap();
+        let mut out = [0u8; 2 * BLOCK_SIZE];
+        card.read(&arena, &mut out, &blocks(&[TOWER], 2)).unwrap();
+        assert_eq!(&out, lanes);
+        assert_eq!(card.stored_block(&arena, TOWER, 1).unwrap(), &lanes[16..]);
+    }
+    assert_eq!(staging[..48], [0; 48]);
+    assert_eq!(staging[48..], [7; 208]);
+}
+
+#[test]
+fn what_fails_changes_nothing() {
+    let (mut arena, mut staging) = ([0u8; 256], [0u8; 256]);
+    let card = race(&mut arena);
+    card.set_block(&mut arena, MARSHAL, 0, b"lane 1: LEANDER ")
+        .unwrap();
+    let before = arena;
+    let tower = card.write(&mut arena, &mut staging, &blocks(&[TOWER], 2), &[b'x'; 32]);
+    assert_eq!(tower, Err(Failure::Status { sf1: 1, sf2: 0xa5 }));
+    let short = card.write(
+        &mut arena,
+        &mut staging,
+        &blocks(&[MARSHAL], 2),
+        &[b'x'; 31],
+    );
+    assert_eq!(
+        short,
+        Err(Failure::Status {
+            sf1: 0xff,
+            sf2: 0xac
+        })
+    );
+    let beyond = card.read(&arena, &mut [0; 48], &blocks(&[TOWER], 3));
+    assert_eq!(beyond, Err(Failure::Status { sf1: 3, sf2: 0xa8 }));
+    let room = card.read(&arena, &mut [0; 31], &blocks(&[TOWER], 2));
+    assert_eq!(room, Err(Failure::Refused(Refusal(5))));
+    assert_eq!(arena, before);
+}
+
+#[test]
+fn a_purse_stays_within_its_limits() {
+    let (mut arena, mut staging) = ([0u8; 256], [0u8; 256]);
+    let card = race(&mut arena);
+    let mut spend = |amount: u8, id: u8| {
+        let mut data = [0u8; BLOCK_SIZE];
+        (data[0], data[12]) = (amount, id);
+        card.write(&mut arena, &mut staging, &blocks(&[CREDIT], 1), &data)
+    };
+    assert_eq!(spend(50, 1), Ok(()));
+    assert_eq!(spend(1, 2), Err(Failure::Status { sf1: 1, sf2: 0x03 }));
+    assert_eq!(
+        card.stored_block(&arena, CREDIT, 0).unwrap()[..4],
+        (-50i32).to_le_bytes()
+    );
+}
+
+#[test]
+fn the_tree_answers() {
+    let mut arena = [0u8; 256];
+    let card = race(&mut arena);
+    let mut pairs = [0u16; 10];
+    assert_eq!(card.directory(&mut pairs), Ok(5));
+    assert_eq!(
+        pairs,
+        [0, 0xfffe, 0x1000, 0x10ff, MARSHAL, 0xffff, TOWER, 0xffff, CREDIT, 0xffff]
+    );
+    assert_eq!(card.directory(&mut pairs[..9]), Err(Refusal(5)));
+    assert_eq!(card.total(0x1000), Ok(5));
+    assert_eq!(
+        [card.key_version(SYSTEM), card.key_version(TOWER)],
+        [Ok(0x1234), Ok(0x0009)]
+    );
+    assert_eq!(
+        [card.area_list(&[0, 0x1000]), card.area_list(&[])],
+        [Ok(true), Ok(false)]
+    );
+    assert_eq!(
+        [
+            card.service_list(&[SYSTEM, TOWER]),
+            card.service_list(&[TOWER])
+        ],
+        [Ok(true), Ok(false)]
+    );
+}
+
+#[test]
+fn bytes_that_no_calls_build_are_refused() {
+    let mut arena = [0u8; 256];
+    let card = race(&mut arena);
+    assert_eq!(Card::from_bytes(*card.as_bytes()), card);
+    for place in [0, 2, 8, 19, CARD_SIZE - 1] {
+        let mut bytes = *card.as_bytes();
+        bytes[place] ^= 0x40;
+        let mut broken = Card::from_bytes(bytes);
+        assert_eq!(broken.total(0), Err(Refusal(8)), "byte {place}");
+        assert_eq!(broken.add_area(1, 0x2000, 0x20ff, 0), Err(Refusal(8)));
+        assert_eq!(broken.as_bytes(), &bytes);
+    }
+    assert_eq!(
+        card.clone().add_area(1, 0x10ff, 0x1000, 0),
+        Err(Refusal(14))
+    );
+}

@@ -1,0 +1,159 @@
+/*
+ * Uluvoli: a soft FeliCa card, as a static library.
+ *
+ * The card is a value of ULUVOLI_CARD_SIZE bytes that the caller keeps; the blocks of its services lie in an arena that
+ * the caller lends. Nothing else is kept between calls: no allocation, no global, no lock. Card and arena belong
+ * together: save and restore both, or neither.
+ *
+ * What every call returns
+ *   0                      done
+ *   SF1 << 8 | SF2         a status pair of a read or a write, not 00 00 (uluvoli_sf1, uluvoli_sf2)
+ *   number << 16           a refusal (uluvoli_refusal)
+ * A refusal leaves every byte that the caller lent as it was. A pair other than 00 00 leaves card, arena and output as
+ * they were and zeroes the staging. Numbers that a call answers are written through its last pointer, only where it
+ * returns 0.
+ *
+ * What the library checks, and what it cannot
+ *   Every call checks the card's bytes before all else: a length other than ULUVOLI_CARD_SIZE, bytes that no card is
+ *   written as, and cards that no accepted calls build, are refusal 8. Lengths of arena, staging and output that are too
+ *   short are refused too, so no call reads or writes past the lengths given to it.
+ *   It cannot check the pointers: each must be valid for as many elements as the length after it says, aligned for its
+ *   type, and not null, even where the length is 0. A part that a call writes may overlap no other part of that call.
+ *   Two calls may run at once only if neither writes what the other is lent.
+ */
+#ifndef ULUVOLI_H
+#define ULUVOLI_H
+
+#include <stdbool.h>
+#include <stddef.h>
+#include <stdint.h>
+
+#ifdef __cplusplus
+extern "C" {
+#endif
+
+/* Sizes. */
+enum {
+    ULUVOLI_CARD_SIZE = 1288,        /* bytes of a card */
+    ULUVOLI_BLOCK_SIZE = 16,         /* bytes of a block */
+    ULUVOLI_ARENA_MOST = 65536,      /* bytes of an arena that can be used: 4,096 blocks */
+    ULUVOLI_NODES_MOST = 64,         /* areas and services of a card, its root among them */
+    ULUVOLI_DIRECTORY_MOST = 128,    /* numbers of a directory: a pair for each node */
+    ULUVOLI_ELEMENTS_MOST = 512,     /* elements of a request */
+    ULUVOLI_CODES_MOST = 16,         /* service codes of a request */
+    ULUVOLI_SYSTEM = 0xffff          /* the code that names the system */
+};
+
+/* Refusals, as uluvoli_refusal gives them. */
+enum {
+    ULUVOLI_TOO_MANY_ELEMENTS = 1,           /* over 512 elements */
+    ULUVOLI_TOO_MANY_CODES = 2,              /* over 16 service codes */
+    ULUVOLI_LIST_LENGTH = 3,                 /* the list ends before its elements do, or runs on */
+    ULUVOLI_SHORT_STAGING = 4,               /* the staging is shorter than the blocks in use */
+    ULUVOLI_SHORT_OUTPUT = 5,                /* the output of a read or a directory is too short */
+    ULUVOLI_SHORT_ARENA = 7,                 /* the arena is shorter than the blocks in use */
+    ULUVOLI_NOT_BUILT = 8,                   /* bytes that are no card, or a card that no calls build */
+    ULUVOLI_INVALID_AREA_RANGE = 11,         /* an area ends before it begins */
+    ULUVOLI_INVALID_ROOT_AREA_RANGE = 12,    /* area 0000 ends elsewhere than at FFFE */
+    ULUVOLI_NODE_CODE_OUT_OF_RANGE = 13,     /* a code or an end over FFFE */
+    ULUVOLI_INVALID_AREA_ATTRIBUTE = 14,     /* an area's low six bits are neither 0 nor 1 */
+    ULUVOLI_CHILD_AREA_FORBIDDEN = 15,       /* the parent's low six bits are not 0 */
+    ULUVOLI_UNDEFINED_ATTRIBUTE = 16,        /* a service's attribute is undefined */
+    ULUVOLI_SERVICE_OUT_OF_RANGE = 17,       /* a service outside its parent */
+    ULUVOLI_AREA_OUT_OF_RANGE = 18,          /* an area outside its parent */
+    ULUVOLI_OVERLAP_KIND_MISMATCH = 19,      /* the number's store is of another kind */
+    ULUVOLI_TABLE_FULL = 20,                 /* all 64 nodes are there */
+    ULUVOLI_NO_PARENT = 21,                  /* no parent at that depth, or a depth of 0 or over 8 */
+    ULUVOLI_NO_ROOM = 22,                    /* too few unused blocks in the arena */
+    ULUVOLI_NO_SUCH_BLOCK = 23,              /* no such service, or no block of that number */
+    ULUVOLI_NOT_A_SERVICE = 28,              /* a limit for a node that is no service */
+    ULUVOLI_NOT_A_BLOCK = 30                 /* a block to set that is not sixteen bytes */
+};
+
+/* Status flag 2. Status flag 1 is the place of the element that failed, counted from 1 and at most 255. */
+enum {
+    ULUVOLI_SF2_OUTSIDE_WORD = 0x01,         /* a purse without limits would leave 0 to 4,294,967,295 */
+    ULUVOLI_SF2_CASHBACK_EXCEEDS = 0x02,     /* a cashback above the stored one */
+    ULUVOLI_SF2_OUTSIDE_LIMITS = 0x03,       /* a purse would leave its limits */
+    ULUVOLI_SF2_LIST_INDEX = 0xa3,           /* the element's index is beyond the codes */
+    ULUVOLI_SF2_ATTRIBUTE = 0xa4,            /* an undefined attribute, or the system's code */
+    ULUVOLI_SF2_NOT_ALLOWED = 0xa5,          /* a key is needed, read-only, no cashback, or a rule of the block's kind */
+    ULUVOLI_SF2_NO_SERVICE = 0xa6,           /* no such service */
+    ULUVOLI_SF2_ACCESS_MODE = 0xa7,          /* an access mode that the request does not have */
+    ULUVOLI_SF2_BLOCK_NUMBER = 0xa8,         /* the number is not below the store's count */
+    ULUVOLI_SF2_SHORT_DATA = 0xac,           /* with status flag 1 FF: fewer than 16 bytes of data an element */
+    ULUVOLI_SF2_CYCLIC_TOO_LONG = 0xaf       /* a cyclic run longer than the store */
+};
+
+/* The refusal's number, or 0. */
+static inline uint32_t uluvoli_refusal(uint32_t answer) { return answer >> 16; }
+
+/* The status flags of an answer that is no refusal. */
+static inline uint8_t uluvoli_sf1(uint32_t answer) { return (uint8_t)(answer >> 8 & 0xff); }
+static inline uint8_t uluvoli_sf2(uint32_t answer) { return (uint8_t)(answer & 0xff); }
+
+/* ---- building: each call replaces the card's bytes where it is done */
+
+/* Writes a card with nothing but its root area, 0000 to FFFE. */
+uint32_t uluvoli_new(uint8_t *card, size_t card_len, uint16_t system, uint16_t version);
+
+/* Adds an area from `code` to `end` under the latest node of depth - 1. */
+uint32_t uluvoli_add_area(uint8_t *card, size_t card_len, uint32_t depth, uint16_t code, uint16_t end,
+                          uint16_t version);
+
+/* Adds a service. The first of its number (code / 64) makes a store of `blocks` zeroed blocks in the arena; a later one
+ * joins that store, and its `blocks` is ignored. */
+uint32_t uluvoli_add_service(uint8_t *card, size_t card_len, uint8_t *arena, size_t arena_len, uint32_t depth,
+                             uint16_t code, uint32_t blocks, uint16_t version);
+
+/* Sets the purse limits of the node added last, which must be a service. */
+uint32_t uluvoli_set_limit(uint8_t *card, size_t card_len, int32_t upper, int32_t lower, uint8_t generation);
+
+/* Sets a stored block, whatever its service's kind, to the ULUVOLI_BLOCK_SIZE bytes at `block`. */
+uint32_t uluvoli_set_block(const uint8_t *card, size_t card_len, uint8_t *arena, size_t arena_len, uint16_t code,
+                           uint32_t number, const uint8_t *block, size_t block_len);
+
+/* ---- requests: `keyless` is true for an open request, which no service that needs a key serves; false in a session.
+ * `count` is the number of elements in `list`: each two bytes (80h + 16 * mode + index, number) or three (16 * mode +
+ * index, number low byte first), index into `codes`. */
+
+/* Reads the elements' blocks to the front of `out`, 16 bytes for each element. */
+uint32_t uluvoli_read(const uint8_t *card, size_t card_len, const uint8_t *arena, size_t arena_len, uint8_t *out,
+                      size_t out_len, bool keyless, const uint16_t *codes, size_t codes_len, uint32_t count,
+                      const uint8_t *list, size_t list_len);
+
+/* Writes `data`, 16 bytes for each element, to the elements' blocks: all of it or nothing. `staging` holds 16 bytes for
+ * each block in use; they are zero after a status pair. */
+uint32_t uluvoli_write(const uint8_t *card, size_t card_len, uint8_t *arena, size_t arena_len, uint8_t *staging,
+                       size_t staging_len, bool keyless, const uint16_t *codes, size_t codes_len, uint32_t count,
+                       const uint8_t *list, size_t list_len, const uint8_t *data, size_t data_len);
+
+/* ---- questions */
+
+/* Writes the tree to the front of `out`, in order, a pair for each node: an area's code and end, a service's code and
+ * FFFF. `nodes` is how many pairs that is. */
+uint32_t uluvoli_directory(const uint8_t *card, size_t card_len, uint16_t *out, size_t out_len, size_t *nodes);
+
+/* How many blocks a service's store has, or the services under an area; 0 for an unknown code. */
+uint32_t uluvoli_total(const uint8_t *card, size_t card_len, uint16_t code, uint16_t *blocks);
+
+/* The key version of the system (FFFF), a service or an area; FFFF for an unknown code. */
+uint32_t uluvoli_key_version(const uint8_t *card, size_t card_len, uint16_t code, uint16_t *version);
+
+/* Whether an area list of a mutual authentication is well formed. */
+uint32_t uluvoli_area_list(const uint8_t *card, size_t card_len, const uint16_t *areas, size_t areas_len,
+                           bool *well_formed);
+
+/* Whether a service list of a mutual authentication is well formed. */
+uint32_t uluvoli_service_list(const uint8_t *card, size_t card_len, const uint16_t *services, size_t services_len,
+                              bool *well_formed);
+
+/* Where the sixteen bytes of a stored block begin in the arena. */
+uint32_t uluvoli_stored_block(const uint8_t *card, size_t card_len, const uint8_t *arena, size_t arena_len,
+                              uint16_t code, uint32_t number, size_t *offset);
+
+#ifdef __cplusplus
+}
+#endif
+
+#endif
