@@ -1,6 +1,6 @@
 // Building a card.
-use structure::card::Card;
 use answers::refusal::Refusal;
+use structure::card::Card;
 ghost use mathlib.Core.Path.{_≡_};
 ghost use mathlib.Core.Bool.{cond};
 ghost use lib.Dec.{eqb};

@@ -1,8 +1,8 @@
 // Requests, and stored blocks one by one.
+use answers::refusal::Refusal;
 use grow::Answer;
 use system::read;
 use system::write;
-use answers::refusal::Refusal;
 ghost use mathlib.Core.Path.{_≡_};
 ghost use Prim.Native.Nat.{_*_};
 ghost use lib.ListN.{length};
