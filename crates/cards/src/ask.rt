@@ -1,10 +1,10 @@
 // Questions about a card's tree.
 use crate::codes::codes;
 use listing::directory::Listing;
+use query::Checked;
+use query::Told;
 use stored::number16;
 use structure::card::Card;
-use structure::query::Checked;
-use structure::query::Told;
 
 // Whether a number is the one told.
 fn number(told: Told, high: u8, low: u8) -> bool {
@@ -40,7 +40,7 @@ fn same_pairs(pairs: &[u16], b: &[u8]) -> bool {
 
 // The same of a directory written to an output.
 fn listed(card: Card, out: &mut [u16], b: &[u8]) -> bool {
-    match card.directory(out) {
+    match query::directory(card, out) {
         Listing::Refused(r) => b.len() == 3 && r.number() == b[2],
         Listing::Listed(n) => {
             if out.len() / 2 < n {
@@ -67,9 +67,9 @@ fn directory(card: Card, b: &[u8]) -> bool {
 // Whether a list check is the one that a line of a kind tells.
 fn list_told(card: Card, kind: u8, list: &[u16], told: u8) -> bool {
     if kind == b'K' {
-        checked(card.area_list_well_formed(list), told)
+        checked(query::area_list_well_formed(card, list), told)
     } else {
-        checked(card.service_list_well_formed(list), told)
+        checked(query::service_list_well_formed(card, list), told)
     }
 }
 
@@ -93,9 +93,21 @@ pub(crate) fn agrees(card: Card, kind: u8, b: &[u8]) -> bool {
             list_check(card, kind, b, &mut list)
         }
         b'N' => {
-            b.len() == 4 && number(card.block_count_for_node(number16(b[0], b[1])), b[2], b[3])
+            b.len() == 4
+                && number(
+                    query::block_count_for_node(card, number16(b[0], b[1])),
+                    b[2],
+                    b[3],
+                )
         }
-        b'V' => { b.len() == 4 && number(card.node_key_version(number16(b[0], b[1])), b[2], b[3]) }
+        b'V' => {
+            b.len() == 4
+                && number(
+                    query::node_key_version(card, number16(b[0], b[1])),
+                    b[2],
+                    b[3],
+                )
+        }
         _ => false,
     }
 }

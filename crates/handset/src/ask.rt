@@ -1,7 +1,7 @@
 // What can be asked of a card's tree.
 ghost use mathlib.Core.Path.{_≡_};
 ghost use lib.ListN.{length};
-ghost use Rattle.structure.specs.Query.{directoryAnswer, directoryOut, totalAnswer, versionAnswer, areaListAnswer, serviceListAnswer};
+ghost use Rattle.query.specs.Query.{directoryAnswer, directoryOut, totalAnswer, versionAnswer, areaListAnswer, serviceListAnswer};
 ghost use Rattle.codec.specs.Card.{decodedOf};
 ghost use Rattle.outcome.specs.Outcome.{toldAs, toldAfter, listedAs, listedAfter, checkedAs, checkedAfter};
 
@@ -13,7 +13,7 @@ pub extern "C" fn uluvoli_directory(card: &[u8], out: &mut [u16], nodes: &mut us
     ensures { λ _. ⌜ now (nodes .exit) ≡ listedAfter (now (nodes .entry)) (directoryAnswer (decodedOf (now (card .entry))) (length (now (out .entry)))) ⌝ }
 {
     let own = codec::decode(card);
-    outcome::listed(own.directory(out), nodes)
+    outcome::listed(query::directory(own, out), nodes)
 }
 
 // The block total of a node.
@@ -23,7 +23,7 @@ pub extern "C" fn uluvoli_total(card: &[u8], code: u16, blocks: &mut u16) -> u32
     ensures { λ _. ⌜ now (blocks .exit) ≡ toldAfter (now (blocks .entry)) (totalAnswer (decodedOf (now (card .entry))) code) ⌝ }
 {
     let own = codec::decode(card);
-    outcome::told(own.block_count_for_node(code), blocks)
+    outcome::told(query::block_count_for_node(own, code), blocks)
 }
 
 // The key version of a node.
@@ -33,7 +33,7 @@ pub extern "C" fn uluvoli_key_version(card: &[u8], code: u16, version: &mut u16)
     ensures { λ _. ⌜ now (version .exit) ≡ toldAfter (now (version .entry)) (versionAnswer (decodedOf (now (card .entry))) code) ⌝ }
 {
     let own = codec::decode(card);
-    outcome::told(own.node_key_version(code), version)
+    outcome::told(query::node_key_version(own, code), version)
 }
 
 // Whether an area list is well formed.
@@ -43,7 +43,7 @@ pub extern "C" fn uluvoli_area_list(card: &[u8], areas: &[u16], well_formed: &mu
     ensures { λ _. ⌜ now («well_formed» .exit) ≡ checkedAfter (now («well_formed» .entry)) (areaListAnswer (decodedOf (now (card .entry))) (now (areas .entry))) ⌝ }
 {
     let own = codec::decode(card);
-    outcome::checked(own.area_list_well_formed(areas), well_formed)
+    outcome::checked(query::area_list_well_formed(own, areas), well_formed)
 }
 
 // Whether a service list is well formed.
@@ -53,5 +53,5 @@ pub extern "C" fn uluvoli_service_list(card: &[u8], services: &[u16], well_forme
     ensures { λ _. ⌜ now («well_formed» .exit) ≡ checkedAfter (now («well_formed» .entry)) (serviceListAnswer (decodedOf (now (card .entry))) (now (services .entry))) ⌝ }
 {
     let own = codec::decode(card);
-    outcome::checked(own.service_list_well_formed(services), well_formed)
+    outcome::checked(query::service_list_well_formed(own, services), well_formed)
 }

@@ -28,11 +28,11 @@ use Rattle.structure.proofs.card.Card.add_service as structure·Card·add-servi
 use Rattle.structure.proofs.card.Card.set_limit as structure·Card·set-limit
 use Rattle.structure.proofs.card.Card.new as structure·Card·new
 use Rattle.structure.proofs.card.Card.is_sound as structure·Card·is-sound
-use Rattle.structure.proofs.card.Card.directory as structure·Card·directory
-use Rattle.structure.proofs.card.Card.block_count_for_node as structure·Card·block-count-for-node
-use Rattle.structure.proofs.card.Card.node_key_version as structure·Card·node-key-version
-use Rattle.structure.proofs.card.Card.area_list_well_formed as structure·Card·area-list-well-formed
-use Rattle.structure.proofs.card.Card.service_list_well_formed as structure·Card·service-list-well-formed
+use Rattle.query.proofs.directory as query·directory
+use Rattle.query.proofs.block_count_for_node as query·block-count-for-node
+use Rattle.query.proofs.node_key_version as query·node-key-version
+use Rattle.query.proofs.area_list_well_formed as query·area-list-well-formed
+use Rattle.query.proofs.service_list_well_formed as query·service-list-well-formed
 
 module _ {M : Type 1} (𝓤 : URA M) (H : Heap 𝓤) (A : Atoms 𝓤) (mem : Memory → SProp 𝓤) (run : Routine → Fun 𝓤) where
   pub nodes·taken-once : OneAnswer 𝓤 nodes·taken.ended (nodes·taken.clauses 𝓤 H A mem run)
@@ -92,17 +92,17 @@ module _ {M : Type 1} (𝓤 : URA M) (H : Heap 𝓤) (A : Atoms 𝓤) (mem : Mem
   pub structure·Card·is-sound-once : OneAnswer 𝓤 structure·Card·is-sound.ended (structure·Card·is-sound.clauses 𝓤 H A mem run)
   structure·Card·is-sound-once κs a g r r′ ws ws′ = result 𝓤 refl
 
-  pub structure·Card·directory-once : OneAnswer 𝓤 structure·Card·directory.ended (structure·Card·directory.clauses 𝓤 H A mem run)
-  structure·Card·directory-once κs a g r r′ ws ws′ = of-two 𝓤 (λ p p′ q q′. (once p q, λ i. (tt, (once p′ q′ i, tt))))
+  pub query·directory-once : OneAnswer 𝓤 query·directory.ended (query·directory.clauses 𝓤 H A mem run)
+  query·directory-once κs a g r r′ ws ws′ = of-two 𝓤 (λ p p′ q q′. (once p q, λ i. (tt, (once p′ q′ i, tt))))
 
-  pub structure·Card·block-count-for-node-once : OneAnswer 𝓤 structure·Card·block-count-for-node.ended (structure·Card·block-count-for-node.clauses 𝓤 H A mem run)
-  structure·Card·block-count-for-node-once κs a g r r′ ws ws′ = result 𝓤 refl
+  pub query·block-count-for-node-once : OneAnswer 𝓤 query·block-count-for-node.ended (query·block-count-for-node.clauses 𝓤 H A mem run)
+  query·block-count-for-node-once κs a g r r′ ws ws′ = result 𝓤 refl
 
-  pub structure·Card·node-key-version-once : OneAnswer 𝓤 structure·Card·node-key-version.ended (structure·Card·node-key-version.clauses 𝓤 H A mem run)
-  structure·Card·node-key-version-once κs a g r r′ ws ws′ = result 𝓤 refl
+  pub query·node-key-version-once : OneAnswer 𝓤 query·node-key-version.ended (query·node-key-version.clauses 𝓤 H A mem run)
+  query·node-key-version-once κs a g r r′ ws ws′ = result 𝓤 refl
 
-  pub structure·Card·area-list-well-formed-once : OneAnswer 𝓤 structure·Card·area-list-well-formed.ended (structure·Card·area-list-well-formed.clauses 𝓤 H A mem run)
-  structure·Card·area-list-well-formed-once κs a g r r′ ws ws′ = result 𝓤 refl
+  pub query·area-list-well-formed-once : OneAnswer 𝓤 query·area-list-well-formed.ended (query·area-list-well-formed.clauses 𝓤 H A mem run)
+  query·area-list-well-formed-once κs a g r r′ ws ws′ = result 𝓤 refl
 
-  pub structure·Card·service-list-well-formed-once : OneAnswer 𝓤 structure·Card·service-list-well-formed.ended (structure·Card·service-list-well-formed.clauses 𝓤 H A mem run)
-  structure·Card·service-list-well-formed-once κs a g r r′ ws ws′ = result 𝓤 refl
+  pub query·service-list-well-formed-once : OneAnswer 𝓤 query·service-list-well-formed.ended (query·service-list-well-formed.clauses 𝓤 H A mem run)
+  query·service-list-well-formed-once κs a g r r′ ws ws′ = result 𝓤 refl

@@ -11,10 +11,10 @@ use Rattle.grow.specs.declared.Answer.the-variants.{Done, Refused}
 use Rattle.listing.specs.declared.directory.Listing.{Listing}
 use Rattle.listing.specs.declared.directory.Listing.the-variants.{Listed, Refused as NotListed}
 use Rattle.structure.specs.declared.card.Added.{Added}
-use Rattle.structure.specs.declared.query.Told.{Told}
-use Rattle.structure.specs.declared.query.Told.the-variants.{Number, Refused as NotTold}
-use Rattle.structure.specs.declared.query.Checked.{Checked}
-use Rattle.structure.specs.declared.query.Checked.the-variants.{WellFormed, Malformed, Refused as NotChecked}
+use Rattle.query.specs.declared.Told.{Told}
+use Rattle.query.specs.declared.Told.the-variants.{Number, Refused as NotTold}
+use Rattle.query.specs.declared.Checked.{Checked}
+use Rattle.query.specs.declared.Checked.the-variants.{WellFormed, Malformed, Refused as NotChecked}
 use Rattle.plan.specs.declared.Reply.{Reply}
 use Rattle.plan.specs.declared.Reply.the-variants.{Refused as NotServed, Done as Served, ShortData, Failed}
 use Rattle.codec.specs.Card.{cardPut}

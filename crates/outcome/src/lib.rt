@@ -1,12 +1,12 @@
 // What a call of the library returns, as one number (specs/Outcome.antt), and what else it answers.
-use listing::directory::Listing;
-use grow::Answer;
-use structure::card::Added;
-use structure::query::Checked;
-use structure::query::Told;
-use plan::Reply;
 use answers::refusal::Refusal;
 use answers::status;
+use grow::Answer;
+use listing::directory::Listing;
+use plan::Reply;
+use query::Checked;
+use query::Told;
+use structure::card::Added;
 ghost use mathlib.Core.Path.{_≡_};
 ghost use Rattle.outcome.specs.Outcome.{refusedAs, answerAs, replyAs, cardAfter, toldAs, toldAfter, listedAs, listedAfter, checkedAs, checkedAfter};
 

@@ -1,4 +1,3 @@
 pub mod Card
 pub mod Grow
 pub mod Build
-pub mod Query

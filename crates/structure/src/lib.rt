@@ -1,4 +1,3 @@
-// The card: its records, how it is built, and what can be asked of its tree. Every call tests refusal 8 first.
+// The card: its records, and how it is built. Every call tests refusal 8 first.
 pub mod build;
 pub mod card;
-pub mod query;

@@ -8,12 +8,12 @@ use Rattle.listing.specs.declared.directory.Listing.the-variants.{Refused as No
 use Rattle.listing.specs.Directory.{listingOf, outAfter}
 use Rattle.listing.specs.Total.{totalOf}
 use Rattle.keys.specs.Keys.{versionOf, areaListOf, serviceListOf}
 use Rattle.structure.specs.declared.card.Card.{Card}
-use Rattle.structure.specs.declared.query.Told.{Told}
-use Rattle.structure.specs.declared.query.Told.the-variants.{Number, Refused as NotTold}
-use Rattle.structure.specs.declared.query.Checked.{Checked}
-use Rattle.structure.specs.declared.query.Checked.the-variants.{WellFormed, Malformed, Refused as NotChecked}
+use Rattle.query.specs.declared.Told.{Told}
+use Rattle.query.specs.declared.Told.the-variants.{Number, Refused as NotTold}
+use Rattle.query.specs.declared.Checked.{Checked}
+use Rattle.query.specs.declared.Checked.the-variants.{WellFormed, Malformed, Refused as NotChecked}
 use Rattle.structure.specs.Card.{nodesOf, isSound}
 
 unfoldable pub directoryAnswer : Card → ℕ → Listing
 directoryAnswer c room = cond (isSound c) (listingOf (nodesOf c) room) (NotListed NotBuilt)

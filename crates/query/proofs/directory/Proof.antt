@@ -2,9 +2,9 @@
 use mathlib.Core.Path.{_≡_, refl, sym, _∙_}
 use borrow.Author.Needs.{needs}
 use borrow.Author.Tests.{not-true, not-false}
-use Rattle.structure.specs.Query.{directoryAnswer, directoryOut}
-use Rattle.structure.proofs.card.Card.directory.Statement.{statement}
-use Rattle.structure.proofs.card.Card.directory.Tie as tie
+use Rattle.query.specs.Query.{directoryAnswer, directoryOut}
+use Rattle.query.proofs.directory.Statement.{statement}
+use Rattle.query.proofs.directory.Tie as tie
 
 returns : tie.Need-returns
 unfolding directoryAnswer directoryOut

@@ -2,9 +2,9 @@
 use mathlib.Core.Path.{_≡_, sym, _∙_}
 use borrow.Author.Needs.{needs}
 use borrow.Author.Tests.{not-true, not-false}
-use Rattle.structure.specs.Query.{serviceListAnswer}
-use Rattle.structure.proofs.card.Card.service_list_well_formed.Statement.{statement}
-use Rattle.structure.proofs.card.Card.service_list_well_formed.Tie as tie
+use Rattle.query.specs.Query.{serviceListAnswer}
+use Rattle.query.proofs.service_list_well_formed.Statement.{statement}
+use Rattle.query.proofs.service_list_well_formed.Tie as tie
 
 returns : tie.Need-returns
 unfolding serviceListAnswer
