@@ -13,7 +13,7 @@ use Rattle.nodes.proofs.Records.{Records}
 use Rattle.listing.specs.declared.directory.Listing.{Listing}
 use Rattle.listing.specs.declared.directory.Listing.the-variants.{Listed, Refused}
 use Rattle.listing.specs.Directory.{directoryOf, listedOf, listingOf, outAfter}
-use Rattle.listing.proofs.Under.{take-most}
+use Rattle.under.proofs.Under.{take-most}
 use Rattle.listing.proofs.Laid.{OfArea}
 
 -- what is answered, and the output after it

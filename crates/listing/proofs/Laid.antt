@@ -9,9 +9,14 @@ use lib.ListN.{length, take, drop, getD, set}
 use lib.Seq.{sets}
 use Rattle.nodes.specs.declared.node.Node.{Node}
 use Rattle.nodes.specs.Node.{rootNode}
-use Rattle.listing.specs.Under.{spanUnder}
+use Rattle.under.specs.Under.{spanUnder}
+use Rattle.under.proofs.Under.{le-or-lt, any, Over, spans, deeper, ends, finished, ended, turn, child}
 use Rattle.listing.specs.Directory.{pairOf, pairsUnder}
-use Rattle.listing.proofs.Under.{le-or-lt, any, spans, pairs, deeper, ends, finished, ended, turn, child}
+
+-- the pairs go over the nodes under an area
+pub pairs : Over pairsUnder [] pairOf _++_
+unfolding pairsUnder
+pairs = record { at-end = λ d. refl; at-node = λ d n ns. refl; join-none = λ b. refl; join-one = λ n a b. refl }
 
 -- two numbers for each node
 pairs-length : (d : ℕ) (ns : List Node) → length (pairsUnder d ns) ≡ 2 * spanUnder d ns

@@ -11,7 +11,7 @@ use Rattle.nodes.specs.declared.node.Entry.the-variants.{Area, Service}
 use Rattle.nodes.specs.declared.node.Node.{Node}
 use Rattle.listing.specs.declared.directory.Listing.{Listing}
 use Rattle.listing.specs.declared.directory.Listing.the-variants.{Listed, Refused}
-use Rattle.listing.specs.Under.{spanUnder}
+use Rattle.under.specs.Under.{spanUnder}
 
 -- area (code, end), service (code, FFFF)
 abbrev pub secondOf : Entry → ℕ

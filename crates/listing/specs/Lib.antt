@@ -1,4 +1,2 @@
-pub mod Under
 pub mod Directory
-pub mod Total
 pub mod Worded

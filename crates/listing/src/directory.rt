@@ -9,7 +9,7 @@ ghost use mathlib.Core.List.{[], _∷_};
 ghost use lib.ListN.{length, take, drop, getD};
 ghost use lib.Seq.{sets};
 ghost use Rattle.nodes.specs.Node.{rootNode};
-ghost use Rattle.listing.specs.Under.{spanUnder};
+ghost use Rattle.under.specs.Under.{spanUnder};
 ghost use Rattle.listing.specs.Directory.{secondOf, pairOf, pairsUnder, listingOf, outAfter};
 
 // How many nodes a directory lists, or why it is refused.

@@ -1,3 +1,2 @@
-// Questions about the tree: its directory and block totals.
+// A question about the tree: its directory.
 pub mod directory;
-pub mod total;

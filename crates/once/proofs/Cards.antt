@@ -19,7 +19,7 @@ use Rattle.grow.proofs.judge_area as grow·judge-area
 use Rattle.grow.proofs.place_service as grow·place-service
 use Rattle.sound.proofs.sound as sound·sound
 use Rattle.listing.proofs.directory.directory as listing·directory
-use Rattle.listing.proofs.total.block_total as listing·block-total
+use Rattle.totals.proofs.block_total as totals·block-total
 use Rattle.keys.proofs.key_version as keys·key-version
 use Rattle.keys.proofs.area_list_well_formed as keys·area-list-well-formed
 use Rattle.keys.proofs.service_list_well_formed as keys·service-list-well-formed
@@ -65,8 +65,8 @@ module _ {M : Type 1} (𝓤 : URA M) (H : Heap 𝓤) (A : Atoms 𝓤) (mem : Mem
   pub listing·directory-once : OneAnswer 𝓤 listing·directory.ended (listing·directory.clauses 𝓤 H A mem run)
   listing·directory-once κs a g r r′ ws ws′ = of-two 𝓤 (λ p p′ q q′. (once p q, λ i. (tt, (tt, (once p′ q′ i, tt)))))
 
-  pub listing·block-total-once : OneAnswer 𝓤 listing·block-total.ended (listing·block-total.clauses 𝓤 H A mem run)
-  listing·block-total-once κs a g r r′ ws ws′ = result 𝓤 refl
+  pub totals·block-total-once : OneAnswer 𝓤 totals·block-total.ended (totals·block-total.clauses 𝓤 H A mem run)
+  totals·block-total-once κs a g r r′ ws ws′ = result 𝓤 refl
 
   pub keys·key-version-once : OneAnswer 𝓤 keys·key-version.ended (keys·key-version.clauses 𝓤 H A mem run)
   keys·key-version-once κs a g r r′ ws ws′ = result 𝓤 refl

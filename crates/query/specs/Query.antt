@@ -6,7 +6,7 @@ use Rattle.answers.specs.declared.refusal.Refusal.the-variants.{NotBuilt}
 use Rattle.listing.specs.declared.directory.Listing.{Listing}
 use Rattle.listing.specs.declared.directory.Listing.the-variants.{Refused as NotListed}
 use Rattle.listing.specs.Directory.{listingOf, outAfter}
-use Rattle.listing.specs.Total.{totalOf}
+use Rattle.totals.specs.Total.{totalOf}
 use Rattle.keys.specs.Keys.{versionOf, areaListOf, serviceListOf}
 use Rattle.structure.specs.declared.card.Card.{Card}
 use Rattle.query.specs.declared.Told.{Told}

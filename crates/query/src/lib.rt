@@ -39,7 +39,7 @@ pub fn block_count_for_node(card: Card, code: u16) -> Told
         return Told::Refused(Refusal::NotBuilt);
     }
     let nodes = card.nodes;
-    Told::Number(listing::total::block_total(nodes, card.count, code))
+    Told::Number(totals::block_total(nodes, card.count, code))
 }
 
 // The key version of a node.

@@ -8,7 +8,7 @@ use borrow.Author.Needs.{needs}
 use borrow.Fn.Kinds.{In}
 use borrow.Fn.PlainCycle.{Measures, is, falls, and}
 use Rattle.nodes.specs.Node.{rootNode}
-use Rattle.listing.proofs.Under.{span-left}
+use Rattle.under.proofs.Under.{span-left}
 use Rattle.listing.proofs.Laid.{at-area, at-end, at-other, at-service, at-child}
 use Rattle.listing.proofs.directory.list_area.Reads as list-area
 use Rattle.listing.proofs.directory.list_area.Kinds as list-area-kinds

@@ -3,9 +3,9 @@ use mathlib.Core.Path.{sym, _∙_}
 use native.Mathlib.Omega.{arith}
 use borrow.Author.Needs.{needs}
 use Rattle.nodes.proofs.Records.{Records, found-taken}
-use Rattle.listing.proofs.Found.{area-found}
-use Rattle.listing.proofs.total.area_total.Statement.{statement}
-use Rattle.listing.proofs.total.area_total.Tie as tie
+use Rattle.totals.proofs.Found.{area-found}
+use Rattle.totals.proofs.area_total.Statement.{statement}
+use Rattle.totals.proofs.area_total.Tie as tie
 
 records : (c : tie.Start) → Records (c .args .nodes) (c .args .count)
 records c = record { all = search needs }

@@ -1,13 +1,19 @@
 -- Block totals.
-use Prim.Native.Nat.{ℕ, suc, _+_, min}
+use Prim.Native.Nat.{ℕ, _+_, min}
 use mathlib.Core.List.{List, [], _∷_}
+use mathlib.Core.Bool.{cond}
+use lib.Dec.{leb}
 use lib.ListN.{drop, getD}
 use Rattle.nodes.specs.declared.node.Node.{Node}
 use Rattle.nodes.specs.declared.find.Found.{Found}
 use Rattle.nodes.specs.declared.find.Found.the-variants.{At, Nothing}
 use Rattle.nodes.specs.Node.{rootNode, blocksOf}
 use Rattle.nodes.specs.Find.{serviceOf, areaOf}
-use Rattle.listing.specs.Under.{sumUnder}
+
+-- the blocks of the services under an area of depth d, a joined store once for each service
+unfoldable pub sumUnder : ℕ → List Node → ℕ
+sumUnder d [] = 0
+sumUnder d (n ∷ ns) = cond (leb (n .depth) d) 0 (blocksOf (n .entry) + sumUnder d ns)
 
 -- an area's total stops at 65,535, which is made at the answer
 abbrev pub areaTotalAt : List Node → Found → ℕ

@@ -7,8 +7,8 @@ ghost use mathlib.Core.Path.{_≡_};
 ghost use Prim.Native.Nat.{_+_, _-_, _*_, _≤_, _<_, min};
 ghost use lib.ListN.{take, drop, getD};
 ghost use Rattle.nodes.specs.Node.{rootNode, blocksOf};
-ghost use Rattle.listing.specs.Under.{spanUnder, sumUnder};
-ghost use Rattle.listing.specs.Total.{areaTotal, totalOf};
+ghost use Rattle.under.specs.Under.{spanUnder};
+ghost use Rattle.totals.specs.Total.{sumUnder, areaTotal, totalOf};
 
 // A sum of blocks, and the index past the nodes that it covers.
 pub struct Sum {

@@ -9,9 +9,8 @@ use Rattle.nodes.specs.declared.find.Found.the-variants.{At}
 use Rattle.nodes.specs.Node.{rootNode, blocksOf}
 use Rattle.nodes.specs.Find.{serviceOf, areaOf}
 use Rattle.nodes.proofs.Records.{Records, found-node}
-use Rattle.listing.specs.Under.{sumUnder}
-use Rattle.listing.specs.Total.{areaTotal, totalOf}
-use Rattle.listing.proofs.Under.{take-most}
+use Rattle.under.proofs.Under.{take-most}
+use Rattle.totals.specs.Total.{sumUnder, areaTotal, totalOf}
 
 module _ {nodes : List Node} {count : ℕ} (r : Records nodes count) (code : ℕ) {f : Found} {i s : ℕ} (e : f ≡ At i) where
   -- the total of an area that was found

@@ -2,14 +2,21 @@
 use mathlib.Core.Path.{_≡_, refl, sym, _∙_, ap}
 use mathlib.Core.List.{List}
 use Prim.Native.Nat.{ℕ, _+_, _-_, _*_, _≤_, _<_}
+use native.Mathlib.Nat.{zero-add, add-assoc}
 use native.Mathlib.Omega.{arith}
 use lib.ListN.{length, take, drop, getD}
 use Rattle.blocks.specs.declared.purse.Limit.{Limit}
 use Rattle.nodes.specs.declared.node.Entry.the-variants.{Area, Service}
 use Rattle.nodes.specs.declared.node.Node.{Node}
 use Rattle.nodes.specs.Node.{rootNode, blocksOf}
-use Rattle.listing.specs.Under.{spanUnder, sumUnder}
-use Rattle.listing.proofs.Under.{any, spans, sums, finished, ended, turn, child, span-left}
+use Rattle.under.specs.Under.{spanUnder}
+use Rattle.under.proofs.Under.{any, Over, spans, finished, ended, turn, child, span-left}
+use Rattle.totals.specs.Total.{sumUnder}
+
+-- the blocks go over the nodes under an area
+pub sums : Over sumUnder 0 (λ n r. blocksOf (n .entry) + r) _+_
+unfolding sumUnder
+sums = record { at-end = λ d. refl; at-node = λ d n ns. refl; join-none = zero-add; join-one = λ n a b. add-assoc (blocksOf (n .entry)) a b }
 
 pub record Summing (nodes : List Node) (count at depth sum i : ℕ) : Type 0 where
   pub within : i ≤ count

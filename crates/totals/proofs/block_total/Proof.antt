@@ -4,10 +4,10 @@ use Prim.Native.Nat.{_<_}
 use native.Mathlib.Omega.{arith}
 use borrow.Author.Needs.{needs}
 use Rattle.nodes.proofs.Records.{Records, found-index}
-use Rattle.listing.specs.Total.{totalOf}
-use Rattle.listing.proofs.Found.{service-found}
-use Rattle.listing.proofs.total.block_total.Statement.{statement}
-use Rattle.listing.proofs.total.block_total.Tie as tie
+use Rattle.totals.specs.Total.{totalOf}
+use Rattle.totals.proofs.Found.{service-found}
+use Rattle.totals.proofs.block_total.Statement.{statement}
+use Rattle.totals.proofs.block_total.Tie as tie
 
 records : (c : tie.Start) → Records (c .args .t1) (c .args .count)
 records c = record { all = search needs }

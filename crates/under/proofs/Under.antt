@@ -1,20 +1,18 @@
 -- What lies under an area: the laws that counting, summing and listing its nodes share.
 use mathlib.Core.Path.{_≡_, refl, sym, _∙_, ap}
 use mathlib.Core.Bool.{Bool, true, false, cond}
-use mathlib.Core.List.{List, [], _∷_, _++_}
+use mathlib.Core.List.{List, [], _∷_}
 use mathlib.Core.Logic.{_⊎_, inl, inr, ⊎-elim}
 use Prim.Native.Nat.{ℕ, suc, _+_, _-_, _≤_, _<_, min}
-use native.Mathlib.Nat.{zero-add, add-assoc, suc-add}
+use native.Mathlib.Nat.{zero-add, suc-add}
 use native.Mathlib.Omega.{arith}
 use lib.Dec.{leb}
 use lib.ListN.{length, take, drop, getD, length-take, length-drop}
 use lib.Seq.{drop-drop, take-all}
 use borrow.Author.Tests.{le-leb, lt-leb, leb-true, leb-false}
 use Rattle.nodes.specs.declared.node.Node.{Node}
-use Rattle.nodes.specs.Node.{blocksOf}
 use Rattle.nodes.proofs.Scan.{next, over, read}
-use Rattle.listing.specs.Under.{spanUnder, sumUnder}
-use Rattle.listing.specs.Directory.{pairOf, pairsUnder}
+use Rattle.under.specs.Under.{spanUnder}
 
 -- one of two numbers is at most the other
 pub le-or-lt : (a b : ℕ) → (a ≤ b) ⊎ (b < a)
@@ -49,16 +47,6 @@ pub record Over {B : Type 0} (f : ℕ → List Node → B) (none : B) (one : Nod
 pub spans : Over spanUnder 0 (λ n r. suc r) _+_
 unfolding spanUnder
 spans = record { at-end = λ d. refl; at-node = λ d n ns. refl; join-none = zero-add; join-one = λ n a b. suc-add a b }
-
--- their blocks
-pub sums : Over sumUnder 0 (λ n r. blocksOf (n .entry) + r) _+_
-unfolding sumUnder
-sums = record { at-end = λ d. refl; at-node = λ d n ns. refl; join-none = zero-add; join-one = λ n a b. add-assoc (blocksOf (n .entry)) a b }
-
--- their pairs
-pub pairs : Over pairsUnder [] pairOf _++_
-unfolding pairsUnder
-pairs = record { at-end = λ d. refl; at-node = λ d n ns. refl; join-none = λ b. refl; join-one = λ n a b. refl }
 
 module _ {B : Type 0} {f : ℕ → List Node → B} {none : B} {one : Node → B → B} {join : B → B → B} (u : Over f none one join) where
   -- a deeper node lies under the area, and so may those after it

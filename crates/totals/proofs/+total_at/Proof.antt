@@ -8,13 +8,13 @@ use borrow.Fn.Kinds.{In}
 use borrow.Fn.PlainCycle.{Measures, is, falls, and}
 use Rattle.nodes.specs.declared.node.Node.{Node}
 use Rattle.nodes.specs.Node.{rootNode}
-use Rattle.listing.proofs.Under.{any}
-use Rattle.listing.proofs.Summing.{Summing, begin, at-end, at-other, at-service, at-area}
-use Rattle.listing.proofs.total.total_at.Reads as total-at
-use Rattle.listing.proofs.total.total_at.Kinds as total-at-kinds
-use Rattle.listing.proofs.total.+total_at.Lts-total_at as total-at-lts
-use Rattle.listing.proofs.total.+total_at.{statement}
-use Rattle.listing.proofs.total.+total_at.Tie.{close}
+use Rattle.under.proofs.Under.{any}
+use Rattle.totals.proofs.Summing.{Summing, begin, at-end, at-other, at-service, at-area}
+use Rattle.totals.proofs.total_at.Reads as total-at
+use Rattle.totals.proofs.total_at.Kinds as total-at-kinds
+use Rattle.totals.proofs.+total_at.Lts-total_at as total-at-lts
+use Rattle.totals.proofs.+total_at.{statement}
+use Rattle.totals.proofs.+total_at.Tie.{close}
 
 abbrev μ-total-at : Measures 0 total-at-kinds.ps ℕ
 μ-total-at κs a = a .1 .0 - a .1 .1 .0

@@ -1,0 +1,3 @@
+pub mod Worded
+mod Summing
+mod Found
