@@ -5,8 +5,6 @@ use grow::Answer;
 use plan::Reply;
 use stored::number16;
 use structure::card::Card;
-use system::read;
-use system::write;
 
 // Whether a reply is the one told: two status bytes, or the number of a refusal.
 fn told(reply: Reply, answer: &[u8]) -> bool {
@@ -66,7 +64,7 @@ fn read_agrees(
 ) -> bool {
     fill(out, 0xa5);
     let keyless = spelt::first(line, 1) == b'O';
-    let reply = read::read(
+    let reply = reading::read(
         card,
         arena,
         out,
@@ -130,7 +128,7 @@ fn write_agrees(
     let mut sent = [0u8; 16384];
     let n = spelt::bytes(line, 5, &mut sent);
     let count = spelt::number(line, 3);
-    let reply = write::write(
+    let reply = writing::write(
         card,
         arena,
         staging,

@@ -1,8 +1,6 @@
 // Requests, and stored blocks one by one.
 use answers::refusal::Refusal;
 use grow::Answer;
-use system::read;
-use system::write;
 ghost use mathlib.Core.Path.{_≡_};
 ghost use Prim.Native.Nat.{_*_};
 ghost use lib.ListN.{length};
@@ -28,7 +26,7 @@ pub extern "C" fn uluvoli_read(
     ensures { λ _. ⌜ now (out .exit) ≡ outputAfter (now (out .entry)) (serve (decodedOf (now (card .entry))) (now (arena .entry)) (readRequest keyless (now (codes .entry)) count (now (list .entry)) (length (now (out .entry))))) ⌝ }
 {
     let own = codec::decode(card);
-    outcome::replied(read::read(own, arena, out, keyless, codes, count, list))
+    outcome::replied(reading::read(own, arena, out, keyless, codes, count, list))
 }
 
 // A whole write.
@@ -48,7 +46,7 @@ pub extern "C" fn uluvoli_write(
     ensures { λ _. ⌜ now (staging .exit) ≡ stagingBy (serve (decodedOf (now (card .entry))) (now (arena .entry)) (writeRequest keyless (now (codes .entry)) count (now (list .entry)) (now (input .entry)) (length (now (staging .entry)))) .reply) (16 * decodedOf (now (card .entry)) .used) (now (staging .entry)) ⌝ }
 {
     let own = codec::decode(card);
-    outcome::replied(write::write(own, arena, staging, keyless, codes, count, list, input))
+    outcome::replied(writing::write(own, arena, staging, keyless, codes, count, list, input))
 }
 
 // Sixteen bytes as an array.

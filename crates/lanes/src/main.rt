@@ -2,8 +2,6 @@
 // service of the same number. A late redraw in between is what the tower then reads.
 use plan::Reply;
 use structure::card::Card;
-use system::read;
-use system::write;
 
 // The card: two lanes of number 41h, written by 1049 and read by 104B, both open.
 fn race(arena: &mut [u8]) -> Card {
@@ -29,7 +27,7 @@ fn marshal(card: Card, arena: &mut [u8], block: &[u8]) {
     let mut staging = [0u8; 32];
     let codes = [0x1049u16];
     let list = [0x80u8, 0];
-    let reply = write::write(card, arena, &mut staging, true, &codes, 1, &list, block);
+    let reply = writing::write(card, arena, &mut staging, true, &codes, 1, &list, block);
     print_reply(b"marshal", reply);
     io::write_all(1, b"\n");
 }
@@ -39,7 +37,7 @@ fn tower(card: Card, arena: &[u8]) {
     let mut out = [b'-'; 16];
     let codes = [0x104bu16];
     let list = [0x80u8, 0];
-    let reply = read::read(card, arena, &mut out, true, &codes, 1, &list);
+    let reply = reading::read(card, arena, &mut out, true, &codes, 1, &list);
     print_reply(b"tower", reply);
     io::write_all(1, b" ");
     io::write_all(1, &out);

@@ -32,8 +32,8 @@ use Rattle.plan.proofs.judge as plan·judge
 use Rattle.block.proofs.judge_block as block·judge-block
 use Rattle.block.proofs.set_block as block·set-block
 use Rattle.block.proofs.stored_block as block·stored-block
-use Rattle.system.proofs.read.read as system·read
-use Rattle.system.proofs.write.write as system·write
+use Rattle.reading.proofs.read as reading·read
+use Rattle.writing.proofs.write as writing·write
 use Rattle.terminals.proofs.turn.read_turn as terminals·read-turn
 use Rattle.terminals.proofs.turn.write_turn as terminals·write-turn
 
@@ -87,11 +87,11 @@ module _ {M : Type 1} (𝓤 : URA M) (H : Heap 𝓤) (A : Atoms 𝓤) (mem : Mem
   pub block·stored-block-once : OneSeen 𝓤 block·stored-block.ended (block·stored-block.clauses 𝓤 H A mem run) (λ κs x. now x)
   block·stored-block-once κs a g r r′ ws ws′ = result 𝓤 refl
 
-  pub system·read-once : OneAnswer 𝓤 system·read.ended (system·read.clauses 𝓤 H A mem run)
-  system·read-once κs a g r r′ ws ws′ = of-two 𝓤 (λ p p′ q q′. (once p q, λ i. (tt, (tt, (once p′ q′ i, (tt, (tt, (tt, (tt, tt)))))))))
+  pub reading·read-once : OneAnswer 𝓤 reading·read.ended (reading·read.clauses 𝓤 H A mem run)
+  reading·read-once κs a g r r′ ws ws′ = of-two 𝓤 (λ p p′ q q′. (once p q, λ i. (tt, (tt, (once p′ q′ i, (tt, (tt, (tt, (tt, tt)))))))))
 
-  pub system·write-once : OneAnswer 𝓤 system·write.ended (system·write.clauses 𝓤 H A mem run)
-  system·write-once κs a g r r′ ws ws′ =
+  pub writing·write-once : OneAnswer 𝓤 writing·write.ended (writing·write.clauses 𝓤 H A mem run)
+  writing·write-once κs a g r r′ ws ws′ =
       of-three 𝓤 (λ p p′ p″ q q′ q″.
       let staged = staged-once (16 * a .0 .used) (now (a .1 .1 .0)) (once p q) p″ q″ in
       (once p q, λ i. (tt, (once p′ q′ i, (staged i, (tt, (tt, (tt, (tt, (tt, tt))))))))))

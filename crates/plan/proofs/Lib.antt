@@ -3,3 +3,4 @@ pub mod Tests
 mod Plans
 pub mod Serves
 pub mod Ready
+pub mod Fits

@@ -44,3 +44,7 @@ module _ (c : Card) (a : List ℕ) (r : Request) where
 -- a reply that changes nothing leaves the output
 pub unread : {a : List ℕ} {x : Reply} {s : Served} (out : List ℕ) → s ≡ told a x → (x ≡ s .reply) × (out ≡ outputAfter out s)
 unread out e = rw e (refl, sym (put-zero out 0 []))
+
+-- a reply that changes nothing leaves the arena
+pub unchanged : {a : List ℕ} {x : Reply} {s : Served} → s ≡ told a x → (x ≡ s .reply) × (a ≡ s .arena)
+unchanged e = rw e (refl, refl)

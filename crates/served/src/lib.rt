@@ -1,8 +1,6 @@
 // What a request line asks, carried out on a card.
 use plan::Reply;
 use structure::card::Card;
-use system::read;
-use system::write;
 ghost use mathlib.Core.Path.{_≡_};
 ghost use mathlib.Core.Bool.{true};
 ghost use Prim.Native.Nat.{_+_, _≤_};
@@ -50,7 +48,7 @@ pub fn read_asked(
     let mut codes = [0u16; 17];
     let n = read_codes(line, &mut codes);
     let end = put_field(line, 4, bytes, 0);
-    read::read(
+    reading::read(
         card,
         arena,
         work,
@@ -81,7 +79,7 @@ pub fn write_asked(
     let n = read_codes(line, &mut codes);
     let middle = put_field(line, 4, bytes, 0);
     let last = put_field(line, 5, bytes, middle);
-    write::write(
+    writing::write(
         card,
         arena,
         work,

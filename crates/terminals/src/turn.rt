@@ -2,8 +2,6 @@
 // that each turn of a run of the program is one of which the law speaks (`Did`, specs/Runs).
 use plan::Reply;
 use structure::card::Card;
-use system::read;
-use system::write;
 ghost use Rattle.terminals.specs.Runs.{reads, writes, Left, Did};
 
 // A read, on an arena that it leaves as it is.
@@ -18,7 +16,7 @@ pub fn read_turn(
 ) -> Reply
     ensures { λ r. ⌜ Did card (now (arena .entry)) (reads keyless (now (codes .entry)) count (now (list .entry)) (now (out .entry))) (record { reply = r; buffer = now (out .exit) }) (now (arena .entry)) ⌝ }
 {
-    read::read(card, arena, out, keyless, codes, count, list)
+    reading::read(card, arena, out, keyless, codes, count, list)
 }
 
 // A write, on an arena that it may change.
@@ -34,5 +32,5 @@ pub fn write_turn(
 ) -> Reply
     ensures { λ r. ⌜ Did card (now (arena .entry)) (writes keyless (now (codes .entry)) count (now (list .entry)) (now (input .entry)) (now (staging .entry))) (record { reply = r; buffer = now (staging .exit) }) (now (arena .exit)) ⌝ }
 {
-    write::write(card, arena, staging, keyless, codes, count, list, input)
+    writing::write(card, arena, staging, keyless, codes, count, list, input)
 }

@@ -5,9 +5,9 @@ use lib.ListN.{length, length-map}
 use denote.Ref.{now}
 use borrow.Author.Needs.{needs}
 use Rattle.plan.specs.Request.{writeRequest}
-use Rattle.system.proofs.Writing.{stores-fit, write-failed, write-ready, write-done}
-use Rattle.system.proofs.write.checked_write.Statement.{statement}
-use Rattle.system.proofs.write.checked_write.Tie as tie
+use Rattle.writing.proofs.Writing.{stores-fit, write-failed, write-ready, write-done}
+use Rattle.writing.proofs.checked_write.Statement.{statement}
+use Rattle.writing.proofs.checked_write.Tie as tie
 
 -- the card has 64 records
 records : (c : tie.Start) → length (c .args .card .nodes) ≡ 64

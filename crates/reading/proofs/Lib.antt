@@ -1,4 +1,2 @@
 mod Copied
-mod Fits
 mod Reading
-mod Writing

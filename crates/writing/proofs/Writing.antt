@@ -33,11 +33,11 @@ use Rattle.plan.specs.declared.Reply.{Reply}
 use Rattle.plan.specs.declared.Reply.the-variants.{Done, Failed}
 use Rattle.plan.specs.Request.{Request}
 use Rattle.plan.specs.Plan.{lentJudged, judgedBy, judgedOf, rowsIn, elementsIn, checkedPlan, planOf}
-use Rattle.plan.specs.Serve.{Served, told, committed, carried, planServed, serve, stagingBy}
+use Rattle.plan.specs.Serve.{committed, carried, planServed, serve, stagingBy}
 use Rattle.plan.proofs.Tests.{held, unheld}
 use Rattle.plan.proofs.Ready.{all-ready}
-use Rattle.plan.proofs.Serves.{failed, passed}
-use Rattle.system.proofs.Fits.{fit, rows, checked}
+use Rattle.plan.proofs.Serves.{failed, passed, unchanged}
+use Rattle.plan.proofs.Fits.{fit, rows, checked}
 
 -- the staging s, once `size` bytes of the arena a were copied over its old bytes g
 module _ (a g s : List ℕ) (size : ℕ) (fa : size ≤ length a) (fg : size ≤ length g) (e : s ≡ put g 0 size (drop 0 a)) where
@@ -80,10 +80,6 @@ module _ (a g s : List ℕ) (size : ℕ) (fa : size ≤ length a) (fg : size ≤
           let w = t ++ drop (size - 0) s in
           rw (walked k)
           (refl, n ∙ sym (put-take a 0 size w) ∙ ap (put a 0 size) (take-at t (drop (size - 0) s) size (l ∙ lent-long)))
-
--- a reply that changes nothing leaves the arena
-pub unchanged : {a : List ℕ} {x : Reply} {s : Served} → s ≡ told a x → (x ≡ s .reply) × (a ≡ s .arena)
-unchanged e = rw e (refl, refl)
 
 module _ (c : Card) (a : List ℕ) (r : Request) (j : judgedOf c (length a) r ≡ Fit) where
   -- a write that fits has its stores in arena and staging

@@ -7,9 +7,9 @@ use denote.Ref.{now}
 use borrow.Author.Needs.{needs}
 use Rattle.lists.specs.Element.{elementsFrom}
 use Rattle.runs.specs.Rules.{staged}
-use Rattle.system.proofs.Writing.{lent-long, rest-kept, run-failed, runs-done}
-use Rattle.system.proofs.write.carry_out.Statement.{statement}
-use Rattle.system.proofs.write.carry_out.Tie as tie
+use Rattle.writing.proofs.Writing.{lent-long, rest-kept, run-failed, runs-done}
+use Rattle.writing.proofs.carry_out.Statement.{statement}
+use Rattle.writing.proofs.carry_out.Tie as tie
 
 -- the function's entry, from where the staging is lent
 abbrev start-of : tie.After-apply-arg → tie.Start

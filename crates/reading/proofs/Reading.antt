@@ -22,7 +22,7 @@ use Rattle.plan.specs.Plan.{judgedOf}
 use Rattle.plan.specs.Serve.{blocksRead, carried, serve, outputAfter}
 use Rattle.plan.proofs.Ready.{all-ready}
 use Rattle.plan.proofs.Serves.{failed, passed, unread}
-use Rattle.system.proofs.Fits.{fit, rows, checked}
+use Rattle.plan.proofs.Fits.{fit, rows, checked}
 
 module _ (c : Card) (a out : List ℕ) (keyless : Bool) (codes : List ℕ) (count : ℕ) (list : List ℕ)
     (j : judgedOf c (length a) (readRequest keyless codes count list (length out)) ≡ Fit) {t : Table} (made : t ≡ tableOf (nodesOf c) codes)

@@ -7,10 +7,10 @@ use borrow.Author.Needs.{needs}
 use Rattle.plan.specs.declared.Judged.the-variants.{ShortData as NoData, Fit}
 use Rattle.plan.specs.Request.{writeRequest}
 use Rattle.plan.specs.Plan.{judgedOf}
-use Rattle.plan.proofs.Serves.{refused, short}
-use Rattle.system.proofs.Writing.{unchanged, stores-fit, wiped, short-fits}
-use Rattle.system.proofs.write.write.Statement.{statement}
-use Rattle.system.proofs.write.write.Tie as tie
+use Rattle.plan.proofs.Serves.{refused, short, unchanged}
+use Rattle.writing.proofs.Writing.{stores-fit, wiped, short-fits}
+use Rattle.writing.proofs.write.Statement.{statement}
+use Rattle.writing.proofs.write.Tie as tie
 
 -- the function's entry, from the judgement
 abbrev start-of : tie.After-judge → tie.Start

@@ -7,9 +7,9 @@ use Rattle.plan.specs.declared.Judged.the-variants.{Fit}
 use Rattle.plan.specs.Request.{readRequest}
 use Rattle.plan.specs.Plan.{judgedOf}
 use Rattle.plan.proofs.Serves.{refused, short, unread}
-use Rattle.system.proofs.Reading.{read-failed, read-ready, read-done}
-use Rattle.system.proofs.read.read.Statement.{statement}
-use Rattle.system.proofs.read.read.Tie as tie
+use Rattle.reading.proofs.Reading.{read-failed, read-ready, read-done}
+use Rattle.reading.proofs.read.Statement.{statement}
+use Rattle.reading.proofs.read.Tie as tie
 
 -- the card has 64 records
 records : (c : tie.Start) → length (c .args .card .nodes) ≡ 64

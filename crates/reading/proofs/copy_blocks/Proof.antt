@@ -4,9 +4,9 @@ use Prim.Native.Nat.{_-_}
 use native.Mathlib.Omega.{arith}
 use lib.ListN.{take}
 use borrow.Author.Needs.{needs}
-use Rattle.system.proofs.Copied.{Copying, begun, over, cut, inside, turn}
-use Rattle.system.proofs.read.copy_blocks.Statement.{statement}
-use Rattle.system.proofs.read.copy_blocks.Tie as tie
+use Rattle.reading.proofs.Copied.{Copying, begun, over, cut, inside, turn}
+use Rattle.reading.proofs.copy_blocks.Statement.{statement}
+use Rattle.reading.proofs.copy_blocks.Tie as tie
 
 abbrev Inv-loop : tie.InvT-loop
 Inv-loop out₀ arena table list count at₀ i₀ out at i = Copying (take (table .count) (table .rows)) arena list count out₀ out at i

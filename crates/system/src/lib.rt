@@ -1,3 +1,0 @@
-// Whole requests: reads and writes on a finished card.
-pub mod read;
-pub mod write;
