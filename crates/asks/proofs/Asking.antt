@@ -11,7 +11,7 @@ use Rattle.fields.specs.Field.{split}
 use Rattle.decimals.specs.declared.Number.{Number}
 use Rattle.decimals.specs.declared.Number.the-variants.{Is, Bad}
 use Rattle.hex.specs.Hex.{hexField}
-use Rattle.hex.specs.Codes.{codesField}
+use Rattle.fours.specs.Codes.{codesField}
 use Rattle.asks.specs.declared.Ask.{Ask}
 use Rattle.asks.specs.declared.Ask.the-variants.{Malformed, Read, Write}
 use Rattle.asks.specs.Ask.{fieldIn, isLetter, isEither, isOpen, shaped, isWrite, countIn, countedAsk, askOf}

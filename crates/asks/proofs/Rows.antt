@@ -5,7 +5,7 @@ use mathlib.Core.List.{[], _∷_}
 use Rattle.fields.specs.Field.{split}
 use Rattle.digits.specs.Digit.{among, digitOf, digits, spelt}
 use Rattle.hex.specs.Hex.{grouped, hexField}
-use Rattle.hex.specs.Codes.{codesField}
+use Rattle.fours.specs.Codes.{codesField}
 use Rattle.decimals.specs.Decimal.{plain, upTo, decimal}
 use Rattle.asks.specs.declared.Ask.the-variants.{Malformed, Read, Write}
 use Rattle.asks.specs.Ask.{isLetter, isEither, shaped, isWrite, askOf}

@@ -10,7 +10,7 @@ use Rattle.decimals.specs.declared.Number.{Number}
 use Rattle.decimals.specs.declared.Number.the-variants.{Is, Bad}
 use Rattle.decimals.specs.Decimal.{decimal}
 use Rattle.hex.specs.Hex.{hexField}
-use Rattle.hex.specs.Codes.{codesField}
+use Rattle.fours.specs.Codes.{codesField}
 use Rattle.asks.specs.declared.Ask.{Ask}
 use Rattle.asks.specs.declared.Ask.the-variants.{Malformed, Read, Write}
 

@@ -2,7 +2,7 @@
 use decimals::Number;
 ghost use mathlib.Core.Path.{_≡_};
 ghost use Rattle.hex.specs.Hex.{hexField};
-ghost use Rattle.hex.specs.Codes.{codesField};
+ghost use Rattle.fours.specs.Codes.{codesField};
 ghost use Rattle.asks.specs.Ask.{fieldIn, isLetter, isEither, requestLine, shaped, isWrite, countIn, askOf};
 
 // What a line asks: a read or a write, open or in a session, and how many elements it has. Codes, list and data stand in the line.
@@ -51,7 +51,7 @@ fn has_hex(line: &[u8], k: usize) -> bool
 fn has_codes(line: &[u8]) -> bool
     ensures { λ r. ⌜ r ≡ codesField (fieldIn (now (line .entry)) 2) ⌝ }
 {
-    hex::codes::is_codes(fields::field(line, 2, b'\t'))
+    fours::is_codes(fields::field(line, 2, b'\t'))
 }
 
 // How many elements a line's list has.

@@ -1,4 +1,3 @@
 -- What callers cite.
-pub mod CodeLaws
 pub mod HexLaws
 pub mod Rows

@@ -1,6 +1,4 @@
 // Hex, read in either case and printed in capitals.
-pub mod codes;
-
 use digits::are_digits;
 use digits::digit;
 ghost use mathlib.Core.Path.{_≡_};
@@ -9,20 +7,12 @@ ghost use mathlib.Core.List.{[], _∷_};
 ghost use Prim.Native.Nat.{_+_, _*_, _/_, _≤_, _<_};
 ghost use lib.ListN.{length};
 ghost use Rattle.spans.specs.Part.{put};
-ghost use Rattle.digits.specs.Digit.{digitOf, digits};
-ghost use Rattle.hex.specs.Hex.{grouped, hexField, unhex, capital, toHex, hexText};
+ghost use Rattle.digits.specs.Digit.{digitOf};
+ghost use Rattle.hex.specs.Hex.{hexField, unhex, capital, toHex, hexText};
 
-// Whether every byte of s is a hex digit.
-pub fn is_hex(s: &[u8]) -> bool
-    ensures { λ r. ⌜ r ≡ digits 16 (now (s .entry)) ⌝ }
-{
-    are_digits(s, 16)
-}
-
-// Whether s is hex in groups of n digits, or `-` for none.
-fn is_grouped(s: &[u8], n: usize) -> bool
-    requires { ⌜ 0 < n ⌝ }
-    ensures { λ r. ⌜ r ≡ grouped n (now (s .entry)) ⌝ }
+// Whether s is a hex field: `-` for empty, or whole bytes.
+pub fn is_hex_field(s: &[u8]) -> bool
+    ensures { λ r. ⌜ r ≡ hexField (now (s .entry)) ⌝ }
 {
     if s.len() == 0 {
         return false;
@@ -30,17 +20,10 @@ fn is_grouped(s: &[u8], n: usize) -> bool
     if s.len() == 1 {
         return s[0] == b'-';
     }
-    if s.len() % n != 0 {
+    if s.len() % 2 != 0 {
         return false;
     }
-    is_hex(s)
-}
-
-// Whether s is a hex field: `-` for empty, or whole bytes.
-pub fn is_hex_field(s: &[u8]) -> bool
-    ensures { λ r. ⌜ r ≡ hexField (now (s .entry)) ⌝ }
-{
-    is_grouped(s, 2)
+    are_digits(s, 16)
 }
 
 // The byte that two hex digits spell.

@@ -8,8 +8,8 @@ use lib.Dec.{ltb}
 use lib.IntN.{ℤ}
 use lib.ListN.{length, getD}
 use Rattle.fields.specs.Field.{split}
-use Rattle.hex.specs.declared.codes.Code.{Code}
-use Rattle.hex.specs.declared.codes.Code.the-variants as codes
+use Rattle.fours.specs.declared.Code.{Code}
+use Rattle.fours.specs.declared.Code.the-variants as codes
 use Rattle.decimals.specs.declared.Number.{Number}
 use Rattle.decimals.specs.declared.Number.the-variants as numbers
 use Rattle.decimals.specs.declared.Signed.{Signed}

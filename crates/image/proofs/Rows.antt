@@ -7,7 +7,7 @@ use Rattle.spans.specs.Part.{sameBytes}
 use Rattle.fields.specs.Field.{split}
 use Rattle.digits.specs.Digit.{among, digitOf, digits, spelt}
 use Rattle.hex.specs.Hex.{grouped, hexField}
-use Rattle.hex.specs.Codes.{hex16}
+use Rattle.fours.specs.Codes.{hex16}
 use Rattle.decimals.specs.Decimal.{plain, upTo, decimal, positive, negative, signed}
 use Rattle.image.specs.declared.line.Line.the-variants.{Malformed, Card, Area, Service, Limit, Block}
 use Rattle.image.specs.Line.{cardLine, areaLine, serviceLine, limitLine, hex32, blockLine, form, firstLine, laterLine, imageLine}

@@ -7,14 +7,14 @@ use lib.IntN.{ℤ}
 use lib.ListN.{length, getD}
 use Rattle.spans.specs.Part.{sameBytes}
 use Rattle.fields.specs.Field.{split}
-use Rattle.hex.specs.declared.codes.Code.{Code}
-use Rattle.hex.specs.declared.codes.Code.the-variants as codes
+use Rattle.fours.specs.declared.Code.{Code}
+use Rattle.fours.specs.declared.Code.the-variants as codes
 use Rattle.decimals.specs.declared.Number.{Number}
 use Rattle.decimals.specs.declared.Number.the-variants as numbers
 use Rattle.decimals.specs.declared.Signed.{Signed}
 use Rattle.decimals.specs.declared.Signed.the-variants as signs
 use Rattle.hex.specs.Hex.{hexField}
-use Rattle.hex.specs.Codes.{hex16}
+use Rattle.fours.specs.Codes.{hex16}
 use Rattle.decimals.specs.Decimal.{decimal, signed}
 use Rattle.image.specs.declared.line.Line.{Line}
 use Rattle.image.specs.declared.line.Line.the-variants.{Malformed, Card, Area, Service, Limit, Block}

@@ -10,7 +10,7 @@ use ghost.Atoms.{Atoms}
 use contract.Monad.{Fun}
 use denote.Ref.{now}
 use Rattle.spans.specs.Part.{put}
-use Rattle.hex.specs.Codes.{codesOf}
+use Rattle.fours.specs.Codes.{codesOf}
 use Rattle.once.specs.One.{OneAnswer, OneSeen}
 use Rattle.once.proofs.Law.{once, once-by, of-two, result}
 use Rattle.fields.proofs.field_end as fields·field-end
@@ -18,13 +18,12 @@ use Rattle.fields.proofs.field_count as fields·field-count
 use Rattle.fields.proofs.field as fields·field
 use Rattle.digits.proofs.digit as digits·digit
 use Rattle.digits.proofs.are_digits as digits·are-digits
-use Rattle.hex.proofs.is_hex as hex·is-hex
 use Rattle.hex.proofs.is_hex_field as hex·is-hex-field
 use Rattle.hex.proofs.put_bytes as hex·put-bytes
 use Rattle.hex.proofs.put_hex_field as hex·put-hex-field
-use Rattle.hex.proofs.codes.read_hex16 as hex·read-hex16
-use Rattle.hex.proofs.codes.is_codes as hex·is-codes
-use Rattle.hex.proofs.codes.read_codes as hex·read-codes
+use Rattle.fours.proofs.read_hex16 as fours·read-hex16
+use Rattle.fours.proofs.is_codes as fours·is-codes
+use Rattle.fours.proofs.read_codes as fours·read-codes
 use Rattle.decimals.proofs.read_dec as decimals·read-dec
 use Rattle.decimals.proofs.read_signed as decimals·read-signed
 use Rattle.decimals.proofs.put_dec as decimals·put-dec
@@ -48,9 +47,6 @@ module _ {M : Type 1} (𝓤 : URA M) (H : Heap 𝓤) (A : Atoms 𝓤) (mem : Mem
   pub digits·are-digits-once : OneAnswer 𝓤 digits·are-digits.ended (digits·are-digits.clauses 𝓤 H A mem run)
   digits·are-digits-once κs a g r r′ ws ws′ = result 𝓤 refl
 
-  pub hex·is-hex-once : OneAnswer 𝓤 hex·is-hex.ended (hex·is-hex.clauses 𝓤 H A mem run)
-  hex·is-hex-once κs a g r r′ ws ws′ = result 𝓤 refl
-
   pub hex·is-hex-field-once : OneAnswer 𝓤 hex·is-hex-field.ended (hex·is-hex-field.clauses 𝓤 H A mem run)
   hex·is-hex-field-once κs a g r r′ ws ws′ = result 𝓤 refl
 
@@ -60,15 +56,15 @@ module _ {M : Type 1} (𝓤 : URA M) (H : Heap 𝓤) (A : Atoms 𝓤) (mem : Mem
   pub hex·put-hex-field-once : OneAnswer 𝓤 hex·put-hex-field.ended (hex·put-hex-field.clauses 𝓤 H A mem run)
   hex·put-hex-field-once κs a g r r′ ws ws′ = of-two 𝓤 (λ p p′ q q′. (once p q, λ i. (tt, (once p′ q′ i, (tt, tt)))))
 
-  pub hex·read-hex16-once : OneAnswer 𝓤 hex·read-hex16.ended (hex·read-hex16.clauses 𝓤 H A mem run)
-  hex·read-hex16-once κs a g r r′ ws ws′ = result 𝓤 refl
+  pub fours·read-hex16-once : OneAnswer 𝓤 fours·read-hex16.ended (fours·read-hex16.clauses 𝓤 H A mem run)
+  fours·read-hex16-once κs a g r r′ ws ws′ = result 𝓤 refl
 
-  pub hex·is-codes-once : OneAnswer 𝓤 hex·is-codes.ended (hex·is-codes.clauses 𝓤 H A mem run)
-  hex·is-codes-once κs a g r r′ ws ws′ = result 𝓤 refl
+  pub fours·is-codes-once : OneAnswer 𝓤 fours·is-codes.ended (fours·is-codes.clauses 𝓤 H A mem run)
+  fours·is-codes-once κs a g r r′ ws ws′ = result 𝓤 refl
 
   -- how many are put is said by the result
-  pub hex·read-codes-once : OneAnswer 𝓤 hex·read-codes.ended (hex·read-codes.clauses 𝓤 H A mem run)
-  hex·read-codes-once κs a g r r′ ws ws′ =
+  pub fours·read-codes-once : OneAnswer 𝓤 fours·read-codes.ended (fours·read-codes.clauses 𝓤 H A mem run)
+  fours·read-codes-once κs a g r r′ ws ws′ =
       of-two 𝓤 (λ p p′ q q′.
       let e = once p q in
       let written = once-by (λ (n : ℕ). put (now (a .1 .0)) 0 n (codesOf (now (a .0)))) e p′ q′ in

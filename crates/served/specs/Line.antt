@@ -5,7 +5,7 @@ use lib.ListN.{length}
 use Rattle.answers.specs.declared.refusal.Refusal.the-variants.{MalformedRequest}
 use Rattle.spans.specs.Part.{put}
 use Rattle.hex.specs.Hex.{unhex}
-use Rattle.hex.specs.Codes.{codesOf}
+use Rattle.fours.specs.Codes.{codesOf}
 use Rattle.structure.specs.declared.card.Card.{Card}
 use Rattle.plan.specs.declared.Reply.{Reply}
 use Rattle.plan.specs.declared.Reply.the-variants.{Refused, Done, ShortData, Failed}

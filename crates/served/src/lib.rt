@@ -7,7 +7,7 @@ ghost use Prim.Native.Nat.{_+_, _≤_};
 ghost use lib.ListN.{length, take};
 ghost use Rattle.spans.specs.Part.{put};
 ghost use Rattle.hex.specs.Hex.{hexField, unhex};
-ghost use Rattle.hex.specs.Codes.{codesField};
+ghost use Rattle.fours.specs.Codes.{codesField};
 ghost use Rattle.asks.specs.declared.Ask.the-variants.{Read, Write};
 ghost use Rattle.asks.specs.Ask.{fieldIn, askOf};
 ghost use Rattle.served.specs.Line.{codesIn, lineServed, workAfter, bytesAfter};
@@ -18,7 +18,7 @@ fn read_codes(line: &[u8], codes: &mut [u16]) -> usize
     ensures { λ r. ⌜ r ≤ length (now (codes .entry)) ⌝ }
     ensures { λ r. ⌜ take r (now (codes .exit)) ≡ take (length (now (codes .entry))) (codesIn (now (line .entry))) ⌝ }
 {
-    hex::codes::read_codes(fields::field(line, 2, b'\t'), codes)
+    fours::read_codes(fields::field(line, 2, b'\t'), codes)
 }
 
 // Puts the bytes that field k of a line spells into `bytes` from `at` on, and answers the place after them.

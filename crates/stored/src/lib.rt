@@ -1,6 +1,6 @@
 // Stored answers: files 0001.in, 0002.in, .. of a program's folder, and lines of hex in them.
-use hex::codes;
-use hex::codes::Code;
+use fours::Code;
+use fours::read_hex16;
 ghost use mathlib.Core.Path.{_≡_};
 ghost use Prim.Native.Nat.{_+_, _*_, _≤_, _<_};
 ghost use lib.ListN.{length};
@@ -44,7 +44,7 @@ fn byte_at(line: &[u8], i: usize) -> u16
     requires { ⌜ i + 1 < length (now line) ⌝ }
 {
     let four = [b'0', b'0', line[i], line[i + 1]];
-    match codes::read_hex16(&four) {
+    match read_hex16(&four) {
         Code::Is(value) => value % 256,
         Code::Bad => 256,
     }

@@ -1,7 +1,7 @@
 -- `asks::has_codes` meets its contract: the field is codes. Assumes nothing.
 use borrow.Author.Needs.{needs}
 use mathlib.Core.Path.{_∙_, ap}
-use Rattle.hex.specs.Codes.{codesField}
+use Rattle.fours.specs.Codes.{codesField}
 use Rattle.asks.proofs.has_codes.Statement.{statement}
 use Rattle.asks.proofs.has_codes.Tie as tie
 

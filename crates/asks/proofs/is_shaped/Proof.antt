@@ -8,7 +8,7 @@ use lib.ListN.{length}
 use denote.Ref.{now}
 use Rattle.fields.specs.Field.{split}
 use Rattle.asks.specs.Ask.{fieldIn, isLetter, isEither, shaped}
-use Rattle.hex.specs.Codes.{codesField}
+use Rattle.fours.specs.Codes.{codesField}
 use Rattle.asks.proofs.is_shaped.Statement.{statement}
 use Rattle.asks.proofs.is_shaped.Tie as tie
 

@@ -1,9 +1,19 @@
--- `hex::is_hex_field` meets its contract: it asks for groups of two. Assumes nothing.
+-- `hex::is_hex_field` meets its contract: the tests are those of `grouped 2`. Assumes nothing.
 use borrow.Author.Needs.{needs}
-use Rattle.hex.specs.Hex.{hexField}
+use mathlib.Core.Path.{_∙_}
+use Rattle.digits.proofs.Tests.{tests}
+use Rattle.hex.specs.Hex.{grouped, hexField}
 use Rattle.hex.proofs.is_hex_field.Statement.{statement}
 use Rattle.hex.proofs.is_hex_field.Tie as tie
 
 pub is-hex-field-spec : {M : Type 1} → statement M
-unfolding hexField
-is-hex-field-spec = tie.close (tie.spec (λ c κs. search needs) (λ c. c .is-grouped .ensures))
+unfolding grouped hexField
+is-hex-field-spec =
+    tie.close
+    (tie.spec
+    (λ c. search tests)
+    (λ c. search needs)
+    (λ c. search tests)
+    (λ c. search tests)
+    (λ c κs. search needs)
+    (λ c. c .are-digits .ensures ∙ search tests))

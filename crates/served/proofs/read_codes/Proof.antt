@@ -1,7 +1,7 @@
 -- `served::read_codes` meets its contract: the codes are those of the third field. Assumes nothing.
 use borrow.Author.Needs.{needs}
 use denote.Ref.{now}
-use Rattle.hex.specs.Codes.{codesOf}
+use Rattle.fours.specs.Codes.{codesOf}
 use Rattle.asks.specs.Ask.{fieldIn}
 use Rattle.served.proofs.Parts.{as-many}
 use Rattle.served.proofs.read_codes.Statement.{statement}

@@ -8,7 +8,7 @@ use denote.Ref.{now}
 use borrow.Author.Needs.{needs}
 use borrow.Author.Tests.{not-true, not-false}
 use Rattle.fields.specs.Field.{split}
-use Rattle.hex.specs.declared.codes.Code.{Code}
+use Rattle.fours.specs.declared.Code.{Code}
 use Rattle.decimals.specs.declared.Number.{Number}
 use Rattle.image.specs.Line.{codeAt, numberAt, hex32, blockLine}
 use Rattle.image.proofs.line.block_line.Statement.{statement}

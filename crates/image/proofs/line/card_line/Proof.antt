@@ -5,7 +5,7 @@ use Prim.Native.Nat.{ℕ}
 use denote.Ref.{now}
 use borrow.Author.Needs.{needs}
 use Rattle.fields.specs.Field.{split}
-use Rattle.hex.specs.declared.codes.Code.{Code}
+use Rattle.fours.specs.declared.Code.{Code}
 use Rattle.image.specs.Line.{codeAt, cardLine}
 use Rattle.image.proofs.line.card_line.Statement.{statement}
 use Rattle.image.proofs.line.card_line.Tie as tie

@@ -1,7 +1,7 @@
 -- The field is read as its contract says.
 use mathlib.Core.Path.{ap, _∙_}
 use borrow.Author.Needs.{needs}
-use Rattle.hex.specs.Codes.{hex16}
+use Rattle.fours.specs.Codes.{hex16}
 use Rattle.image.proofs.line.code_at.Statement.{statement}
 use Rattle.image.proofs.line.code_at.Tie as tie
 

@@ -1,14 +1,14 @@
 // Codes in hex: one, or several joined.
-use crate::byte;
-use crate::is_grouped;
-use crate::is_hex;
+use digits::are_digits;
+use digits::digit;
+use hex::is_hex_field;
 ghost use mathlib.Core.Path.{_≡_};
 ghost use mathlib.Core.Bool.{true};
 ghost use Prim.Native.Nat.{_+_, _*_, _<_, min};
 ghost use lib.ListN.{length, getD};
 ghost use Rattle.spans.specs.Part.{put};
-ghost use Rattle.digits.specs.Digit.{digits};
-ghost use Rattle.hex.specs.Codes.{hex16, codesField, codesOf};
+ghost use Rattle.digits.specs.Digit.{digitOf, digits};
+ghost use Rattle.fours.specs.Codes.{hex16, codesField, codesOf};
 
 // A number of 16 bits that was read, or none.
 pub enum Code {
@@ -16,15 +16,22 @@ pub enum Code {
     Bad,
 }
 
+// The byte that the two hex digits at an index spell.
+fn byte_at(s: &[u8], i: usize) -> u16
+    requires { ⌜ (digits 16 (now s) ≡ true) × (i + 1 < length (now s)) ⌝ }
+    ensures { λ r. ⌜ (r ≡ digitOf (getD (now (s .entry)) i 0) * 16 + digitOf (getD (now (s .entry)) (i + 1) 0)) × (r < 256) ⌝ }
+{
+    digit(s[i]) as u16 * 16 + digit(s[i + 1]) as u16
+}
+
 // The code number i, from 0, of those that hex digits spell.
 fn code_at(s: &[u8], i: usize) -> u16
     requires { ⌜ (digits 16 (now s) ≡ true) × (i * 4 + 3 < length (now s)) ⌝ }
     ensures { λ r. ⌜ r ≡ getD (codesOf (now (s .entry))) i 0 ⌝ }
 {
-    let at = i * 4;
-    let high = byte(s[at], s[at + 1]);
-    let low = byte(s[at + 2], s[at + 3]);
-    high as u16 * 256 + low as u16
+    let high = byte_at(s, i * 4);
+    let low = byte_at(s, i * 4 + 2);
+    high * 256 + low
 }
 
 // The number that s spells, where s is four hex digits.
@@ -34,7 +41,7 @@ pub fn read_hex16(s: &[u8]) -> Code
     if s.len() != 4 {
         return Code::Bad;
     }
-    if !is_hex(s) {
+    if !are_digits(s, 16) {
         return Code::Bad;
     }
     Code::Is(code_at(s, 0))
@@ -44,7 +51,13 @@ pub fn read_hex16(s: &[u8]) -> Code
 pub fn is_codes(s: &[u8]) -> bool
     ensures { λ r. ⌜ r ≡ codesField (now (s .entry)) ⌝ }
 {
-    is_grouped(s, 4)
+    if !is_hex_field(s) {
+        return false;
+    }
+    if s.len() == 1 {
+        return true;
+    }
+    s.len() % 4 == 0
 }
 
 // Puts the codes that stand joined in s to the front of `out`, as many as it holds, and answers how many.

@@ -1,4 +1,4 @@
--- `hex::codes::read_codes` meets its contract: after i turns i codes are put. Assumes nothing.
+-- `fours::read_codes` meets its contract: after i turns i codes are put. Assumes nothing.
 use Prim.Native.Nat.{_-_, _/_, _≤_}
 use native.Mathlib.Omega.{arith}
 use native.Mathlib.Nat.{zero-add}
@@ -9,10 +9,10 @@ use denote.Ref.{now}
 use Rattle.spans.specs.Part.{put}
 use Rattle.spans.proofs.Part.{put-zero}
 use Rattle.spans.proofs.Put.{put-next}
-use Rattle.hex.specs.Codes.{codesOf}
-use Rattle.hex.proofs.CodeLaws.{length-codes, codes-digits}
-use Rattle.hex.proofs.codes.read_codes.Statement.{statement}
-use Rattle.hex.proofs.codes.read_codes.Tie as tie
+use Rattle.fours.specs.Codes.{codesOf}
+use Rattle.fours.proofs.CodeLaws.{length-codes, codes-digits}
+use Rattle.fours.proofs.read_codes.Statement.{statement}
+use Rattle.fours.proofs.read_codes.Tie as tie
 
 abbrev Inv-loop : tie.InvT-loop
 Inv-loop s out₀ i₀ out i =

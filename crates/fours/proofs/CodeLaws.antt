@@ -2,16 +2,17 @@
 use Prim.Native.Nat.{ℕ, zero, suc, _+_, _*_, _/_, _%_, _<_}
 use native.Mathlib.Omega.{arith}
 use mathlib.Core.Path.{_≡_, refl, sym, ap, _∙_}
-use mathlib.Core.Bool.{true}
+use mathlib.Core.Bool.{Bool, true, false, _&&_, false≢true}
 use mathlib.Core.List.{List, [], _∷_}
+use lib.Dec.{eqb}
 use lib.ListN.{length, getD}
-use borrow.Author.Tests.{eq-eqb}
+use borrow.Author.Tests.{eq-eqb, eqb-true}
 use Rattle.digits.specs.Digit.{digitOf, digits, spelt}
 use Rattle.digits.proofs.DigitLaws.{spelt-here, spelt-end}
-use Rattle.hex.specs.Hex.{unhex, toHex}
-use Rattle.hex.specs.Codes.{hex16, codesField, codesOf}
-use Rattle.hex.specs.declared.codes.Code.the-variants.{Is}
-use Rattle.hex.proofs.HexLaws.{grouped-digits, length-pairs, pairs-at, length-unhex, unhex-at, capital-back, toHex-digits}
+use Rattle.hex.specs.Hex.{grouped, hexField, unhex, toHex}
+use Rattle.fours.specs.Codes.{hex16, codesField, codesOf}
+use Rattle.fours.specs.declared.Code.the-variants.{Is}
+use Rattle.hex.proofs.HexLaws.{grouped-many, grouped-digits, length-pairs, pairs-at, length-unhex, unhex-at, capital-back, toHex-digits}
 
 -- The number that four hex digits spell.
 pub spelt-four
@@ -54,6 +55,39 @@ hex16-back n h =
     ∙ rw (capital-back (a / 16) (omega arith), capital-back (a % 16) (omega arith), capital-back (b / 16) (omega arith), capital-back (b % 16) (omega arith))
     (omega arith) in
     hex16-four t refl d ∙ ap Is e
+
+-- What is no hex field is no joined codes.
+narrower : (a b d : Bool) → (a ≡ true → b ≡ true) → (b && d) ≡ false → (a && d) ≡ false
+narrower true b d h e = rw (h refl) at e
+narrower false b d h e = refl
+
+pub codes-not : (s : List ℕ) → hexField s ≡ false → codesField s ≡ false
+unfolding grouped hexField codesField
+codes-not [] e = refl
+codes-not (x ∷ []) e = e
+codes-not (x ∷ y ∷ s) e =
+    let n = length (x ∷ y ∷ s) in
+    grouped-many 4 (x ∷ y ∷ s) (omega arith)
+    ∙ narrower (eqb (n % 4) 0) (eqb (n % 2) 0) (digits 16 (x ∷ y ∷ s))
+    (λ h. eq-eqb (n % 2) 0 (let k = eqb-true (n % 4) 0 h in omega arith)) (sym (grouped-many 2 (x ∷ y ∷ s) (omega arith)) ∙ e)
+
+-- A hex field of one byte is `-`, which is no codes.
+pub codes-none : (s : List ℕ) → length s ≡ 1 → hexField s ≡ true → codesField s ≡ true
+unfolding grouped hexField codesField
+codes-none s h e = rw (eq-eqb (length s) 1 h) (rw (eq-eqb (length s) 1 h) at e)
+
+-- A longer one is joined codes where it is whole codes.
+and-true : (b : Bool) → (b && true) ≡ b
+and-true true = refl
+and-true false = refl
+
+pub codes-some : (s : List ℕ) → (length s ≡ 1 → ⊥) → hexField s ≡ true → codesField s ≡ eqb (length s % 4) 0
+unfolding grouped hexField codesField
+codes-some [] h e = absurd (false≢true e)
+codes-some (x ∷ []) h e = absurd (h refl)
+codes-some (x ∷ y ∷ s) h e =
+    let t = x ∷ y ∷ s in
+    grouped-many 4 t (omega arith) ∙ rw (grouped-digits 2 t (omega arith) e) (and-true (eqb (length t % 4) 0))
 
 -- There is a code for each four digits.
 pub length-codes : (s : List ℕ) → length (codesOf s) ≡ length s / 4

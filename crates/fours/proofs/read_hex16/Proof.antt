@@ -1,15 +1,15 @@
--- `hex::codes::read_hex16` meets its contract: the tests are those of `hex16`. Assumes nothing.
+-- `fours::read_hex16` meets its contract: the tests are those of `hex16`. Assumes nothing.
 use borrow.Author.Needs.{needs}
 use native.Mathlib.Omega.{arith}
 use mathlib.Core.Path.{sym, ap, _∙_}
 use borrow.Author.Tests.{not-true, not-false}
 use denote.Ref.{now}
 use Rattle.digits.proofs.Tests.{tests}
-use Rattle.hex.specs.Codes.{hex16}
-use Rattle.hex.specs.declared.codes.Code.the-variants.{Is}
-use Rattle.hex.proofs.CodeLaws.{hex16-four, codes-one}
-use Rattle.hex.proofs.codes.read_hex16.Statement.{statement}
-use Rattle.hex.proofs.codes.read_hex16.Tie as tie
+use Rattle.fours.specs.Codes.{hex16}
+use Rattle.fours.specs.declared.Code.the-variants.{Is}
+use Rattle.fours.proofs.CodeLaws.{hex16-four, codes-one}
+use Rattle.fours.proofs.read_hex16.Statement.{statement}
+use Rattle.fours.proofs.read_hex16.Tie as tie
 
 returns : tie.Need-returns
 unfolding hex16
@@ -17,16 +17,16 @@ returns c = search tests
 
 returns-2 : tie.Need-returns-2
 unfolding hex16
-returns-2 c = search (tests, sym (c .before .is-hex .ensures) ∙ not-true _ (c .if2 .taken))
+returns-2 c = search (tests, sym (c .before .are-digits .ensures) ∙ not-true _ (c .if2 .taken))
 
 code-at-requires : tie.Need-code-at-requires
-code-at-requires c κs = (sym (c .before .is-hex .ensures) ∙ not-false _ (c .if2 .left), omega arith)
+code-at-requires c κs = (sym (c .before .are-digits .ensures) ∙ not-false _ (c .if2 .left), omega arith)
 
 returns-3 : tie.Need-returns-3
 returns-3 c =
     let t = c .before in
     let s = now (t .before .before .before .before .args .s) in
-    let d = sym (t .before .is-hex .ensures) ∙ not-false _ (t .if2 .left) in
+    let d = sym (t .before .are-digits .ensures) ∙ not-false _ (t .if2 .left) in
     ap Is (c .code-at .ensures ∙ codes-one s (omega arith)) ∙ sym (hex16-four s (omega arith) d)
 
 pub read-hex16-spec : {M : Type 1} → statement M

@@ -5,9 +5,9 @@ use mathlib.Core.List.{List}
 use lib.Dec.{eqb}
 use lib.ListN.{length}
 use Rattle.digits.specs.Digit.{digits, spelt}
 use Rattle.hex.specs.Hex.{grouped, pairs, unhex}
-use Rattle.hex.specs.declared.codes.Code.{Code}
-use Rattle.hex.specs.declared.codes.Code.the-variants.{Is, Bad}
+use Rattle.fours.specs.declared.Code.{Code}
+use Rattle.fours.specs.declared.Code.the-variants.{Is, Bad}
 
 -- codes and versions are four hex digits
 unfoldable pub hex16 : List ℕ → Code
