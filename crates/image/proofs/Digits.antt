@@ -12,7 +12,7 @@ use Rattle.spans.specs.Part.{put}
 use Rattle.spans.proofs.Part.{put-split}
 use Rattle.hex.specs.Hex.{hexField, unhex}
 use Rattle.hex.proofs.HexLaws.{length-unhex}
-use Rattle.image.specs.Line.{hex32}
+use Rattle.says.specs.Line.{hex32}
 
 -- what was tested
 pub record Digits (s : List ℕ) : Type 0 where

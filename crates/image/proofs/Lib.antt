@@ -1,4 +1,1 @@
--- What the functions' proofs cite, and worked lines.
-mod Lines
 mod Digits
-pub mod Rows

@@ -12,9 +12,9 @@ use Rattle.structure.specs.declared.card.Added.{Added}
 use Rattle.structure.specs.Card.{newCard, accepted, refused}
 use Rattle.structure.specs.Build.{areaAdded, serviceAdded, arenaAdded, limitAdded}
 use Rattle.block.specs.Block.{blockJudged, arenaSet}
-use Rattle.image.specs.declared.line.Line.{Line}
-use Rattle.image.specs.declared.line.Line.the-variants.{Malformed, Card as New, Area, Service, Limit, Block}
-use Rattle.image.specs.Line.{imageLine}
+use Rattle.says.specs.declared.Line.{Line}
+use Rattle.says.specs.declared.Line.the-variants.{Malformed, Card as New, Area, Service, Limit, Block}
+use Rattle.says.specs.Line.{imageLine}
 
 -- the card handed back with its answer, and the arena after it
 pub record Turn : Type 0 where

@@ -1,3 +1,66 @@
-// Image lines: what each says, and carrying it out on a card and an arena.
-pub mod line;
-pub mod turn;
+// An image line, carried out on a card and an arena.
+use answers::refusal::Refusal;
+use block::set_block;
+use grow::Answer;
+use hex::put_bytes;
+use says::Line;
+use says::read_line;
+use structure::card::Added;
+use structure::card::Card;
+ghost use mathlib.Core.Path.{_≡_};
+ghost use mathlib.Core.Bool.{true};
+ghost use lib.ListN.{length};
+ghost use Rattle.hex.specs.Hex.{unhex};
+ghost use Rattle.block.specs.Block.{blockJudged, arenaSet};
+ghost use Rattle.says.specs.Line.{hex32};
+ghost use Rattle.image.specs.Turn.{imageTurn, answered};
+
+// The card that an answer leaves as it was.
+fn keep(card: Card, answer: Answer) -> Added
+    ensures { λ r. ⌜ r ≡ answered card answer ⌝ }
+{
+    Added { card, answer }
+}
+
+// Sets a block to what 32 hex digits spell.
+fn set_hex(card: Card, arena: &mut [u8], code: u16, number: u32, digits: &[u8]) -> Answer
+    requires { ⌜ hex32 (now digits) ≡ true ⌝ }
+    ensures { λ r. ⌜ r ≡ blockJudged card (length (now (arena .entry))) code number ⌝ }
+    ensures { λ _. ⌜ now (arena .exit) ≡ arenaSet card (now (arena .entry)) code number (unhex (now (digits .entry))) ⌝ }
+{
+    let mut block = [0u8; 16];
+    put_bytes(digits, &mut block[0..16], 0);
+    set_block(card, arena, code, number, block)
+}
+
+// Carries out an image line, the first of the image or a later one.
+pub fn image_line(card: Card, first: bool, arena: &mut [u8], line: &[u8]) -> Added
+    ensures { λ r. ⌜ r ≡ imageTurn first card (now (arena .entry)) (now (line .entry)) .added ⌝ }
+    ensures { λ _. ⌜ now (arena .exit) ≡ imageTurn first card (now (arena .entry)) (now (line .entry)) .arena ⌝ }
+{
+    match read_line(line, first) {
+        Line::Malformed => keep(card, Answer::Refused(Refusal::MalformedImage)),
+        Line::Card { system, version } => keep(Card::new(system, version), Answer::Done),
+        Line::Area {
+            depth,
+            code,
+            end,
+            version,
+        } => card.add_area(depth, code, end, version),
+        Line::Service {
+            depth,
+            code,
+            blocks,
+            version,
+        } => card.add_service(arena, depth, code, blocks, version),
+        Line::Limit {
+            upper,
+            lower,
+            generation,
+        } => card.set_limit(upper, lower, generation),
+        Line::Block { code, number } => {
+            let answer = set_hex(card, arena, code, number, fields::field(line, 3, b'\t'));
+            keep(card, answer)
+        }
+    }
+}

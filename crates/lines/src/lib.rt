@@ -1,7 +1,6 @@
 // Replay, line by line: an image, then requests and their answers.
 use answers::refusal::Refusal;
 use grow::Answer;
-use image::turn;
 use requests::Printed;
 use structure::card::Card;
 ghost use mathlib.Core.Path.{_≡_};
@@ -72,7 +71,7 @@ fn image_line(replay: Replay, first: bool, arena: &mut [u8], out: &mut [u8], lin
     let before = replay.card;
     let lines = one_more(replay.lines);
     let asked = replay.asked;
-    let added = turn::image_line(before, first, arena, line);
+    let added = image::image_line(before, first, arena, line);
     let card = added.card;
     let answer = added.answer;
     match answer {

@@ -9,8 +9,8 @@ use ghost.Atoms.{Atoms}
 use contract.Monad.{Fun}
 use Rattle.once.specs.One.{OneAnswer}
 use Rattle.once.proofs.Law.{once, of-two, of-three, of-four, of-five, result}
-use Rattle.image.proofs.line.read_line as image·read-line
-use Rattle.image.proofs.turn.image_line as image·image-line
+use Rattle.says.proofs.read_line as says·read-line
+use Rattle.image.proofs.image_line as image·image-line
 use Rattle.asks.proofs.is_request as asks·is-request
 use Rattle.asks.proofs.ask_of as asks·ask-of
 use Rattle.replies.proofs.put_number as replies·put-number
@@ -24,8 +24,8 @@ use Rattle.lines.proofs.finish as lines·finish
 use Rattle.feed.proofs.feed as feed·feed
 
 module _ {M : Type 1} (𝓤 : URA M) (H : Heap 𝓤) (A : Atoms 𝓤) (mem : Memory → SProp 𝓤) (run : Routine → Fun 𝓤) where
-  pub image·read-line-once : OneAnswer 𝓤 image·read-line.ended (image·read-line.clauses 𝓤 H A mem run)
-  image·read-line-once κs a g r r′ ws ws′ = result 𝓤 refl
+  pub says·read-line-once : OneAnswer 𝓤 says·read-line.ended (says·read-line.clauses 𝓤 H A mem run)
+  says·read-line-once κs a g r r′ ws ws′ = result 𝓤 refl
 
   pub image·image-line-once : OneAnswer 𝓤 image·image-line.ended (image·image-line.clauses 𝓤 H A mem run)
   image·image-line-once κs a g r r′ ws ws′ = of-two 𝓤 (λ p p′ q q′. (once p q, λ i. (tt, (tt, (once p′ q′ i, (tt, tt))))))
