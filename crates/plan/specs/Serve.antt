@@ -10,7 +10,7 @@ use Rattle.structure.specs.declared.card.Card.{Card}
 use Rattle.table.specs.declared.Row.{Row}
 use Rattle.table.specs.Row.{rowIn}
 use Rattle.runs.specs.Runs.{Walked, bad, good}
-use Rattle.runs.specs.Rules.{staged}
+use Rattle.runs.specs.Staged.{staged}
 use Rattle.plan.specs.declared.Reply.{Reply}
 use Rattle.plan.specs.declared.Reply.the-variants.{Refused, Done, ShortData, Failed}
 use Rattle.plan.specs.Request.{Request}

@@ -1,4 +1,3 @@
 -- What the proofs cite.
-mod Lent
 mod RunLaws
 mod Walking

@@ -18,12 +18,13 @@ use Rattle.blocks.specs.declared.Written.the-variants.{Done, Failed}
 use Rattle.blocks.specs.Outcome.{Outcome, passed, failed}
 use Rattle.table.specs.declared.Row.{Row}
 use Rattle.table.specs.Row.{rowIn, numberIn}
+use Rattle.rules.specs.Rules.{elementBy, endBy, onStore}
+use Rattle.rules.proofs.Lent.{Told}
 use Rattle.runs.specs.declared.run.Applied.{Applied}
 use Rattle.runs.specs.declared.run.Applied.the-variants.{Done as AllDone}
 use Rattle.runs.specs.Runs.{Walked, bad, good}
-use Rattle.runs.specs.Rules.{elementBy, endBy, onStore, atIndex, elementOn, endOn, staged}
+use Rattle.runs.specs.Staged.{atIndex, elementOn, endOn, staged}
 use Rattle.runs.specs.Ready.{Ready, AllReady, walkedTo}
-use Rattle.runs.proofs.Lent.{Told}
 use Rattle.runs.proofs.RunLaws.{walked, after-run, within-run, run-step, run-fails, run-stops, run-over, end-passes, end-fails, run-starts, walk-over}
 
 module _ (i : ℕ) (s t : List ℕ) (r : Written) where

@@ -1,4 +1,3 @@
 pub mod Runs
-pub mod Lens
-pub mod Rules
+pub mod Staged
 pub mod Ready

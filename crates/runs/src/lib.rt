@@ -1,3 +1,2 @@
 // A write whose elements have passed their checks: its runs, on the staged stores (`apply_block_writes` of the Rust).
-mod rule;
 pub mod run;

@@ -1,5 +1,4 @@
 // The runs of a write: longest stretches of consecutive elements of equal service number.
-use crate::rule;
 use answers::status::Fault;
 use blocks::Written;
 use lists::element;
@@ -12,7 +11,7 @@ ghost use Prim.Native.Nat.{_*_, _≤_};
 ghost use lib.ListN.{length, take};
 ghost use Rattle.types.specs.Code.{numberOf};
 ghost use Rattle.lists.specs.Element.{elementsFrom};
-ghost use Rattle.runs.specs.Rules.{staged};
+ghost use Rattle.runs.specs.Staged.{staged};
 ghost use Rattle.runs.specs.Ready.{AllReady, walkedTo};
 
 // How the runs ended: the element that failed is named by its index, from 0.
@@ -52,14 +51,14 @@ pub fn apply(stage: &mut [u8], table: Table, list: &[u8], count: usize, input: &
                 break 'scan;
             }
             let block = &input[16 * end..16 * end + 16];
-            if let Written::Failed(fault) = rule::element_on(stage, block, own, f.number, f.mode) {
+            if let Written::Failed(fault) = rules::element_on(stage, block, own, f.number, f.mode) {
                 ended = Applied::Failed { index: end, fault };
                 break 'runs;
             }
             at = next;
             end += 1;
         }
-        if let Written::Failed(fault) = rule::end_on(stage, &input[16 * from..16 * end], row) {
+        if let Written::Failed(fault) = rules::end_on(stage, &input[16 * from..16 * end], row) {
             ended = Applied::Failed { index: from, fault };
             break 'runs;
         }

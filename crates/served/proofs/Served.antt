@@ -24,7 +24,7 @@ use Rattle.checks.specs.declared.check.Checked.the-variants.{Passed, Failed as 
 use Rattle.table.specs.Row.{rowIn}
 use Rattle.checks.specs.Check.{checkedFrom}
 use Rattle.runs.specs.Runs.{Walked, bad, good}
-use Rattle.runs.specs.Rules.{staged}
+use Rattle.runs.specs.Staged.{staged}
 use Rattle.runs.specs.Ready.{AllReady}
 use Rattle.plan.specs.declared.Reply.{Reply}
 use Rattle.plan.specs.declared.Judged.{Judged}

@@ -19,7 +19,7 @@ use Rattle.table.specs.Row.{rowIn}
 use Rattle.checks.specs.Check.{checkedFrom}
 use Rattle.checks.proofs.Laws.{AllPass, all-pass, Good, good}
 use Rattle.runs.specs.Runs.{Walked, bad, good as walked}
-use Rattle.runs.specs.Rules.{staged}
+use Rattle.runs.specs.Staged.{staged}
 use Rattle.plan.specs.declared.Reply.the-variants.{Done, Failed}
 use Rattle.plan.specs.declared.Judged.{Judged}
 use Rattle.plan.specs.declared.Judged.the-variants.{Refused as NotFit, ShortData as NoData, Fit}

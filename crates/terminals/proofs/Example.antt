@@ -26,9 +26,10 @@ use Rattle.structure.specs.Grow.{addService}
 use Rattle.built.specs.Built.{Built, new, service}
 use Rattle.table.specs.Row.{rowOf}
 use Rattle.checks.specs.Check.{modeAllowed, attributeCheck, rowCheck, elementCheck, checkedFrom}
+use Rattle.rules.specs.Lens.{back, within}
+use Rattle.rules.specs.Rules.{cashbackIn, elementBy, endBy, onStore}
 use Rattle.runs.specs.Runs.{then, push, runsOf, scan, walk}
-use Rattle.runs.specs.Lens.{back, within}
-use Rattle.runs.specs.Rules.{cashbackIn, elementBy, endBy, onStore, staged}
+use Rattle.runs.specs.Staged.{staged}
 use Rattle.plan.specs.declared.Reply.the-variants.{Refused, Done, Failed}
 use Rattle.plan.specs.Request.{Request, readRequest, writeRequest}
 use Rattle.plan.specs.Plan.{lentJudged, judgedBy, planOf}

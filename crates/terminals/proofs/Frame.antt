@@ -10,9 +10,10 @@ use Rattle.blocks.specs.Outcome.{Outcome, passed, failed}
 use Rattle.structure.specs.declared.card.Card.{Card}
 use Rattle.table.specs.declared.Row.{Row}
 use Rattle.table.specs.Row.{rowAtIndex, rowIn, numberIn}
+use Rattle.rules.specs.Lens.{back, within}
+use Rattle.rules.specs.Rules.{onStore}
 use Rattle.runs.specs.Runs.{Walked, bad, good, then, runsOf}
-use Rattle.runs.specs.Lens.{back, within}
-use Rattle.runs.specs.Rules.{onStore, atIndex, elementOn, endOn, staged}
+use Rattle.runs.specs.Staged.{atIndex, elementOn, endOn, staged}
 use Rattle.plan.specs.declared.Reply.the-variants.{Failed}
 use Rattle.plan.specs.Request.{Request}
 use Rattle.plan.specs.Plan.{Plan, stop, go, planOf, rowsIn}

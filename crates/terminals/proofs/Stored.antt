@@ -26,9 +26,10 @@ use Rattle.built.proofs.Laid.{Laid}
 use Rattle.table.specs.declared.Row.{Row}
 use Rattle.table.specs.Row.{rowsOf, rowIn, numberIn}
 use Rattle.checks.proofs.Laws.{Good}
+use Rattle.rules.specs.Lens.{back, within}
+use Rattle.rules.specs.Rules.{elementBy, endBy, onStore}
 use Rattle.runs.specs.Runs.{good, runsOf}
-use Rattle.runs.specs.Lens.{back, within}
-use Rattle.runs.specs.Rules.{elementBy, endBy, onStore, atIndex, elementOn, endOn, staged}
+use Rattle.runs.specs.Staged.{atIndex, elementOn, endOn, staged}
 use Rattle.terminals.proofs.Owned.{Owner, good-owner, one-store, two-stores}
 use Rattle.terminals.proofs.Folds.{failure, AllFrom, folded, replaced, flat-runs, walk-tracks}
 

@@ -25,7 +25,7 @@ use Rattle.checks.specs.Check.{checkedFrom}
 use Rattle.runs.specs.declared.run.Applied.{Applied}
 use Rattle.runs.specs.declared.run.Applied.the-variants.{Done as AllDone, Failed as RunFailed}
 use Rattle.runs.specs.Runs.{Walked, bad, good}
-use Rattle.runs.specs.Rules.{staged}
+use Rattle.runs.specs.Staged.{staged}
 use Rattle.runs.specs.Ready.{AllReady, walkedTo}
 use Rattle.plan.specs.declared.Lengths.{Lengths}
 use Rattle.plan.specs.declared.Judged.the-variants.{Refused as NotFit, ShortData as NoData, Fit}

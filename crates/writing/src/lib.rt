@@ -12,7 +12,7 @@ ghost use mathlib.Core.Path.{_≡_};
 ghost use Prim.Native.Nat.{_*_, _≤_};
 ghost use lib.ListN.{length, take, drop};
 ghost use Rattle.lists.specs.Element.{elementsFrom};
-ghost use Rattle.runs.specs.Rules.{staged};
+ghost use Rattle.runs.specs.Staged.{staged};
 ghost use Rattle.runs.specs.Ready.{AllReady};
 ghost use Rattle.plan.specs.declared.Judged.the-variants.{Fit};
 ghost use Rattle.plan.specs.Request.{writeRequest};

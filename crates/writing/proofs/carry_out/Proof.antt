@@ -6,7 +6,7 @@ use lib.ListN.{take}
 use denote.Ref.{now}
 use borrow.Author.Needs.{needs}
 use Rattle.lists.specs.Element.{elementsFrom}
-use Rattle.runs.specs.Rules.{staged}
+use Rattle.runs.specs.Staged.{staged}
 use Rattle.writing.proofs.Writing.{lent-long, rest-kept, run-failed, runs-done}
 use Rattle.writing.proofs.carry_out.Statement.{statement}
 use Rattle.writing.proofs.carry_out.Tie as tie

@@ -9,8 +9,8 @@ use Rattle.spans.proofs.Part.{length-part, put-part, put-lent}
 use Rattle.blocks.specs.declared.Written.{Written}
 use Rattle.blocks.specs.Outcome.{Outcome, passed, failed, writtenOf, bytesAfter}
 use Rattle.table.specs.declared.Row.{Row}
-use Rattle.runs.specs.Lens.{back, within}
-use Rattle.runs.specs.Rules.{onStore}
+use Rattle.rules.specs.Lens.{back, within}
+use Rattle.rules.specs.Rules.{onStore}
 
 -- what a function that keeps a rule tells: how it ended, and the bytes that it left
 abbrev pub Told : List ℕ → Outcome → Written → List ℕ → Type 0

@@ -1,14 +1,14 @@
--- `runs::rule::end_on` meets its contract: the store was lent to the rule of its attribute. Assumes nothing.
+-- `rules::end_on` meets its contract: the store was lent to the rule of its attribute. Assumes nothing.
 use native.Mathlib.Omega.{arith}
 use mathlib.Core.Path.{refl, sym}
 use denote.Ref.{now}
 use borrow.Author.Needs.{needs}
 use Rattle.spans.proofs.Part.{put-part}
-use Rattle.runs.specs.Lens.{back, within}
-use Rattle.runs.specs.Rules.{endBy, onStore}
-use Rattle.runs.proofs.Lent.{store-lent}
-use Rattle.runs.proofs.rule.end_on.Statement.{statement}
-use Rattle.runs.proofs.rule.end_on.Tie as tie
+use Rattle.rules.specs.Lens.{back, within}
+use Rattle.rules.specs.Rules.{endBy, onStore}
+use Rattle.rules.proofs.Lent.{store-lent}
+use Rattle.rules.proofs.end_on.Statement.{statement}
+use Rattle.rules.proofs.end_on.Tie as tie
 
 returns : tie.Need-returns
 returns c =

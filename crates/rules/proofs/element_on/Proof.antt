@@ -1,13 +1,13 @@
--- `runs::rule::element_on` meets its contract: the store was lent to the rule of its attribute. Assumes nothing.
+-- `rules::element_on` meets its contract: the store was lent to the rule of its attribute. Assumes nothing.
 use native.Mathlib.Omega.{arith}
 use mathlib.Core.Path.{refl}
 use denote.Ref.{now}
 use borrow.Author.Needs.{needs}
-use Rattle.runs.specs.Lens.{back, within}
-use Rattle.runs.specs.Rules.{elementBy, onStore}
-use Rattle.runs.proofs.Lent.{store-lent}
-use Rattle.runs.proofs.rule.element_on.Statement.{statement}
-use Rattle.runs.proofs.rule.element_on.Tie as tie
+use Rattle.rules.specs.Lens.{back, within}
+use Rattle.rules.specs.Rules.{elementBy, onStore}
+use Rattle.rules.proofs.Lent.{store-lent}
+use Rattle.rules.proofs.element_on.Statement.{statement}
+use Rattle.rules.proofs.element_on.Tie as tie
 
 returns : tie.Need-returns
 returns c =

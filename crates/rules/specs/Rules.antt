@@ -1,15 +1,13 @@
--- What an element, and the end of a run, do to the bytes of one store; then to all the staged stores.
+-- What an element, and the end of a run, do to the bytes of one store; and to that store where it lies in the stage.
 use Prim.Native.Nat.{ℕ, _*_}
 use mathlib.Core.List.{List}
 use mathlib.Core.Bool.{cond}
 use lib.Dec.{eqb}
-use lib.ListN.{drop}
 use Rattle.types.specs.declared.code.Decoded.{Decoded}
 use Rattle.types.specs.declared.code.Decoded.the-variants.{Defined, Undefined}
 use Rattle.types.specs.declared.code.ServiceAttribute.the-variants.{RandomReadWrite, RandomReadOnly, CyclicReadWrite, CyclicReadOnly, PurseDirect, PurseCashback, PurseDecrement, PurseReadOnly}
-use Rattle.lists.specs.declared.element.BlockListElement.{BlockListElement}
 use Rattle.answers.specs.declared.status.Fault.the-variants.{Attribute, ReadOnly, CyclicBlock}
-use Rattle.spans.specs.Part.{part, put}
+use Rattle.spans.specs.Part.{put}
 use Rattle.blocks.specs.declared.purse.PurseOperation.{PurseOperation}
 use Rattle.blocks.specs.declared.purse.PurseOperation.the-variants.{Direct, Decrement, Cashback}
 use Rattle.blocks.specs.declared.purse.Limit.{Limit}
@@ -17,9 +15,7 @@ use Rattle.blocks.specs.Outcome.{Outcome, passed, failed}
 use Rattle.blocks.specs.Cyclic.{cyclicOf}
 use Rattle.blocks.specs.Purse.{purseOf}
 use Rattle.table.specs.declared.Row.{Row}
-use Rattle.table.specs.Row.{rowIn, numberIn}
-use Rattle.runs.specs.Runs.{Walked, bad, good, runsOf, walk}
-use Rattle.runs.specs.Lens.{within}
+use Rattle.rules.specs.Lens.{within}
 
 -- a block of a purse store
 abbrev pub purseIn : PurseOperation → Limit → ℕ → List ℕ → List ℕ → Outcome
@@ -57,22 +53,3 @@ endBy Undefined run store = passed store
 -- a rule on a row's store among the staged ones
 unfoldable pub onStore : Row → (List ℕ → Outcome) → List ℕ → Outcome
 onStore w rule stage = within (16 * w .start) (16 * w .blocks) rule stage
-
--- a fault is that of the element of index i
-abbrev pub atIndex : ℕ → Outcome → Walked (List ℕ)
-atIndex i (passed s) = good s
-atIndex i (failed f) = bad i f
-
--- element of index i, with the write data d
-abbrev pub elementOn : List Row → List ℕ → ℕ → BlockListElement → List ℕ → Walked (List ℕ)
-elementOn rows d i e s =
-    atIndex i
-    (onStore (rowIn rows e) (elementBy (rowIn rows e .attribute) (rowIn rows e .limit) (e .number) (e .mode) (part d (16 * i) 16)) s)
-
--- the end of a run of n elements, of which e is the first, of index i
-abbrev pub endOn : List Row → List ℕ → ℕ → BlockListElement → ℕ → List ℕ → Walked (List ℕ)
-endOn rows d i e n s = atIndex i (onStore (rowIn rows e) (endBy (rowIn rows e .attribute) (part d (16 * i) (16 * n))) s)
-
--- the runs of a write on the staged stores: longest stretches of consecutive elements of equal service number
-unfoldable pub staged : List Row → List ℕ → List BlockListElement → List ℕ → Walked (List ℕ)
-staged rows d es s = walk (elementOn rows d) (endOn rows d) 0 (runsOf (numberIn rows) es) s

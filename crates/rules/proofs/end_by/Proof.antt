@@ -1,9 +1,9 @@
--- `runs::rule::end_by` meets its contract: each attribute is a case of the rule. Assumes nothing.
+-- `rules::end_by` meets its contract: each attribute is a case of the rule. Assumes nothing.
 use mathlib.Core.Path.{refl}
 use borrow.Author.Needs.{needs}
-use Rattle.runs.specs.Rules.{endBy}
-use Rattle.runs.proofs.rule.end_by.Statement.{statement}
-use Rattle.runs.proofs.rule.end_by.Tie as tie
+use Rattle.rules.specs.Rules.{endBy}
+use Rattle.rules.proofs.end_by.Statement.{statement}
+use Rattle.rules.proofs.end_by.Tie as tie
 
 returns : tie.Need-returns
 unfolding endBy

@@ -1,12 +1,12 @@
--- `runs::rule::purse_in` meets its contract: the block was lent to the purse rule. Assumes nothing.
+-- `rules::purse_in` meets its contract: the block was lent to the purse rule. Assumes nothing.
 use Prim.Native.Nat.{_*_}
 use native.Mathlib.Omega.{arith}
 use denote.Ref.{now}
 use borrow.Author.Needs.{needs}
 use Rattle.blocks.specs.Purse.{purseOf}
-use Rattle.runs.proofs.Lent.{within-lent}
-use Rattle.runs.proofs.rule.purse_in.Statement.{statement}
-use Rattle.runs.proofs.rule.purse_in.Tie as tie
+use Rattle.rules.proofs.Lent.{within-lent}
+use Rattle.rules.proofs.purse_in.Statement.{statement}
+use Rattle.rules.proofs.purse_in.Tie as tie
 
 returns : tie.Need-returns
 returns c =

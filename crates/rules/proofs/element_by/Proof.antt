@@ -1,10 +1,10 @@
--- `runs::rule::element_by` meets its contract: each attribute is a case of the rule. Assumes nothing.
+-- `rules::element_by` meets its contract: each attribute is a case of the rule. Assumes nothing.
 use mathlib.Core.Path.{refl, sym}
 use borrow.Author.Needs.{needs}
 use borrow.Author.Tests.{eq-eqb, ne-eqb}
-use Rattle.runs.specs.Rules.{elementBy}
-use Rattle.runs.proofs.rule.element_by.Statement.{statement}
-use Rattle.runs.proofs.rule.element_by.Tie as tie
+use Rattle.rules.specs.Rules.{elementBy}
+use Rattle.rules.proofs.element_by.Statement.{statement}
+use Rattle.rules.proofs.element_by.Tie as tie
 
 returns : tie.Need-returns
 unfolding elementBy

@@ -1,8 +1,8 @@
--- `runs::rule::cashback_in` meets its contract: each way out is a case of the definition. Assumes nothing.
+-- `rules::cashback_in` meets its contract: each way out is a case of the definition. Assumes nothing.
 use borrow.Author.Tests.{eq-eqb, ne-eqb}
-use Rattle.runs.specs.Rules.{cashbackIn}
-use Rattle.runs.proofs.rule.cashback_in.Statement.{statement}
-use Rattle.runs.proofs.rule.cashback_in.Tie as tie
+use Rattle.rules.specs.Rules.{cashbackIn}
+use Rattle.rules.proofs.cashback_in.Statement.{statement}
+use Rattle.rules.proofs.cashback_in.Tie as tie
 
 returns : tie.Need-returns
 unfolding cashbackIn

@@ -1,0 +1,2 @@
+-- What the proofs of this crate and callers cite.
+pub mod Lent

@@ -1,0 +1,2 @@
+pub mod Lens
+pub mod Rules
