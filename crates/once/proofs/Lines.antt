@@ -40,7 +40,7 @@ module _ {M : Type 1} (𝓤 : URA M) (H : Heap 𝓤) (A : Atoms 𝓤) (mem : Mem
   replies·put-number-once κs a g r r′ ws ws′ = of-two 𝓤 (λ p p′ q q′. (once (p .0) (q .0), λ i. (tt, (tt, (once p′ q′ i, (tt, tt))))))
 
   pub replies·put-answer-once : OneAnswer 𝓤 replies·put-answer.ended (replies·put-answer.clauses 𝓤 H A mem run)
-  replies·put-answer-once κs a g r r′ ws ws′ = of-two 𝓤 (λ p p′ q q′. (once (p .0) (q .0), λ i. (tt, (tt, (tt, (once p′ q′ i, tt))))))
+  replies·put-answer-once κs a g r r′ ws ws′ = of-two 𝓤 (λ p p′ q q′. (once p q, λ i. (tt, (tt, (tt, (once p′ q′ i, tt))))))
 
   pub served·read-asked-once : OneAnswer 𝓤 served·read-asked.ended (served·read-asked.clauses 𝓤 H A mem run)
   served·read-asked-once κs a g r r′ ws ws′ = of-three 𝓤 (λ p p′ p″ q q′ q″. (once p q, λ i. (tt, (tt, (once p′ q′ i, (once p″ q″ i, (tt, (tt, (tt, tt)))))))))

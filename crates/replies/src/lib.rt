@@ -67,7 +67,7 @@ fn put_flag(flag: u8, end: u8, out: &mut [u8], at: usize) -> usize
 // Puts the line of a refusal, and answers its length.
 fn put_refusal(ordinal: u64, number: u8, out: &mut [u8]) -> usize
     requires { ⌜ 64 ≤ length (now out) ⌝ }
-    ensures { λ r. ⌜ (r ≡ length (refusalText ordinal number)) × (r ≤ length (now (out .entry))) ⌝ }
+    ensures { λ r. ⌜ r ≡ length (refusalText ordinal number) ⌝ }
     ensures { λ _. ⌜ now (out .exit) ≡ put (now (out .entry)) 0 (length (refusalText ordinal number)) (refusalText ordinal number) ⌝ }
 {
     let a = put_number(ordinal, b'\t', out, 0);
@@ -80,7 +80,7 @@ fn put_refusal(ordinal: u64, number: u8, out: &mut [u8]) -> usize
 // Puts the line of a status pair, and answers its length.
 fn put_status(ordinal: u64, flag1: u8, flag2: u8, read: &[u8], out: &mut [u8]) -> usize
     requires { ⌜ length (now read) + length (now read) + 64 ≤ length (now out) ⌝ }
-    ensures { λ r. ⌜ (r ≡ length (statusText ordinal flag1 flag2 (now (read .entry)))) × (r ≤ length (now (out .entry))) ⌝ }
+    ensures { λ r. ⌜ r ≡ length (statusText ordinal flag1 flag2 (now (read .entry))) ⌝ }
     ensures { λ _. ⌜ now (out .exit) ≡ put (now (out .entry)) 0 (length (statusText ordinal flag1 flag2 (now (read .entry)))) (statusText ordinal flag1 flag2 (now (read .entry))) ⌝ }
 {
     let a = put_number(ordinal, b'\t', out, 0);
@@ -93,7 +93,7 @@ fn put_status(ordinal: u64, flag1: u8, flag2: u8, read: &[u8], out: &mut [u8]) -
 // Puts the line that answers a request to the front of `out`, and answers its length.
 pub fn put_answer(ordinal: u64, reply: Reply, read: &[u8], out: &mut [u8]) -> usize
     requires { ⌜ length (now read) + length (now read) + 64 ≤ length (now out) ⌝ }
-    ensures { λ r. ⌜ (r ≡ length (answerText ordinal reply (now (read .entry)))) × (r ≤ length (now (out .entry))) ⌝ }
+    ensures { λ r. ⌜ r ≡ length (answerText ordinal reply (now (read .entry))) ⌝ }
     ensures { λ _. ⌜ now (out .exit) ≡ put (now (out .entry)) 0 (length (answerText ordinal reply (now (read .entry)))) (answerText ordinal reply (now (read .entry))) ⌝ }
 {
     if let Reply::Refused(refusal) = reply {

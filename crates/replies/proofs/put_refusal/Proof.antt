@@ -1,6 +1,5 @@
 -- `replies::put_refusal` meets its contract: five fields, one after the other. Assumes nothing.
 use borrow.Author.Needs.{needs}
-use native.Mathlib.Omega.{arith}
 use mathlib.Core.List.{[], _∷_}
 use Rattle.decimals.specs.Decimal.{decText}
 use Rattle.replies.specs.Answer.{ended, refusalText}
@@ -22,7 +21,7 @@ returns c =
     let w3 = more w2 (ended 9 (decText (a .number))) (p3 .put-number2 .ensures .0 .0) (p3 .put-number2 .ensures .1) in
     let w4 = more w3 (ended 9 (45 ∷ [])) (p4 .put-mark2 .ensures .0) (p4 .put-mark2 .ensures .1) in
     let w5 = more w4 (ended 10 (45 ∷ [])) (p5 .put-mark3 .ensures .0) (p5 .put-mark3 .ensures .1) in
-    ((w5 .place, omega arith), w5 .text)
+    (w5 .place, w5 .text)
 
 pub put-refusal-spec : {M : Type 1} → statement M
 put-refusal-spec =

@@ -1,6 +1,5 @@
 -- `replies::put_status` meets its contract: five fields, one after the other. Assumes nothing.
 use borrow.Author.Needs.{needs}
-use native.Mathlib.Omega.{arith}
 use mathlib.Core.List.{[], _∷_}
 use denote.Ref.{now}
 use Rattle.decimals.specs.Decimal.{decText}
@@ -24,7 +23,7 @@ returns c =
     let w3 = more w2 (ended 9 (hexText (a .flag2 ∷ []))) (p3 .put-flag2 .ensures .0 .0) (p3 .put-flag2 .ensures .1) in
     let w4 = more w3 (ended 9 (whereText (a .flag1))) (p4 .put-where .ensures .0 .0) (p4 .put-where .ensures .1) in
     let w5 = more w4 (ended 10 (hexText (now (a .read)))) (p5 .put-hex .ensures .0 .0) (p5 .put-hex .ensures .1) in
-    ((w5 .place, omega arith), w5 .text)
+    (w5 .place, w5 .text)
 
 pub put-status-spec : {M : Type 1} → statement M
 put-status-spec =

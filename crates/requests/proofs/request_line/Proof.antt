@@ -78,7 +78,7 @@ returns-3 c =
     let e = carried-of n .before .before .before .before .before in
     answered (now (a .bytes)) (now (a .out)) (a .card) (now (a .arena)) (now (a .work)) (now (a .line)) (a .ordinal)
     (enough (now (a .bytes)) (now (a .out)) (e .before .if1 .left) (e .if2 .left))
-    (o .0) (part-of n) (o .1 .0) (o .1 .1 .0) (o .1 .1 .1) (p .put-answer .ensures .0 .0) (p .put-answer .ensures .1)
+    (o .0) (part-of n) (o .1 .0) (o .1 .1 .0) (o .1 .1 .1) (p .put-answer .ensures .0) (p .put-answer .ensures .1)
 
 pub request-line-spec : {M : Type 1} → statement M
 request-line-spec =
