@@ -12,9 +12,10 @@ use Rattle.asks.specs.Ask.{requestLine}
 use Rattle.requests.specs.declared.Printed.{Printed}
 use Rattle.requests.specs.declared.Printed.the-variants.{Bytes, NoRoom}
 use Rattle.requests.specs.Answered.{Answered, roomy}
-use Rattle.lines.specs.declared.Phase.the-variants.{First, Image, Requests, Ended}
-use Rattle.lines.specs.declared.Replay.{Replay}
-use Rattle.lines.specs.Lines.{oneMore, refusalText, printedIn, imagedAs, imageCame, still, imaged, askedBy, askedCame, phaseCame, lineCame}
+use Rattle.phases.specs.declared.Phase.the-variants.{First, Image, Requests, Ended}
+use Rattle.phases.specs.declared.Replay.{Replay}
+use Rattle.phases.specs.Phases.{oneMore, refusalText, printedIn}
+use Rattle.lines.specs.Lines.{imagedAs, imageCame, still, imaged, askedBy, askedCame, phaseCame, lineCame}
 
 module _ (p : Replay) (arena work bytes out line : List ℕ) where
   -- too little room

@@ -18,9 +18,11 @@ use Rattle.replies.proofs.put_answer as replies·put-answer
 use Rattle.served.proofs.read_asked as served·read-asked
 use Rattle.served.proofs.write_asked as served·write-asked
 use Rattle.requests.proofs.request_line as requests·request-line
-use Rattle.lines.proofs.start as lines·start
+use Rattle.phases.proofs.start as phases·start
+use Rattle.phases.proofs.one_more as phases·one-more
+use Rattle.phases.proofs.put_refusal as phases·put-refusal
+use Rattle.phases.proofs.finish as phases·finish
 use Rattle.lines.proofs.line as lines·line
-use Rattle.lines.proofs.finish as lines·finish
 use Rattle.feed.proofs.feed as feed·feed
 
 module _ {M : Type 1} (𝓤 : URA M) (H : Heap 𝓤) (A : Atoms 𝓤) (mem : Memory → SProp 𝓤) (run : Routine → Fun 𝓤) where
@@ -51,14 +53,20 @@ module _ {M : Type 1} (𝓤 : URA M) (H : Heap 𝓤) (A : Atoms 𝓤) (mem : Mem
   pub requests·request-line-once : OneAnswer 𝓤 requests·request-line.ended (requests·request-line.clauses 𝓤 H A mem run)
   requests·request-line-once κs a g r r′ ws ws′ = of-five 𝓤 (λ e arena work bytes out. (e, λ i. (tt, (arena i, (work i, (bytes i, (out i, (tt, (tt, tt)))))))))
 
-  pub lines·start-once : OneAnswer 𝓤 lines·start.ended (lines·start.clauses 𝓤 H A mem run)
-  lines·start-once κs a g r r′ ws ws′ = result 𝓤 refl
+  pub phases·start-once : OneAnswer 𝓤 phases·start.ended (phases·start.clauses 𝓤 H A mem run)
+  phases·start-once κs a g r r′ ws ws′ = result 𝓤 refl
+
+  pub phases·one-more-once : OneAnswer 𝓤 phases·one-more.ended (phases·one-more.clauses 𝓤 H A mem run)
+  phases·one-more-once κs a g r r′ ws ws′ = result 𝓤 refl
+
+  pub phases·put-refusal-once : OneAnswer 𝓤 phases·put-refusal.ended (phases·put-refusal.clauses 𝓤 H A mem run)
+  phases·put-refusal-once κs a g r r′ ws ws′ = of-two 𝓤 (λ p p′ q q′. (once p q, λ i. (tt, (tt, (once p′ q′ i, tt)))))
+
+  pub phases·finish-once : OneAnswer 𝓤 phases·finish.ended (phases·finish.clauses 𝓤 H A mem run)
+  phases·finish-once κs a g r r′ ws ws′ = of-two 𝓤 (λ p p′ q q′. (once p q, λ i. (tt, (once p′ q′ i, tt))))
 
   pub lines·line-once : OneAnswer 𝓤 lines·line.ended (lines·line.clauses 𝓤 H A mem run)
   lines·line-once κs a g r r′ ws ws′ = of-five 𝓤 (λ e arena work bytes out. (e, λ i. (tt, (arena i, (work i, (bytes i, (out i, (tt, tt))))))))
-
-  pub lines·finish-once : OneAnswer 𝓤 lines·finish.ended (lines·finish.clauses 𝓤 H A mem run)
-  lines·finish-once κs a g r r′ ws ws′ = of-two 𝓤 (λ p p′ q q′. (once p q, λ i. (tt, (once p′ q′ i, tt))))
 
   pub feed·feed-once : OneAnswer 𝓤 feed·feed.ended (feed·feed.clauses 𝓤 H A mem run)
   feed·feed-once κs a g r r′ ws ws′ = of-two 𝓤 (λ p p′ q q′. (once p q, λ i. (tt, (tt, (once p′ q′ i, tt)))))

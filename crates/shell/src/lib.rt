@@ -1,8 +1,8 @@
 // Replays what a descriptor has: it is read a chunk at a time and cut into lines, and what they print is held back until
 // there is much of it.
 use feed::Place;
-use lines::Phase;
-use lines::Replay;
+use phases::Phase;
+use phases::Replay;
 use requests::Printed;
 ghost use Prim.Native.Nat.{_+_, _≤_};
 ghost use mathlib.Core.Path.{_≡_};
@@ -175,7 +175,7 @@ fn chunks(
     out: &mut [u8],
 ) -> Kept {
     let mut kept = Kept {
-        replay: lines::start(),
+        replay: phases::start(),
         at: 0,
         len: 0,
         held: 0,
@@ -203,7 +203,7 @@ fn last(
     if len == 0 {
         let held = room(out, kept.held);
         let replay = kept.replay;
-        let printed = lines::finish(replay, &mut out[held..]);
+        let printed = phases::finish(replay, &mut out[held..]);
         return held_then(out, held, printed);
     }
     if line.len() < len {

@@ -2,7 +2,7 @@
 use borrow.Author.Needs.{needs}
 use denote.Ref.{now}
 use Rattle.requests.specs.Answered.{answeredLine}
-use Rattle.lines.specs.Lines.{oneMore}
+use Rattle.phases.specs.Phases.{oneMore}
 use Rattle.lines.proofs.Turns.{asked-line}
 use Rattle.lines.proofs.request_line.Statement.{statement}
 use Rattle.lines.proofs.request_line.Tie as tie

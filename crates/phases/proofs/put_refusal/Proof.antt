@@ -1,4 +1,4 @@
--- `lines::put_refusal` meets its contract: three fields, one after the other. Assumes nothing.
+-- `phases::put_refusal` meets its contract: three fields, one after the other. Assumes nothing.
 use borrow.Author.Needs.{needs}
 use mathlib.Core.Path.{refl}
 use mathlib.Core.List.{[], _∷_}
@@ -6,9 +6,9 @@ use Rattle.answers.specs.Refusal.{refusalNumber}
 use Rattle.decimals.specs.Decimal.{decText}
 use Rattle.replies.specs.Answer.{ended}
 use Rattle.replies.proofs.Writing.{begun, more}
-use Rattle.lines.specs.Lines.{refusalText}
-use Rattle.lines.proofs.put_refusal.Statement.{statement}
-use Rattle.lines.proofs.put_refusal.Tie as tie
+use Rattle.phases.specs.Phases.{refusalText}
+use Rattle.phases.proofs.put_refusal.Statement.{statement}
+use Rattle.phases.proofs.put_refusal.Tie as tie
 
 returns : tie.Need-returns
 unfolding refusalText

@@ -1,11 +1,11 @@
--- `lines::start` meets its contract. Assumes nothing.
+-- `phases::start` meets its contract. Assumes nothing.
 use mathlib.Core.Path.{ap}
 use borrow.Author.Needs.{needs}
 use Rattle.structure.specs.declared.card.Card.{Card}
-use Rattle.lines.specs.declared.Phase.the-variants.{First}
-use Rattle.lines.specs.declared.Replay.{Replay}
-use Rattle.lines.proofs.start.Statement.{statement}
-use Rattle.lines.proofs.start.Tie as tie
+use Rattle.phases.specs.declared.Phase.the-variants.{First}
+use Rattle.phases.specs.declared.Replay.{Replay}
+use Rattle.phases.proofs.start.Statement.{statement}
+use Rattle.phases.proofs.start.Tie as tie
 
 -- a replay at its start, on a card
 abbrev startOn : Card → Replay

@@ -1,4 +1,4 @@
--- `lines::finish` meets its contract, by the phase. Assumes nothing.
+-- `phases::finish` meets its contract, by the phase. Assumes nothing.
 use borrow.Author.Needs.{needs}
 use borrow.Author.Tests.{le-leb, lt-leb}
 use mathlib.Core.Path.{refl, sym, ap}
@@ -7,9 +7,9 @@ use lib.ListN.{length}
 use denote.Ref.{now}
 use Rattle.spans.proofs.Part.{put-zero}
 use Rattle.requests.specs.declared.Printed.the-variants.{Bytes}
-use Rattle.lines.specs.Lines.{finished, finishOut}
-use Rattle.lines.proofs.finish.Statement.{statement}
-use Rattle.lines.proofs.finish.Tie as tie
+use Rattle.phases.specs.Phases.{finished, finishOut}
+use Rattle.phases.proofs.finish.Statement.{statement}
+use Rattle.phases.proofs.finish.Tie as tie
 
 returns : tie.Need-returns
 unfolding finished finishOut
