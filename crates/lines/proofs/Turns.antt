@@ -1,9 +1,12 @@
 -- What comes of a line in each phase. Assumes nothing.
-use Prim.Native.Nat.{ℕ}
+use Prim.{Unit, tt}
+use Prim.Native.Nat.{ℕ, _≤_}
 use mathlib.Core.Path.{_≡_, refl, sym, ap, _∙_}
-use mathlib.Core.Bool.{Bool, true, false}
+use mathlib.Core.Bool.{Bool, true, false, cond, _&&_, and-eq-true-iff}
 use mathlib.Core.List.{List}
+use lib.Dec.{leb}
 use lib.ListN.{length}
+use borrow.Author.Tests.{leb-true, le-leb}
 use Rattle.answers.specs.declared.refusal.Refusal.{Refusal}
 use Rattle.grow.specs.declared.Answer.the-variants as answers
 use Rattle.structure.specs.declared.card.Added.{Added}
@@ -12,42 +15,95 @@ use Rattle.asks.specs.Ask.{requestLine}
 use Rattle.requests.specs.declared.Printed.{Printed}
 use Rattle.requests.specs.declared.Printed.the-variants.{Bytes, NoRoom}
 use Rattle.requests.specs.Answered.{Answered, roomy}
+use Rattle.phases.specs.declared.Phase.{Phase}
 use Rattle.phases.specs.declared.Phase.the-variants.{First, Image, Requests, Ended}
 use Rattle.phases.specs.declared.Replay.{Replay}
+use Rattle.phases.specs.declared.Turn.{Turn}
 use Rattle.phases.specs.Phases.{oneMore, refusalText, printedIn}
-use Rattle.lines.specs.Lines.{imagedAs, imageCame, still, imaged, askedBy, askedCame, phaseCame, lineCame}
+use Rattle.lines.specs.declared.Taken.{Taken}
+use Rattle.lines.specs.declared.Taken.the-variants as takes
+use Rattle.lines.specs.Lines.{imagedAs, imageCame, still, imaged, askedBy, askedCame, phaseCame, takenBy, takenAs, takenCame, lineCame}
 
 module _ (p : Replay) (arena work bytes out line : List ℕ) where
-  -- too little room
-  pub no-room : roomy bytes out ≡ false → lineCame p arena work bytes out line ≡ still NoRoom p arena work bytes out
-  unfolding lineCame
-  no-room h = rw h refl
+  -- what comes of a line is what comes of what it is taken for
+  by-request
+      : (b : Bool) → takenCame (cond b takes.Request (takes.Image false)) p arena work bytes out line
+      ≡ cond b (askedCame p arena work bytes out line) (imaged work bytes (imageCame false p arena out line))
+  by-request true = refl
+  by-request false = refl
 
-  module _ (h : roomy bytes out ≡ true) where
-    -- by the phase
-    by-phase : lineCame p arena work bytes out line ≡ phaseCame (p .phase) p arena work bytes out line
-    unfolding lineCame
-    by-phase = rw h refl
+  by-phase : (x : Phase) → takenCame (takenBy x line) p arena work bytes out line ≡ phaseCame x p arena work bytes out line
+  unfolding takenBy
+  by-phase First = refl
+  by-phase Image = by-request (requestLine line)
+  by-phase Requests = refl
+  by-phase Ended = refl
 
-    pub at-first : p .phase ≡ First → lineCame p arena work bytes out line ≡ imaged work bytes (imageCame true p arena out line)
-    at-first e = by-phase ∙ ap (λ x. phaseCame x p arena work bytes out line) e
+  by-room
+      : (b : Bool) → takenCame (cond b (takenBy (p .phase) line) (takes.Nothing NoRoom)) p arena work bytes out line
+      ≡ cond b (phaseCame (p .phase) p arena work bytes out line) (still NoRoom p arena work bytes out)
+  by-room true = by-phase (p .phase)
+  by-room false = refl
 
-    pub in-requests : p .phase ≡ Requests → lineCame p arena work bytes out line ≡ askedCame p arena work bytes out line
-    in-requests e = by-phase ∙ ap (λ x. phaseCame x p arena work bytes out line) e
+  by-taken
+      : {t : Taken} → takenAs (p .phase) (length bytes) (length out) line ≡ t
+      → lineCame p arena work bytes out line ≡ takenCame t p arena work bytes out line
+  unfolding roomy takenAs lineCame
+  by-taken e =
+      sym (by-room (leb 16384 (length bytes) && leb 16448 (length out)))
+      ∙ ap (λ x. takenCame x p arena work bytes out line) e
 
-    pub at-end : p .phase ≡ Ended → lineCame p arena work bytes out line ≡ still (Bytes 0) p arena work bytes out
-    at-end e = by-phase ∙ ap (λ x. phaseCame x p arena work bytes out line) e
+  -- what the calls promise is what comes of the line
+  pub image-came
+      : {first : Bool} {turn : Turn} {arena′ out′ : List ℕ} → takenAs (p .phase) (length bytes) (length out) line ≡ takes.Image first
+      → let x = imageCame first p arena out line in
+      (turn ≡ x .turn) × ((arena′ ≡ x .arena) × (out′ ≡ x .out))
+      → let y = lineCame p arena work bytes out line in
+      (turn ≡ y .turn) × ((arena′ ≡ y .arena) × ((work ≡ y .work) × ((bytes ≡ y .bytes) × (out′ ≡ y .out))))
+  image-came e o = rw (by-taken e) (o .0, (o .1 .0, (refl, (refl, o .1 .1))))
 
-    -- in the image the line's first field decides
-    in-image : p .phase ≡ Image → lineCame p arena work bytes out line ≡ phaseCame Image p arena work bytes out line
-    in-image e = by-phase ∙ ap (λ x. phaseCame x p arena work bytes out line) e
+  pub request-came
+      : {turn : Turn} {arena′ work′ bytes′ out′ : List ℕ} → takenAs (p .phase) (length bytes) (length out) line ≡ takes.Request
+      → let x = askedCame p arena work bytes out line in
+      (turn ≡ x .turn) × ((arena′ ≡ x .arena) × ((work′ ≡ x .work) × ((bytes′ ≡ x .bytes) × (out′ ≡ x .out))))
+      → let y = lineCame p arena work bytes out line in
+      (turn ≡ y .turn) × ((arena′ ≡ y .arena) × ((work′ ≡ y .work) × ((bytes′ ≡ y .bytes) × (out′ ≡ y .out))))
+  request-came e o = rw (by-taken e) o
 
-    pub request-in-image : p .phase ≡ Image → requestLine line ≡ true → lineCame p arena work bytes out line ≡ askedCame p arena work bytes out line
-    request-in-image e q = in-image e ∙ rw q refl
+  pub nothing-came
+      : {printed : Printed} → takenAs (p .phase) (length bytes) (length out) line ≡ takes.Nothing printed
+      → let y = lineCame p arena work bytes out line in
+      (record { replay = p; printed = printed } ≡ y .turn) × ((arena ≡ y .arena) × ((work ≡ y .work) × ((bytes ≡ y .bytes) × (out ≡ y .out))))
+  nothing-came e = rw (by-taken e) (refl, (refl, (refl, (refl, refl))))
 
-    pub line-in-image
-        : p .phase ≡ Image → requestLine line ≡ false → lineCame p arena work bytes out line ≡ imaged work bytes (imageCame false p arena out line)
-    line-in-image e q = in-image e ∙ rw q refl
+-- With room a line is taken by the phase.
+pub enough
+    : (phase : Phase) (bytes out : ℕ) (line : List ℕ) → 16384 ≤ bytes → 16448 ≤ out → takenAs phase bytes out line ≡ takenBy phase line
+unfolding takenAs
+enough phase bytes out line h k = rw (le-leb 16384 bytes h, le-leb 16448 out k)
+
+-- A line that is taken for an image line has room.
+abbrev Roomed : ℕ → Taken → Type 0
+Roomed out (takes.Image first) = 16448 ≤ out
+Roomed out takes.Request = Unit {0}
+Roomed out (takes.Nothing printed) = Unit {0}
+
+roomed : (out : ℕ) → 16448 ≤ out → (t : Taken) → Roomed out t
+roomed out h (takes.Image first) = h
+roomed out h takes.Request = tt
+roomed out h (takes.Nothing printed) = tt
+
+where-room : (out : ℕ) (t : Taken) (b : Bool) → (b ≡ true → 16448 ≤ out) → Roomed out (cond b t (takes.Nothing NoRoom))
+where-room out t true h = roomed out (h refl) t
+where-room out t false h = tt
+
+pub image-room : (phase : Phase) (bytes out : ℕ) (line : List ℕ) {first : Bool} → takenAs phase bytes out line ≡ takes.Image first → 16448 ≤ out
+unfolding takenAs
+image-room phase bytes out line e =
+    let r : Roomed out (cond (leb 16384 bytes && leb 16448 out) (takenBy phase line) (takes.Nothing NoRoom)) =
+    where-room out (takenBy phase line) (leb 16384 bytes && leb 16448 out)
+    (λ h. leb-true 16448 out (and-eq-true-iff (leb 16384 bytes) (leb 16448 out) .0 h .1)) in
+    rw e at r
 
 module _ (p : Replay) (out : List ℕ) (t : images.Turn) {added : Added} {arena : List ℕ} {n : ℕ} (e : added ≡ t .added) (a : arena ≡ t .arena) (l : n ≡ oneMore (p .lines)) where
   -- an image line is accepted

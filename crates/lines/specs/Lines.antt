@@ -1,7 +1,8 @@
 -- What a line of a replay text comes to: the replay after it, every lent buffer after it, and what it prints.
 use Prim.Native.Nat.{ℕ}
-use mathlib.Core.Bool.{Bool, true, false, cond}
+use mathlib.Core.Bool.{Bool, true, false, cond, _&&_}
 use mathlib.Core.List.{List}
+use lib.Dec.{leb}
 use lib.ListN.{length}
 use Rattle.grow.specs.declared.Answer.{Answer}
 use Rattle.grow.specs.declared.Answer.the-variants as answers
@@ -15,6 +16,8 @@ use Rattle.phases.specs.declared.Phase.{Phase}
 use Rattle.phases.specs.declared.Phase.the-variants.{First, Image, Requests, Ended}
 use Rattle.phases.specs.declared.Replay.{Replay}
 use Rattle.phases.specs.declared.Turn.{Turn}
+use Rattle.lines.specs.declared.Taken.{Taken}
+use Rattle.lines.specs.declared.Taken.the-variants as takes
 use Rattle.phases.specs.Phases.{oneMore, refusalText, printedIn}
 
 -- what comes of an image line
@@ -73,11 +76,8 @@ abbrev pub askedCame : Replay → List ℕ → List ℕ → List ℕ → List �
 askedCame p arena work bytes out line = askedBy p (answeredLine (p .card) arena work bytes out line (oneMore (p .asked)))
 
 -- nothing changes
-abbrev pub stillAt : Replay → Printed → Turn
-stillAt p printed = record { replay = p; printed = printed }
-
 abbrev pub still : Printed → Replay → List ℕ → List ℕ → List ℕ → List ℕ → Came
-still printed p arena work bytes out = record { turn = stillAt p printed; arena = arena; work = work; bytes = bytes; out = out }
+still printed p arena work bytes out = record { turn = record { replay = p; printed = printed }; arena = arena; work = work; bytes = bytes; out = out }
 
 -- line 1 is an image line; so is each other line before the first request; after that every line is one; none is read after the end
 abbrev pub phaseCame : Phase → Replay → List ℕ → List ℕ → List ℕ → List ℕ → List ℕ → Came
@@ -90,3 +90,18 @@ phaseCame Ended p arena work bytes out line = still (Bytes 0) p arena work bytes
 unfoldable pub lineCame : Replay → List ℕ → List ℕ → List ℕ → List ℕ → List ℕ → Came
 lineCame p arena work bytes out line =
     cond (roomy bytes out) (phaseCame (p .phase) p arena work bytes out line) (still NoRoom p arena work bytes out)
+
+-- the same, told first by what the line is taken for
+unfoldable pub takenBy : Phase → List ℕ → Taken
+takenBy First line = takes.Image true
+takenBy Image line = cond (requestLine line) takes.Request (takes.Image false)
+takenBy Requests line = takes.Request
+takenBy Ended line = takes.Nothing (Bytes 0)
+
+unfoldable pub takenAs : Phase → ℕ → ℕ → List ℕ → Taken
+takenAs phase bytes out line = cond (leb 16384 bytes && leb 16448 out) (takenBy phase line) (takes.Nothing NoRoom)
+
+abbrev pub takenCame : Taken → Replay → List ℕ → List ℕ → List ℕ → List ℕ → List ℕ → Came
+takenCame (takes.Image first) p arena work bytes out line = imaged work bytes (imageCame first p arena out line)
+takenCame takes.Request p arena work bytes out line = askedCame p arena work bytes out line
+takenCame (takes.Nothing printed) p arena work bytes out line = still printed p arena work bytes out

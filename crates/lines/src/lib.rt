@@ -9,7 +9,7 @@ use requests::Printed;
 ghost use mathlib.Core.Path.{_≡_};
 ghost use Prim.Native.Nat.{_≤_};
 ghost use lib.ListN.{length};
-ghost use Rattle.lines.specs.Lines.{stillAt, imageCame, askedCame, lineCame};
+ghost use Rattle.lines.specs.Lines.{imageCame, askedCame, takenAs, lineCame};
 
 // An image line, the first or a later one.
 fn image_line(replay: Replay, first: bool, arena: &mut [u8], out: &mut [u8], line: &[u8]) -> Turn
@@ -76,11 +76,34 @@ fn request_line(
     }
 }
 
-// A replay that has printed so much, and is as it was.
-fn still(replay: Replay, printed: Printed) -> Turn
-    ensures { λ r. ⌜ r ≡ stillAt replay printed ⌝ }
+// What a line is taken for: an image line, the first or a later one; a request; or nothing, and what is printed then.
+enum Taken {
+    Image(bool),
+    Request,
+    Nothing(Printed),
+}
+
+// What a line is taken for where a replay is, by its first field. With less room than any line may need it is not taken.
+fn taken_for(phase: Phase, bytes: usize, out: usize, line: &[u8]) -> Taken
+    ensures { λ r. ⌜ r ≡ takenAs phase bytes out (now (line .entry)) ⌝ }
 {
-    Turn { replay, printed }
+    if bytes < 16384 {
+        return Taken::Nothing(Printed::NoRoom);
+    }
+    if out < 16448 {
+        return Taken::Nothing(Printed::NoRoom);
+    }
+    match phase {
+        Phase::First => Taken::Image(true),
+        Phase::Image => {
+            if asks::is_request(line) {
+                return Taken::Request;
+            }
+            Taken::Image(false)
+        }
+        Phase::Requests => Taken::Request,
+        Phase::Ended => Taken::Nothing(Printed::Bytes(0)),
+    }
 }
 
 // One line of a replay. With less room than any line may need nothing is printed and nothing changes.
@@ -98,22 +121,10 @@ pub fn line(
     ensures { λ _. ⌜ now (bytes .exit) ≡ lineCame replay (now (arena .entry)) (now (work .entry)) (now (bytes .entry)) (now (out .entry)) (now (line .entry)) .bytes ⌝ }
     ensures { λ _. ⌜ now (out .exit) ≡ lineCame replay (now (arena .entry)) (now (work .entry)) (now (bytes .entry)) (now (out .entry)) (now (line .entry)) .out ⌝ }
 {
-    if bytes.len() < 16384 {
-        return still(replay, Printed::NoRoom);
-    }
-    if out.len() < 16448 {
-        return still(replay, Printed::NoRoom);
-    }
     let phase = replay.phase;
-    match phase {
-        Phase::First => image_line(replay, true, arena, out, line),
-        Phase::Image => {
-            if asks::is_request(line) {
-                return request_line(replay, arena, work, bytes, out, line);
-            }
-            image_line(replay, false, arena, out, line)
-        }
-        Phase::Requests => request_line(replay, arena, work, bytes, out, line),
-        Phase::Ended => still(replay, Printed::Bytes(0)),
+    match taken_for(phase, bytes.len(), out.len(), line) {
+        Taken::Image(first) => image_line(replay, first, arena, out, line),
+        Taken::Request => request_line(replay, arena, work, bytes, out, line),
+        Taken::Nothing(printed) => Turn { replay, printed },
     }
 }
