@@ -1,4 +1,3 @@
--- The rules in each of their cases.
-mod Ring
+-- The rule in each of its cases.
 mod Range
 mod Rule

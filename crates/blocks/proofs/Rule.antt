@@ -2,13 +2,9 @@
 use Prim.Native.Nat.{ℕ}
 use mathlib.Core.Path.{_≡_, sym, _∙_}
 use mathlib.Core.Bool.{Bool, true, false}
-use mathlib.Core.List.{List}
-use lib.ListN.{drop}
 use lib.IntN.{pos, _+ℤ_, _-ℤ_}
 use lib.Signed.{ltZ}
 use borrow.Author.Tests.{eq-eqb, ne-eqb}
-use Rattle.spans.specs.Part.{put}
-use Rattle.word.specs.Word.{wordBytes}
 use Rattle.answers.specs.declared.status.Fault.{Fault}
 use Rattle.answers.specs.declared.status.Fault.the-variants.{PurseRaised, CashbackRaised, SumTooLarge, CashbackExceeds}
 use Rattle.blocks.specs.declared.purse.PurseOperation.the-variants.{Direct, Decrement, Cashback}
@@ -17,8 +13,7 @@ use Rattle.blocks.specs.declared.purse.PurseData.{PurseData}
 use Rattle.blocks.specs.declared.purse.PurseWrite.the-variants.{Unchanged, Whole, Stored, Failed}
 use Rattle.blocks.specs.declared.purse.Sum.{Sum}
 use Rattle.blocks.specs.declared.purse.Sum.the-variants.{Inside, Outside}
-use Rattle.blocks.specs.Outcome.{passed}
-use Rattle.blocks.specs.Purse.{valueOf, insideOf, outsideOf, sumOf, storedOf, purseRule, blockOf}
+use Rattle.blocks.specs.Purse.{valueOf, insideOf, outsideOf, sumOf, storedOf, purseRule}
 
 module _ (limit : Limit) (s c : PurseData) where
   module _ (a : Bool) (ea : a ≡ ltZ (valueOf limit (s .purse)) (valueOf limit (c .purse))) where
@@ -90,10 +85,3 @@ module _ (limit : Limit) (s c : PurseData) where
         pub cashback-outside : r ≡ Outside → (f : Fault) → f ≡ outsideOf limit → Failed f ≡ purseRule Cashback limit s c
         unfolding purseRule storedOf
         cashback-outside tr f ef = rw (ne-eqb (c .id) (s .id) h, sym eb ∙ tb, sym er ∙ tr, ef)
-
--- A block after three stores: the purse, the cashback, the execution id.
-pub stored-block
-    : (s c : List ℕ) (p k : ℕ) (t u v : List ℕ) → t ≡ put s 0 4 (wordBytes p) → u ≡ put t 4 4 (wordBytes k)
-    → v ≡ put u 12 4 (drop 12 c) → blockOf s c (Stored p k) ≡ passed v
-unfolding blockOf
-stored-block s c p k t u v et eu ev = rw (ev, eu, et)

@@ -1,15 +1,12 @@
 -- The purse rule. Manual, sections 3.4.4 (figures 3-15 to 3-17) and 3.4.4.1, 4.4.6 for direct access, 4.5.2, tables 4-11 and 4-12.
 use Prim.Native.Nat.{ℕ}
-use mathlib.Core.List.{List}
 use mathlib.Core.Bool.{Bool, cond, _&&_}
 use lib.Dec.{eqb}
-use lib.ListN.{drop}
 use lib.IntN.{ℤ, pos, _+ℤ_, _-ℤ_}
 use lib.Signed.{ltZ, leZ}
 use Rattle.answers.specs.declared.status.Fault.{Fault}
 use Rattle.answers.specs.declared.status.Fault.the-variants.{PurseRaised, CashbackRaised, SumTooLarge, OutsideLimits, OutsideWord, CashbackExceeds}
-use Rattle.spans.specs.Part.{put}
-use Rattle.word.specs.Word.{wordAt, wordBytes, wordOf, signedOf}
+use Rattle.word.specs.Word.{wordOf, signedOf}
 use Rattle.blocks.specs.declared.purse.PurseOperation.{PurseOperation}
 use Rattle.blocks.specs.declared.purse.PurseOperation.the-variants.{Direct, Decrement, Cashback}
 use Rattle.blocks.specs.declared.purse.Limit.{Limit}
@@ -19,7 +16,6 @@ use Rattle.blocks.specs.declared.purse.PurseWrite.{PurseWrite}
 use Rattle.blocks.specs.declared.purse.PurseWrite.the-variants.{Unchanged, Whole, Stored, Failed}
 use Rattle.blocks.specs.declared.purse.Sum.{Sum}
 use Rattle.blocks.specs.declared.purse.Sum.the-variants.{Inside, Outside}
-use Rattle.blocks.specs.Outcome.{Outcome, passed, failed}
 
 -- signed 32 bits if the service has a limit, else unsigned
 unfoldable pub valueOf : Limit → ℕ → ℤ
@@ -61,17 +57,3 @@ purseRule Cashback limit s c =
     cond (eqb (c .id) (s .id)) Unchanged
     (cond (ltZ (valueOf limit (s .cashback)) (valueOf limit (c .purse))) (Failed CashbackExceeds)
     (storedOf limit 0 (sumOf limit (valueOf limit (s .purse) +ℤ valueOf limit (c .purse)))))
-
--- figure 3-15: purse bytes 0-3, cashback 4-7, execution id 12-15
-unfoldable pub purseDataOf : List ℕ → PurseData
-purseDataOf s = record { purse = wordAt s 0; cashback = wordAt s 4; id = wordAt s 12 }
-
--- the block to store: stored bytes 8-11 are kept, 12-15 come from the command
-unfoldable pub blockOf : List ℕ → List ℕ → PurseWrite → Outcome
-blockOf s c Unchanged = passed s
-blockOf s c Whole = passed (put s 0 16 c)
-blockOf s c (Stored p k) = passed (put (put (put s 0 4 (wordBytes p)) 4 4 (wordBytes k)) 12 4 (drop 12 c))
-blockOf s c (Failed f) = failed f
-
-unfoldable pub purseOf : PurseOperation → Limit → List ℕ → List ℕ → Outcome
-purseOf operation limit s c = blockOf s c (purseRule operation limit (purseDataOf s) (purseDataOf c))

@@ -1,7 +1,6 @@
-// What a write does to the blocks of a purse service and of a cyclic one, as `blocks.rs` of the Rust has it.
+// What the rules of `blocks.rs` of the Rust share: how one ended, and the purse rule on a block's fields.
 use answers::status::Fault;
 
-pub mod cyclic;
 pub mod purse;
 
 // How a rule ended: the bytes lent to it are those to store, or it failed and they are as they were.

@@ -1,14 +1,11 @@
-// The purse rule: a stored value that is lowered, given back, or written outright.
-use crate::Written;
+// The purse rule on a block's fields: a stored value that is lowered, given back, or written outright.
 use answers::status::Fault;
 ghost use mathlib.Core.Path.{_≡_};
 ghost use mathlib.Core.Bool.{true};
-ghost use Prim.Native.Nat.{_+_, _≤_, _<_, _^_};
-ghost use lib.ListN.{length};
+ghost use Prim.Native.Nat.{_<_, _^_};
 ghost use lib.IntN.{pos, _+ℤ_, _-ℤ_};
 ghost use lib.Signed.{mag, ltZ};
-ghost use Rattle.blocks.specs.Outcome.{writtenOf, bytesAfter};
-ghost use Rattle.blocks.specs.Purse.{valueOf, insideOf, outsideOf, sumOf, purseRule, purseDataOf, purseOf};
+ghost use Rattle.blocks.specs.Purse.{valueOf, insideOf, outsideOf, sumOf, purseRule};
 
 // What a write to a purse block does, by the service's attribute and the access mode.
 pub enum PurseOperation {
@@ -219,46 +216,5 @@ pub fn purse_write(
         PurseOperation::Direct => direct(limit, stored, command),
         PurseOperation::Decrement => decrement(limit, stored, command),
         PurseOperation::Cashback => cashback(limit, stored, command),
-    }
-}
-
-// The fields of a block.
-fn purse_data(block: &[u8]) -> PurseData
-    requires { ⌜ 16 ≤ length (now block) ⌝ }
-    ensures { λ r. ⌜ r ≡ purseDataOf (now (block .entry)) ⌝ }
-{
-    PurseData {
-        purse: word::word(block, 0),
-        cashback: word::word(block, 4),
-        id: word::word(block, 12),
-    }
-}
-
-// The same rule on a block's sixteen bytes, in place.
-pub fn apply_purse_write(
-    block: &mut [u8],
-    command: &[u8],
-    operation: PurseOperation,
-    limit: Limit,
-) -> Written
-    requires { ⌜ (16 ≤ length (now block)) × (16 ≤ length (now command)) ⌝ }
-    ensures { λ r. ⌜ r ≡ writtenOf (purseOf operation limit (now (block .entry)) (now (command .entry))) ⌝ }
-    ensures { λ r. ⌜ now (block .exit) ≡ bytesAfter (now (block .entry)) (purseOf operation limit (now (block .entry)) (now (command .entry))) ⌝ }
-{
-    let stored = purse_data(block);
-    let asked = purse_data(command);
-    match purse_write(operation, limit, stored, asked) {
-        PurseWrite::Unchanged => Written::Done,
-        PurseWrite::Whole => {
-            spans::copy(block, 0, command, 0, 16);
-            Written::Done
-        }
-        PurseWrite::Stored { purse, cashback } => {
-            word::put_word(block, 0, purse);
-            word::put_word(block, 4, cashback);
-            spans::copy(block, 12, command, 12, 4);
-            Written::Done
-        }
-        PurseWrite::Failed(fault) => Written::Failed(fault),
     }
 }

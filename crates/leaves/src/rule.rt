@@ -1,7 +1,5 @@
 // Questions on the purse rule and the cyclic rule.
 use blocks::Written;
-use blocks::cyclic;
-use blocks::purse;
 use blocks::purse::Limit;
 use blocks::purse::PurseOperation;
 use stored::number32;

@@ -37,9 +37,9 @@ use Rattle.reader.proofs.Reader.new as reader·Reader·new
 use Rattle.reader.proofs.Reader.next as reader·Reader·next
 use Rattle.reader.proofs.Reader.is_finished as reader·Reader·is-finished
 use Rattle.reader.proofs.list_ends as reader·list-ends
-use Rattle.blocks.proofs.cyclic.apply_cyclic_write as blocks·apply-cyclic-write
 use Rattle.blocks.proofs.purse.purse_write as blocks·purse-write
-use Rattle.blocks.proofs.purse.apply_purse_write as blocks·apply-purse-write
+use Rattle.purse.proofs.apply_purse_write as purse·apply-purse-write
+use Rattle.cyclic.proofs.apply_cyclic_write as cyclic·apply-cyclic-write
 
 module _ {M : Type 1} (𝓤 : URA M) (H : Heap 𝓤) (A : Atoms 𝓤) (mem : Memory → SProp 𝓤) (run : Routine → Fun 𝓤) where
   pub spans·copy-once : OneAnswer 𝓤 spans·copy.ended (spans·copy.clauses 𝓤 H A mem run)
@@ -126,11 +126,11 @@ module _ {M : Type 1} (𝓤 : URA M) (H : Heap 𝓤) (A : Atoms 𝓤) (mem : Mem
   pub reader·list-ends-once : OneAnswer 𝓤 reader·list-ends.ended (reader·list-ends.clauses 𝓤 H A mem run)
   reader·list-ends-once κs a g r r′ ws ws′ = result 𝓤 refl
 
-  pub blocks·apply-cyclic-write-once : OneAnswer 𝓤 blocks·apply-cyclic-write.ended (blocks·apply-cyclic-write.clauses 𝓤 H A mem run)
-  blocks·apply-cyclic-write-once κs a g r r′ ws ws′ = of-two 𝓤 (λ p p′ q q′. (once p q, λ i. (once p′ q′ i, (tt, tt))))
+  pub cyclic·apply-cyclic-write-once : OneAnswer 𝓤 cyclic·apply-cyclic-write.ended (cyclic·apply-cyclic-write.clauses 𝓤 H A mem run)
+  cyclic·apply-cyclic-write-once κs a g r r′ ws ws′ = of-two 𝓤 (λ p p′ q q′. (once p q, λ i. (once p′ q′ i, (tt, tt))))
 
   pub blocks·purse-write-once : OneAnswer 𝓤 blocks·purse-write.ended (blocks·purse-write.clauses 𝓤 H A mem run)
   blocks·purse-write-once κs a g r r′ ws ws′ = result 𝓤 refl
 
-  pub blocks·apply-purse-write-once : OneAnswer 𝓤 blocks·apply-purse-write.ended (blocks·apply-purse-write.clauses 𝓤 H A mem run)
-  blocks·apply-purse-write-once κs a g r r′ ws ws′ = of-two 𝓤 (λ p p′ q q′. (once p q, λ i. (once p′ q′ i, (tt, (tt, (tt, tt))))))
+  pub purse·apply-purse-write-once : OneAnswer 𝓤 purse·apply-purse-write.ended (purse·apply-purse-write.clauses 𝓤 H A mem run)
+  purse·apply-purse-write-once κs a g r r′ ws ws′ = of-two 𝓤 (λ p p′ q q′. (once p q, λ i. (once p′ q′ i, (tt, (tt, (tt, tt))))))

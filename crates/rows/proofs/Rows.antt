@@ -20,8 +20,9 @@ use Rattle.blocks.specs.declared.purse.Limit.the-variants.{Unlimited, Limited}
 use Rattle.blocks.specs.declared.purse.PurseData.{PurseData}
 use Rattle.blocks.specs.declared.purse.PurseWrite.the-variants.{Unchanged, Stored, Failed}
 use Rattle.blocks.specs.Outcome.{passed, failed}
-use Rattle.blocks.specs.Cyclic.{cyclicOf}
-use Rattle.blocks.specs.Purse.{valueOf, insideOf, outsideOf, sumOf, storedOf, purseRule, purseDataOf, blockOf, purseOf}
+use Rattle.blocks.specs.Purse.{valueOf, insideOf, outsideOf, sumOf, storedOf, purseRule}
+use Rattle.cyclic.specs.Cyclic.{cyclicOf}
+use Rattle.purse.specs.Bytes.{purseDataOf, blockOf, purseOf}
 
 -- The fields of a purse block.
 abbrev fields : ℕ → ℕ → ℕ → PurseData

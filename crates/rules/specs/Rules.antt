@@ -12,8 +12,8 @@ use Rattle.blocks.specs.declared.purse.PurseOperation.{PurseOperation}
 use Rattle.blocks.specs.declared.purse.PurseOperation.the-variants.{Direct, Decrement, Cashback}
 use Rattle.blocks.specs.declared.purse.Limit.{Limit}
 use Rattle.blocks.specs.Outcome.{Outcome, passed, failed}
-use Rattle.blocks.specs.Cyclic.{cyclicOf}
-use Rattle.blocks.specs.Purse.{purseOf}
+use Rattle.cyclic.specs.Cyclic.{cyclicOf}
+use Rattle.purse.specs.Bytes.{purseOf}
 use Rattle.table.specs.declared.Row.{Row}
 use Rattle.rules.specs.Lens.{within}
 

@@ -1,8 +1,6 @@
 // What an element, and the end of a run, do to one store; and to that store where it lies in the stage.
 use answers::status::Fault;
 use blocks::Written;
-use blocks::cyclic;
-use blocks::purse;
 use blocks::purse::Limit;
 use blocks::purse::PurseOperation;
 use table::Row;

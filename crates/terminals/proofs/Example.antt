@@ -15,8 +15,9 @@ use Rattle.types.specs.Code.{numberOf, attributesOf, tableOf, decodedOf, attrib
 use Rattle.lists.specs.Element.{unpackAt, endsFrom, endsAfter, elementsFrom}
 use Rattle.spans.specs.Part.{part, put, sameBytes}
 use Rattle.word.specs.Word.{wordAt, wordBytes, signedOf, wordOf}
-use Rattle.blocks.specs.Cyclic.{cyclicOf}
-use Rattle.blocks.specs.Purse.{valueOf, insideOf, outsideOf, sumOf, storedOf, purseRule, purseDataOf, blockOf, purseOf}
+use Rattle.blocks.specs.Purse.{valueOf, insideOf, outsideOf, sumOf, storedOf, purseRule}
+use Rattle.cyclic.specs.Cyclic.{cyclicOf}
+use Rattle.purse.specs.Bytes.{purseDataOf, blockOf, purseOf}
 use Rattle.nodes.specs.Find.{firstFrom, openAt, parentFrom}
 use Rattle.grow.specs.Grow.{parentAt, outside, serviceUnder, sameKind, joinedTo, usable, newStore, placedOf}
 use Rattle.sound.specs.Sound.{isRoot, allRoots, stepOf, stepsFrom, stepsOf, soundOf}

@@ -3,7 +3,7 @@ use Prim.Native.Nat.{_*_}
 use native.Mathlib.Omega.{arith}
 use denote.Ref.{now}
 use borrow.Author.Needs.{needs}
-use Rattle.blocks.specs.Purse.{purseOf}
+use Rattle.purse.specs.Bytes.{purseOf}
 use Rattle.rules.proofs.Lent.{within-lent}
 use Rattle.rules.proofs.purse_in.Statement.{statement}
 use Rattle.rules.proofs.purse_in.Tie as tie

@@ -1,8 +1,8 @@
--- `blocks::purse::purse_data` meets its contract. Assumes nothing.
+-- `purse::purse_data` meets its contract. Assumes nothing.
 use borrow.Author.Needs.{needs}
-use Rattle.blocks.specs.Purse.{purseDataOf}
-use Rattle.blocks.proofs.purse.purse_data.Statement.{statement}
-use Rattle.blocks.proofs.purse.purse_data.Tie as tie
+use Rattle.purse.specs.Bytes.{purseDataOf}
+use Rattle.purse.proofs.purse_data.Statement.{statement}
+use Rattle.purse.proofs.purse_data.Tie as tie
 
 returns : tie.Need-returns
 unfolding purseDataOf

@@ -13,8 +13,8 @@ use borrow.Author.Tests.{lt-ltb, le-ltb}
 use Rattle.answers.specs.declared.status.Fault.the-variants.{CyclicTooLong}
 use Rattle.spans.specs.Part.{part, put, sameBytes}
 use Rattle.spans.proofs.Part.{put-cons, put-split, length-put, part-put, getD-put-apart}
 use Rattle.blocks.specs.Outcome.{passed, failed}
-use Rattle.blocks.specs.Cyclic.{cyclicOf}
+use Rattle.cyclic.specs.Cyclic.{cyclicOf}
 
 -- One byte more has moved, from q to p.
 shift-more

@@ -1,13 +1,13 @@
--- `blocks::cyclic::apply_cyclic_write` meets its contract: each way out is a case of the rule. Assumes nothing.
+-- `cyclic::apply_cyclic_write` meets its contract: each way out is a case of the rule. Assumes nothing.
 use native.Mathlib.Omega.{arith}
 use native.Mathlib.Nat.{sub-zero}
 use mathlib.Core.Path.{refl, sym, _∙_}
 use lib.ListN.{length}
 use denote.Ref.{now}
 use borrow.Author.Needs.{needs}
-use Rattle.blocks.proofs.Ring.{cyclic-long, cyclic-kept, cyclic-moved}
-use Rattle.blocks.proofs.cyclic.apply_cyclic_write.Statement.{statement}
-use Rattle.blocks.proofs.cyclic.apply_cyclic_write.Tie as tie
+use Rattle.cyclic.proofs.Ring.{cyclic-long, cyclic-kept, cyclic-moved}
+use Rattle.cyclic.proofs.apply_cyclic_write.Statement.{statement}
+use Rattle.cyclic.proofs.apply_cyclic_write.Tie as tie
 
 returns : tie.Need-returns
 returns c =

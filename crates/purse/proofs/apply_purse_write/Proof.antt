@@ -1,13 +1,13 @@
--- `blocks::purse::apply_purse_write` meets its contract: each way out is a case of the rule. Assumes nothing.
+-- `purse::apply_purse_write` meets its contract: each way out is a case of the rule. Assumes nothing.
 use mathlib.Core.Path.{_≡_, refl, sym, _∙_}
 use denote.Ref.{now}
 use borrow.Author.Needs.{needs}
 use Rattle.blocks.specs.declared.purse.PurseWrite.{PurseWrite}
 use Rattle.blocks.specs.declared.purse.PurseWrite.the-variants.{Unchanged, Whole, Stored, Failed}
-use Rattle.blocks.specs.Purse.{blockOf, purseOf}
-use Rattle.blocks.proofs.Rule.{stored-block}
-use Rattle.blocks.proofs.purse.apply_purse_write.Statement.{statement}
-use Rattle.blocks.proofs.purse.apply_purse_write.Tie as tie
+use Rattle.purse.specs.Bytes.{blockOf, purseOf}
+use Rattle.purse.proofs.Stores.{stored-block}
+use Rattle.purse.proofs.apply_purse_write.Statement.{statement}
+use Rattle.purse.proofs.apply_purse_write.Tie as tie
 
 -- What the rule makes of the fields decides.
 decided

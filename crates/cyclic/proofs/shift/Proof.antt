@@ -1,4 +1,4 @@
--- `blocks::cyclic::shift` meets its contract: the bytes from i on have moved. Assumes nothing.
+-- `cyclic::shift` meets its contract: the bytes from i on have moved. Assumes nothing.
 use Prim.Native.Nat.{_-_, _≤_}
 use native.Mathlib.Omega.{arith}
 use native.Mathlib.Nat.{sub-self}
@@ -7,9 +7,9 @@ use lib.ListN.{length, drop, length-set}
 use denote.Ref.{now}
 use Rattle.spans.specs.Part.{put}
 use Rattle.spans.proofs.Part.{put-zero}
-use Rattle.blocks.proofs.Ring.{shift-turn}
-use Rattle.blocks.proofs.cyclic.shift.Statement.{statement}
-use Rattle.blocks.proofs.cyclic.shift.Tie as tie
+use Rattle.cyclic.proofs.Ring.{shift-turn}
+use Rattle.cyclic.proofs.shift.Statement.{statement}
+use Rattle.cyclic.proofs.shift.Tie as tie
 
 abbrev Inv-loop : tie.InvT-loop
 Inv-loop store₀ n i₀ store i =

@@ -1,12 +1,12 @@
 // The cyclic rule: a run of blocks goes in front of a store.
-use crate::Written;
 use answers::status::Fault;
+use blocks::Written;
 ghost use mathlib.Core.Path.{_≡_};
 ghost use Prim.Native.Nat.{_-_, _≤_};
 ghost use lib.ListN.{length};
 ghost use Rattle.spans.specs.Part.{put};
 ghost use Rattle.blocks.specs.Outcome.{writtenOf, bytesAfter};
-ghost use Rattle.blocks.specs.Cyclic.{cyclicOf};
+ghost use Rattle.cyclic.specs.Cyclic.{cyclicOf};
 
 // Writes a run to a cyclic store, newest block first. A run that the store already begins with changes nothing.
 pub fn apply_cyclic_write(store: &mut [u8], run: &[u8]) -> Written
