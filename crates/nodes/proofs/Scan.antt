@@ -6,10 +6,6 @@ use native.Mathlib.Numerals.{add-one}
 use native.Mathlib.Omega.{arith}
 use lib.ListN.{take, drop, length, getD, length-take, drop-of-length-le}
 use lib.Seq.{drop-cons, getD-take}
-use borrow.Author.Tests.{eq-eqb, ne-eqb, lt-ltb, le-ltb, le-leb, lt-leb}
-
--- a test of numbers from the fact that the code's branch gives
-pub ruleset tests = (eq-eqb, ne-eqb, lt-ltb, le-ltb, le-leb, lt-leb)
 
 module _ {A : Type 0} (l : List A) (n i : ℕ) where
   -- what is left of the first n elements from i on is the element at i and what is left from i + 1 on

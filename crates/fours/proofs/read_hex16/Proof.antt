@@ -4,7 +4,7 @@ use native.Mathlib.Omega.{arith}
 use mathlib.Core.Path.{sym, ap, _∙_}
 use borrow.Author.Tests.{not-true, not-false}
 use denote.Ref.{now}
-use Rattle.digits.proofs.Tests.{tests}
+use Rattle.spans.proofs.Tests.{tests}
 use Rattle.fours.specs.Codes.{hex16}
 use Rattle.fours.specs.declared.Code.the-variants.{Is}
 use Rattle.fours.proofs.CodeLaws.{hex16-four, codes-one}

@@ -3,7 +3,7 @@ use mathlib.Core.Path.{_≡_, sym, _∙_, ap}
 use mathlib.Core.Bool.{false}
 use borrow.Author.Needs.{needs}
 use Rattle.grow.specs.Grow.{areaUnder, rootMisfit, outside}
-use Rattle.nodes.proofs.Scan.{tests}
+use Rattle.spans.proofs.Tests.{tests}
 use Rattle.grow.proofs.area_under.Statement.{statement}
 use Rattle.grow.proofs.area_under.Tie as tie
 

@@ -6,7 +6,7 @@ use borrow.Author.Needs.{needs}
 use Rattle.answers.specs.declared.refusal.Refusal.the-variants.{NoRoom}
 use Rattle.grow.specs.declared.Placed.the-variants.{Store, Refused}
 use Rattle.grow.specs.Grow.{newStore, usable}
-use Rattle.nodes.proofs.Scan.{tests}
+use Rattle.spans.proofs.Tests.{tests}
 use Rattle.grow.proofs.Growth.{usable-most}
 use Rattle.grow.proofs.new_store.Statement.{statement}
 use Rattle.grow.proofs.new_store.Tie as tie

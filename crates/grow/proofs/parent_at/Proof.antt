@@ -2,7 +2,7 @@
 use mathlib.Core.Path.{_∙_}
 use borrow.Author.Needs.{needs}
 use Rattle.grow.specs.Grow.{parentAt}
-use Rattle.nodes.proofs.Scan.{tests}
+use Rattle.spans.proofs.Tests.{tests}
 use Rattle.grow.proofs.parent_at.Statement.{statement}
 use Rattle.grow.proofs.parent_at.Tie as tie
 

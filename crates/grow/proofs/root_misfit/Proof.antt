@@ -1,6 +1,6 @@
 -- Each arm is its own case of the definition.
 use Rattle.grow.specs.Grow.{rootMisfit}
-use Rattle.nodes.proofs.Scan.{tests}
+use Rattle.spans.proofs.Tests.{tests}
 use Rattle.grow.proofs.root_misfit.Statement.{statement}
 use Rattle.grow.proofs.root_misfit.Tie as tie
 

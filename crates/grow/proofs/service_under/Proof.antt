@@ -2,7 +2,7 @@
 use mathlib.Core.Path.{sym, _∙_, ap}
 use borrow.Author.Needs.{needs}
 use Rattle.grow.specs.Grow.{serviceUnder, outside}
-use Rattle.nodes.proofs.Scan.{tests}
+use Rattle.spans.proofs.Tests.{tests}
 use Rattle.grow.proofs.service_under.Statement.{statement}
 use Rattle.grow.proofs.service_under.Tie as tie
 

@@ -1,7 +1,7 @@
 -- `hex::capital_of` meets its contract. Assumes nothing.
 use borrow.Author.Needs.{needs}
 use Rattle.hex.specs.Hex.{capital}
-use Rattle.digits.proofs.Tests.{tests}
+use Rattle.spans.proofs.Tests.{tests}
 use Rattle.hex.proofs.capital_of.Statement.{statement}
 use Rattle.hex.proofs.capital_of.Tie as tie
 

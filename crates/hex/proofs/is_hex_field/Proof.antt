@@ -1,7 +1,7 @@
 -- `hex::is_hex_field` meets its contract: the tests are those of `grouped 2`. Assumes nothing.
 use borrow.Author.Needs.{needs}
 use mathlib.Core.Path.{_∙_}
-use Rattle.digits.proofs.Tests.{tests}
+use Rattle.spans.proofs.Tests.{tests}
 use Rattle.hex.specs.Hex.{grouped, hexField}
 use Rattle.hex.proofs.is_hex_field.Statement.{statement}
 use Rattle.hex.proofs.is_hex_field.Tie as tie

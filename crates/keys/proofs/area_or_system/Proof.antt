@@ -1,7 +1,7 @@
 -- FFFF, or an area that was found.
 use mathlib.Core.Path.{_∙_, ap}
 use borrow.Author.Needs.{needs}
-use Rattle.nodes.proofs.Scan.{tests}
+use Rattle.spans.proofs.Tests.{tests}
 use Rattle.keys.specs.Keys.{isFound, areaOrSystem}
 use Rattle.keys.proofs.area_or_system.Statement.{statement}
 use Rattle.keys.proofs.area_or_system.Tie as tie

@@ -4,7 +4,7 @@ use Prim.Native.Nat.{_<_}
 use native.Mathlib.Omega.{arith}
 use borrow.Author.Needs.{needs}
 use borrow.Author.Tests.{ne-eqb}
-use Rattle.nodes.proofs.Scan.{tests}
+use Rattle.spans.proofs.Tests.{tests}
 use Rattle.nodes.proofs.Records.{Records, found-index}
 use Rattle.keys.specs.Keys.{versionOf}
 use Rattle.keys.proofs.Version.{found-version}

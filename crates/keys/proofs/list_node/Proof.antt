@@ -4,7 +4,7 @@ use mathlib.Core.Bool.{Bool, cond}
 use lib.ListN.{take}
 use borrow.Author.Needs.{needs}
 use Rattle.nodes.specs.Find.{serviceOf, areaOf}
-use Rattle.nodes.proofs.Scan.{tests}
+use Rattle.spans.proofs.Tests.{tests}
 use Rattle.keys.specs.declared.ListNode.the-variants.{Keyed, KeyFree}
 use Rattle.keys.specs.Keys.{isFound, listNodeOf}
 use Rattle.keys.proofs.list_node.Statement.{statement}

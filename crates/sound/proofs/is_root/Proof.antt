@@ -1,6 +1,6 @@
 -- The code compares the fields in the definition's order.
 use borrow.Author.Needs.{needs}
-use Rattle.nodes.proofs.Scan.{tests}
+use Rattle.spans.proofs.Tests.{tests}
 use Rattle.sound.specs.Sound.{isRoot}
 use Rattle.sound.proofs.is_root.Statement.{statement}
 use Rattle.sound.proofs.is_root.Tie as tie

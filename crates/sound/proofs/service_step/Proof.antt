@@ -1,6 +1,6 @@
 -- The record's start, then its count, is the one that the building gives.
 use borrow.Author.Needs.{needs}
-use Rattle.nodes.proofs.Scan.{tests}
+use Rattle.spans.proofs.Tests.{tests}
 use Rattle.sound.proofs.service_step.Statement.{statement}
 use Rattle.sound.proofs.service_step.Tie as tie
 

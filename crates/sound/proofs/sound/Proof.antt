@@ -6,7 +6,7 @@ use lib.ListN.{drop, getD}
 use borrow.Author.Needs.{needs}
 use borrow.Author.Tests.{not-true, not-false}
 use Rattle.nodes.specs.Node.{rootNode}
-use Rattle.nodes.proofs.Scan.{tests}
+use Rattle.spans.proofs.Tests.{tests}
 use Rattle.sound.specs.Sound.{isRoot, allRoots, soundOf}
 use Rattle.sound.proofs.Laws.{same-read}
 use Rattle.sound.proofs.sound.Statement.{statement}

@@ -1,7 +1,7 @@
 -- The code tests in the definition's order.
 use mathlib.Core.Path.{sym}
 use borrow.Author.Needs.{needs}
-use Rattle.nodes.proofs.Scan.{tests}
+use Rattle.spans.proofs.Tests.{tests}
 use Rattle.codec.specs.Node.{isRecord}
 use Rattle.codec.proofs.node.is_record.Statement.{statement}
 use Rattle.codec.proofs.node.is_record.Tie as tie

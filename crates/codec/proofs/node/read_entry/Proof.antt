@@ -1,6 +1,6 @@
 -- Kind 0 is an area, any other a service.
 use borrow.Author.Needs.{needs}
-use Rattle.nodes.proofs.Scan.{tests}
+use Rattle.spans.proofs.Tests.{tests}
 use Rattle.codec.proofs.node.read_entry.Statement.{statement}
 use Rattle.codec.proofs.node.read_entry.Tie as tie
 

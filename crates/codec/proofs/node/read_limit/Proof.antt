@@ -3,7 +3,7 @@ use mir.Syntax.{w32}
 use borrow.Author.Needs.{needs}
 use borrow.Author.Tests.{eq-eqb}
 use Rattle.word.proofs.Laws.{clean}
-use Rattle.nodes.proofs.Scan.{tests}
+use Rattle.spans.proofs.Tests.{tests}
 use Rattle.codec.proofs.node.read_limit.Statement.{statement}
 use Rattle.codec.proofs.node.read_limit.Tie as tie
 

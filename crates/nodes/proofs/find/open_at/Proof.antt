@@ -1,7 +1,7 @@
 -- An area one level up is the parent; any other node that is shallower leaves none.
 use borrow.Author.Needs.{needs}
 use Rattle.nodes.specs.Find.{openAt}
-use Rattle.nodes.proofs.Scan.{tests}
+use Rattle.spans.proofs.Tests.{tests}
 use Rattle.nodes.proofs.find.open_at.Statement.{statement}
 use Rattle.nodes.proofs.find.open_at.Tie as tie
 
