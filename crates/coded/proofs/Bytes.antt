@@ -5,7 +5,7 @@ use native.Mathlib.Omega.{arith}
 use native.Mathlib.Decide.{decLt}
 use lib.ListN.{length, take, drop, length-take, List·getD-eq-default}
 use lib.Seq.{getD-take, getD-drop}
-use Rattle.codec.specs.Fits.{Bytes}
+use Rattle.layout.specs.Fits.{Bytes}
 
 -- a part of bytes is bytes
 pub bytes-take : (n : ℕ) (s : List ℕ) → Bytes s → Bytes (take n s)

@@ -34,9 +34,9 @@ use Rattle.built.specs.Built.{Built}
 use Rattle.built.proofs.Built.{past-eight}
 use Rattle.built.proofs.Places.{area-deep, service-known}
 use Rattle.built.proofs.Laid.{sized}
-use Rattle.codec.specs.Node.{halfAt, nodeIn}
-use Rattle.codec.specs.Card.{nodesIn, cardBytes, cardIn, isCard, noCard, decodedOf}
-use Rattle.codec.specs.Fits.{LimitFits, EntryFits, NodeFits, Fits, Bytes}
+use Rattle.layout.specs.Node.{halfAt, nodeIn}
+use Rattle.layout.specs.Card.{nodesIn, cardBytes, cardIn, isCard, noCard, decodedOf}
+use Rattle.layout.specs.Fits.{LimitFits, EntryFits, NodeFits, Fits, Bytes}
 use Rattle.coded.proofs.Bytes.{bytes-take, bytes-drop}
 use Rattle.coded.proofs.Round.{written-is, card-says}
 

@@ -12,11 +12,11 @@ use Rattle.structure.specs.declared.card.Added.{Added}
 use Rattle.structure.specs.Card.{newCard, isSound, accepted}
 use Rattle.structure.specs.Build.{areaAdded, serviceAdded, limitAdded}
 use Rattle.built.proofs.Built.{built-sound, past-eight}
-use Rattle.codec.specs.Card.{cardPut, isCard, decodedOf}
-use Rattle.codec.specs.Fits.{LimitFits, Fits, Bytes}
+use Rattle.layout.specs.Card.{cardPut, isCard, decodedOf}
+use Rattle.layout.specs.Fits.{LimitFits, Fits, Bytes}
 use Rattle.coded.proofs.Round.{valid-long, read-back, unsound}
 use Rattle.coded.proofs.Fitting.{decoded-fits, new-fits, area-fits, service-fits, limit-fits}
-use Rattle.outcome.specs.Outcome.{cardAfter}
+use Rattle.building.specs.Kept.{cardAfter}
 
 -- bytes of a card's length, written anew
 put-back : (s : List ℕ) (c : Card) → length s ≡ 1288 → Fits c → decodedOf (cardPut c s) ≡ c

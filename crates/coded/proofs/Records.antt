@@ -18,8 +18,8 @@ use Rattle.nodes.specs.declared.node.Entry.{Entry}
 use Rattle.nodes.specs.declared.node.Entry.the-variants.{Area, Service}
 use Rattle.nodes.specs.declared.node.Node.{Node}
 use Rattle.structure.specs.Grow.{nodeAs}
-use Rattle.codec.specs.Node.{halfBytes, halfAt, nodeBytes, nodeIn, isRecord}
-use Rattle.codec.specs.Fits.{EntryFits, NodeFits, Bytes}
+use Rattle.layout.specs.Node.{halfBytes, halfAt, nodeBytes, nodeIn, isRecord}
+use Rattle.layout.specs.Fits.{EntryFits, NodeFits, Bytes}
 
 -- a digit to the base of 256, and those above it
 digit : (a b : ℕ) → a < 256 → ((a + 256 * b) % 256 ≡ a) × ((a + 256 * b) / 256 ≡ b)

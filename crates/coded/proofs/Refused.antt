@@ -17,7 +17,7 @@ use Rattle.plan.specs.Request.{Request}
 use Rattle.plan.specs.Plan.{judgedBy, planOf}
 use Rattle.plan.specs.Serve.{told, serve}
 use Rattle.block.specs.Block.{blockJudged}
-use Rattle.codec.specs.Card.{isCard, decodedOf}
+use Rattle.layout.specs.Card.{isCard, decodedOf}
 use Rattle.coded.proofs.Round.{unsound}
 
 module _ (s : List ℕ) (no : isCard s ≡ false) where

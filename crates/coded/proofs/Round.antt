@@ -12,11 +12,11 @@ use Rattle.nodes.specs.Node.{rootNode}
 use Rattle.sound.specs.Sound.{soundOf}
 use Rattle.structure.specs.declared.card.Card.{Card}
 use Rattle.structure.specs.Card.{isSound}
-use Rattle.codec.specs.Node.{halfBytes, halfAt, nodeBytes}
-use Rattle.codec.specs.Card.{nodesBytes, cardBytes, nodesIn, areRecords, cardIn, isCard, decodedOf}
-use Rattle.codec.specs.Fits.{NodeFits, Fits, Bytes}
+use Rattle.layout.specs.Node.{halfBytes, halfAt, nodeBytes}
+use Rattle.layout.specs.Card.{nodesBytes, cardBytes, nodesIn, areRecords, cardIn, isCard, decodedOf}
+use Rattle.layout.specs.Fits.{NodeFits, Fits, Bytes}
 use Rattle.coded.proofs.Bytes.{bytes-take, bytes-drop}
-use Rattle.codec.proofs.Long.{node-long}
+use Rattle.layout.proofs.Long.{node-long}
 use Rattle.coded.proofs.Records.{half-back, node-record, node-back, spread, spread-is, half-says, node-says}
 
 -- records are twenty bytes each

@@ -1,1 +1,1 @@
-// What a card's bytes keep, proved in proofs/ over the definitions of `codec` and `outcome`: no code.
+// What a card's bytes keep, proved in proofs/ over the definitions of `layout` and `building`: no code.

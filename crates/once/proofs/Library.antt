@@ -9,92 +9,68 @@ use ghost.Atoms.{Atoms}
 use contract.Monad.{Fun}
 use Rattle.once.specs.One.{OneAnswer}
 use Rattle.once.proofs.Law.{once, of-one, of-two, of-three, result}
-use Rattle.codec.proofs.decode as codec·decode
-use Rattle.codec.proofs.encode as codec·encode
+use Rattle.decoding.proofs.decode as decoding·decode
+use Rattle.encoding.proofs.encode as encoding·encode
 use Rattle.outcome.proofs.refused as outcome·refused
-use Rattle.outcome.proofs.answered as outcome·answered
-use Rattle.outcome.proofs.replied as outcome·replied
-use Rattle.outcome.proofs.kept as outcome·kept
-use Rattle.outcome.proofs.told as outcome·told
-use Rattle.outcome.proofs.listed as outcome·listed
-use Rattle.outcome.proofs.checked as outcome·checked
-use Rattle.handset.proofs.build.uluvoli_new as handset·uluvoli-new
-use Rattle.handset.proofs.build.uluvoli_add_area as handset·uluvoli-add-area
-use Rattle.handset.proofs.build.uluvoli_add_service as handset·uluvoli-add-service
-use Rattle.handset.proofs.build.uluvoli_set_limit as handset·uluvoli-set-limit
-use Rattle.handset.proofs.ask.uluvoli_directory as handset·uluvoli-directory
-use Rattle.handset.proofs.ask.uluvoli_total as handset·uluvoli-total
-use Rattle.handset.proofs.ask.uluvoli_key_version as handset·uluvoli-key-version
-use Rattle.handset.proofs.ask.uluvoli_area_list as handset·uluvoli-area-list
-use Rattle.handset.proofs.ask.uluvoli_service_list as handset·uluvoli-service-list
-use Rattle.handset.proofs.serve.uluvoli_read as handset·uluvoli-read
-use Rattle.handset.proofs.serve.uluvoli_write as handset·uluvoli-write
-use Rattle.handset.proofs.serve.uluvoli_set_block as handset·uluvoli-set-block
-use Rattle.handset.proofs.serve.uluvoli_stored_block as handset·uluvoli-stored-block
+use Rattle.building.proofs.uluvoli_new as building·uluvoli-new
+use Rattle.building.proofs.uluvoli_add_area as building·uluvoli-add-area
+use Rattle.building.proofs.uluvoli_add_service as building·uluvoli-add-service
+use Rattle.building.proofs.uluvoli_set_limit as building·uluvoli-set-limit
+use Rattle.asking.proofs.uluvoli_directory as asking·uluvoli-directory
+use Rattle.asking.proofs.uluvoli_total as asking·uluvoli-total
+use Rattle.asking.proofs.uluvoli_key_version as asking·uluvoli-key-version
+use Rattle.vetting.proofs.uluvoli_area_list as vetting·uluvoli-area-list
+use Rattle.vetting.proofs.uluvoli_service_list as vetting·uluvoli-service-list
+use Rattle.serving.proofs.uluvoli_read as serving·uluvoli-read
+use Rattle.serving.proofs.uluvoli_write as serving·uluvoli-write
+use Rattle.stowing.proofs.uluvoli_set_block as stowing·uluvoli-set-block
+use Rattle.stowing.proofs.uluvoli_stored_block as stowing·uluvoli-stored-block
 
 module _ {M : Type 1} (𝓤 : URA M) (H : Heap 𝓤) (A : Atoms 𝓤) (mem : Memory → SProp 𝓤) (run : Routine → Fun 𝓤) where
-  pub codec·decode-once : OneAnswer 𝓤 codec·decode.ended (codec·decode.clauses 𝓤 H A mem run)
-  codec·decode-once κs a g r r′ ws ws′ = result 𝓤 refl
+  pub decoding·decode-once : OneAnswer 𝓤 decoding·decode.ended (decoding·decode.clauses 𝓤 H A mem run)
+  decoding·decode-once κs a g r r′ ws ws′ = result 𝓤 refl
 
-  pub codec·encode-once : OneAnswer 𝓤 codec·encode.ended (codec·encode.clauses 𝓤 H A mem run)
-  codec·encode-once κs a g r r′ ws ws′ = of-one 𝓤 (λ p q. (refl, λ i. (tt, (once p q i, tt))))
+  pub encoding·encode-once : OneAnswer 𝓤 encoding·encode.ended (encoding·encode.clauses 𝓤 H A mem run)
+  encoding·encode-once κs a g r r′ ws ws′ = of-one 𝓤 (λ p q. (refl, λ i. (tt, (once p q i, tt))))
 
   pub outcome·refused-once : OneAnswer 𝓤 outcome·refused.ended (outcome·refused.clauses 𝓤 H A mem run)
   outcome·refused-once κs a g r r′ ws ws′ = result 𝓤 refl
 
-  pub outcome·answered-once : OneAnswer 𝓤 outcome·answered.ended (outcome·answered.clauses 𝓤 H A mem run)
-  outcome·answered-once κs a g r r′ ws ws′ = result 𝓤 refl
+  pub building·uluvoli-new-once : OneAnswer 𝓤 building·uluvoli-new.ended (building·uluvoli-new.clauses 𝓤 H A mem run)
+  building·uluvoli-new-once κs a g r r′ ws ws′ = of-two 𝓤 (λ p p′ q q′. (once p q, λ i. (once p′ q′ i, (tt, (tt, tt)))))
 
-  pub outcome·replied-once : OneAnswer 𝓤 outcome·replied.ended (outcome·replied.clauses 𝓤 H A mem run)
-  outcome·replied-once κs a g r r′ ws ws′ = result 𝓤 refl
+  pub building·uluvoli-add-area-once : OneAnswer 𝓤 building·uluvoli-add-area.ended (building·uluvoli-add-area.clauses 𝓤 H A mem run)
+  building·uluvoli-add-area-once κs a g r r′ ws ws′ = of-two 𝓤 (λ p p′ q q′. (once p q, λ i. (once p′ q′ i, (tt, (tt, (tt, (tt, tt)))))))
 
-  pub outcome·kept-once : OneAnswer 𝓤 outcome·kept.ended (outcome·kept.clauses 𝓤 H A mem run)
-  outcome·kept-once κs a g r r′ ws ws′ = of-two 𝓤 (λ p p′ q q′. (once p q, λ i. (tt, (once p′ q′ i, tt))))
+  pub building·uluvoli-add-service-once : OneAnswer 𝓤 building·uluvoli-add-service.ended (building·uluvoli-add-service.clauses 𝓤 H A mem run)
+  building·uluvoli-add-service-once κs a g r r′ ws ws′ = of-three 𝓤 (λ p p′ p″ q q′ q″. (once p q, λ i. (once p′ q′ i, (once p″ q″ i, (tt, (tt, (tt, (tt, tt))))))))
 
-  pub outcome·told-once : OneAnswer 𝓤 outcome·told.ended (outcome·told.clauses 𝓤 H A mem run)
-  outcome·told-once κs a g r r′ ws ws′ = of-two 𝓤 (λ p p′ q q′. (once p q, λ i. (tt, (once p′ q′ i, tt))))
+  pub building·uluvoli-set-limit-once : OneAnswer 𝓤 building·uluvoli-set-limit.ended (building·uluvoli-set-limit.clauses 𝓤 H A mem run)
+  building·uluvoli-set-limit-once κs a g r r′ ws ws′ = of-two 𝓤 (λ p p′ q q′. (once p q, λ i. (once p′ q′ i, (tt, (tt, (tt, tt))))))
 
-  pub outcome·listed-once : OneAnswer 𝓤 outcome·listed.ended (outcome·listed.clauses 𝓤 H A mem run)
-  outcome·listed-once κs a g r r′ ws ws′ = of-two 𝓤 (λ p p′ q q′. (once p q, λ i. (tt, (once p′ q′ i, tt))))
+  pub asking·uluvoli-directory-once : OneAnswer 𝓤 asking·uluvoli-directory.ended (asking·uluvoli-directory.clauses 𝓤 H A mem run)
+  asking·uluvoli-directory-once κs a g r r′ ws ws′ = of-three 𝓤 (λ p p′ p″ q q′ q″. (once p q, λ i. (tt, (once p′ q′ i, (once p″ q″ i, tt)))))
 
-  pub outcome·checked-once : OneAnswer 𝓤 outcome·checked.ended (outcome·checked.clauses 𝓤 H A mem run)
-  outcome·checked-once κs a g r r′ ws ws′ = of-two 𝓤 (λ p p′ q q′. (once p q, λ i. (tt, (once p′ q′ i, tt))))
+  pub asking·uluvoli-total-once : OneAnswer 𝓤 asking·uluvoli-total.ended (asking·uluvoli-total.clauses 𝓤 H A mem run)
+  asking·uluvoli-total-once κs a g r r′ ws ws′ = of-two 𝓤 (λ p p′ q q′. (once p q, λ i. (tt, (tt, (once p′ q′ i, tt)))))
 
-  pub handset·uluvoli-new-once : OneAnswer 𝓤 handset·uluvoli-new.ended (handset·uluvoli-new.clauses 𝓤 H A mem run)
-  handset·uluvoli-new-once κs a g r r′ ws ws′ = of-two 𝓤 (λ p p′ q q′. (once p q, λ i. (once p′ q′ i, (tt, (tt, tt)))))
+  pub asking·uluvoli-key-version-once : OneAnswer 𝓤 asking·uluvoli-key-version.ended (asking·uluvoli-key-version.clauses 𝓤 H A mem run)
+  asking·uluvoli-key-version-once κs a g r r′ ws ws′ = of-two 𝓤 (λ p p′ q q′. (once p q, λ i. (tt, (tt, (once p′ q′ i, tt)))))
 
-  pub handset·uluvoli-add-area-once : OneAnswer 𝓤 handset·uluvoli-add-area.ended (handset·uluvoli-add-area.clauses 𝓤 H A mem run)
-  handset·uluvoli-add-area-once κs a g r r′ ws ws′ = of-two 𝓤 (λ p p′ q q′. (once p q, λ i. (once p′ q′ i, (tt, (tt, (tt, (tt, tt)))))))
+  pub vetting·uluvoli-area-list-once : OneAnswer 𝓤 vetting·uluvoli-area-list.ended (vetting·uluvoli-area-list.clauses 𝓤 H A mem run)
+  vetting·uluvoli-area-list-once κs a g r r′ ws ws′ = of-two 𝓤 (λ p p′ q q′. (once p q, λ i. (tt, (tt, (once p′ q′ i, tt)))))
 
-  pub handset·uluvoli-add-service-once : OneAnswer 𝓤 handset·uluvoli-add-service.ended (handset·uluvoli-add-service.clauses 𝓤 H A mem run)
-  handset·uluvoli-add-service-once κs a g r r′ ws ws′ = of-three 𝓤 (λ p p′ p″ q q′ q″. (once p q, λ i. (once p′ q′ i, (once p″ q″ i, (tt, (tt, (tt, (tt, tt))))))))
+  pub vetting·uluvoli-service-list-once : OneAnswer 𝓤 vetting·uluvoli-service-list.ended (vetting·uluvoli-service-list.clauses 𝓤 H A mem run)
+  vetting·uluvoli-service-list-once κs a g r r′ ws ws′ = of-two 𝓤 (λ p p′ q q′. (once p q, λ i. (tt, (tt, (once p′ q′ i, tt)))))
 
-  pub handset·uluvoli-set-limit-once : OneAnswer 𝓤 handset·uluvoli-set-limit.ended (handset·uluvoli-set-limit.clauses 𝓤 H A mem run)
-  handset·uluvoli-set-limit-once κs a g r r′ ws ws′ = of-two 𝓤 (λ p p′ q q′. (once p q, λ i. (once p′ q′ i, (tt, (tt, (tt, tt))))))
+  pub serving·uluvoli-read-once : OneAnswer 𝓤 serving·uluvoli-read.ended (serving·uluvoli-read.clauses 𝓤 H A mem run)
+  serving·uluvoli-read-once κs a g r r′ ws ws′ = of-two 𝓤 (λ p p′ q q′. (once p q, λ i. (tt, (tt, (once p′ q′ i, (tt, (tt, (tt, (tt, tt)))))))))
 
-  pub handset·uluvoli-directory-once : OneAnswer 𝓤 handset·uluvoli-directory.ended (handset·uluvoli-directory.clauses 𝓤 H A mem run)
-  handset·uluvoli-directory-once κs a g r r′ ws ws′ = of-three 𝓤 (λ p p′ p″ q q′ q″. (once p q, λ i. (tt, (once p′ q′ i, (once p″ q″ i, tt)))))
+  pub serving·uluvoli-write-once : OneAnswer 𝓤 serving·uluvoli-write.ended (serving·uluvoli-write.clauses 𝓤 H A mem run)
+  serving·uluvoli-write-once κs a g r r′ ws ws′ = of-three 𝓤 (λ p p′ p″ q q′ q″. (once p q, λ i. (tt, (once p′ q′ i, (once p″ q″ i, (tt, (tt, (tt, (tt, (tt, tt))))))))))
 
-  pub handset·uluvoli-total-once : OneAnswer 𝓤 handset·uluvoli-total.ended (handset·uluvoli-total.clauses 𝓤 H A mem run)
-  handset·uluvoli-total-once κs a g r r′ ws ws′ = of-two 𝓤 (λ p p′ q q′. (once p q, λ i. (tt, (tt, (once p′ q′ i, tt)))))
+  pub stowing·uluvoli-set-block-once : OneAnswer 𝓤 stowing·uluvoli-set-block.ended (stowing·uluvoli-set-block.clauses 𝓤 H A mem run)
+  stowing·uluvoli-set-block-once κs a g r r′ ws ws′ = of-two 𝓤 (λ p p′ q q′. (once p q, λ i. (tt, (once p′ q′ i, (tt, (tt, (tt, tt)))))))
 
-  pub handset·uluvoli-key-version-once : OneAnswer 𝓤 handset·uluvoli-key-version.ended (handset·uluvoli-key-version.clauses 𝓤 H A mem run)
-  handset·uluvoli-key-version-once κs a g r r′ ws ws′ = of-two 𝓤 (λ p p′ q q′. (once p q, λ i. (tt, (tt, (once p′ q′ i, tt)))))
-
-  pub handset·uluvoli-area-list-once : OneAnswer 𝓤 handset·uluvoli-area-list.ended (handset·uluvoli-area-list.clauses 𝓤 H A mem run)
-  handset·uluvoli-area-list-once κs a g r r′ ws ws′ = of-two 𝓤 (λ p p′ q q′. (once p q, λ i. (tt, (tt, (once p′ q′ i, tt)))))
-
-  pub handset·uluvoli-service-list-once : OneAnswer 𝓤 handset·uluvoli-service-list.ended (handset·uluvoli-service-list.clauses 𝓤 H A mem run)
-  handset·uluvoli-service-list-once κs a g r r′ ws ws′ = of-two 𝓤 (λ p p′ q q′. (once p q, λ i. (tt, (tt, (once p′ q′ i, tt)))))
-
-  pub handset·uluvoli-read-once : OneAnswer 𝓤 handset·uluvoli-read.ended (handset·uluvoli-read.clauses 𝓤 H A mem run)
-  handset·uluvoli-read-once κs a g r r′ ws ws′ = of-two 𝓤 (λ p p′ q q′. (once p q, λ i. (tt, (tt, (once p′ q′ i, (tt, (tt, (tt, (tt, tt)))))))))
-
-  pub handset·uluvoli-write-once : OneAnswer 𝓤 handset·uluvoli-write.ended (handset·uluvoli-write.clauses 𝓤 H A mem run)
-  handset·uluvoli-write-once κs a g r r′ ws ws′ = of-three 𝓤 (λ p p′ p″ q q′ q″. (once p q, λ i. (tt, (once p′ q′ i, (once p″ q″ i, (tt, (tt, (tt, (tt, (tt, tt))))))))))
-
-  pub handset·uluvoli-set-block-once : OneAnswer 𝓤 handset·uluvoli-set-block.ended (handset·uluvoli-set-block.clauses 𝓤 H A mem run)
-  handset·uluvoli-set-block-once κs a g r r′ ws ws′ = of-two 𝓤 (λ p p′ q q′. (once p q, λ i. (tt, (once p′ q′ i, (tt, (tt, (tt, tt)))))))
-
-  pub handset·uluvoli-stored-block-once : OneAnswer 𝓤 handset·uluvoli-stored-block.ended (handset·uluvoli-stored-block.clauses 𝓤 H A mem run)
-  handset·uluvoli-stored-block-once κs a g r r′ ws ws′ = of-two 𝓤 (λ p p′ q q′. (once p q, λ i. (tt, (tt, (tt, (tt, (once p′ q′ i, tt)))))))
+  pub stowing·uluvoli-stored-block-once : OneAnswer 𝓤 stowing·uluvoli-stored-block.ended (stowing·uluvoli-stored-block.clauses 𝓤 H A mem run)
+  stowing·uluvoli-stored-block-once κs a g r r′ ws ws′ = of-two 𝓤 (λ p p′ q q′. (once p q, λ i. (tt, (tt, (tt, (tt, (once p′ q′ i, tt)))))))

@@ -1,0 +1,2 @@
+-- How the loop goes over the records.
+mod Turns

@@ -1,0 +1,3 @@
+-- How a record is written, and how the loop goes over them.
+mod Writes
+mod Turns

@@ -1,0 +1,2 @@
+-- How long a record is, and where it lies.
+pub mod Long

@@ -1,0 +1,73 @@
+// Stored blocks of a card in the caller's bytes, one by one: calls for programs in C and Rust.
+use answers::refusal::Refusal;
+use grow::Answer;
+ghost use mathlib.Core.Path.{_≡_};
+ghost use lib.ListN.{length};
+ghost use Rattle.block.specs.Block.{blockJudged};
+ghost use Rattle.layout.specs.Card.{decodedOf};
+ghost use Rattle.outcome.specs.Outcome.{answerAs};
+ghost use Rattle.stowing.specs.Block.{setAnswer, setAfter, placeAfter};
+
+// How a call ended.
+fn answered(answer: Answer) -> u32
+    ensures { λ r. ⌜ r ≡ answerAs answer ⌝ }
+{
+    match answer {
+        Answer::Done => 0,
+        Answer::Refused(refusal) => outcome::refused(refusal),
+    }
+}
+
+// Sixteen bytes as an array.
+fn sixteen(block: &[u8]) -> [u8; 16]
+    requires { ⌜ length (now block) ≡ 16 ⌝ }
+    ensures { λ r. ⌜ r ≡ now (block .entry) ⌝ }
+{
+    let mut own = [0u8; 16];
+    spans::copy(&mut own, 0, block, 0, 16);
+    own
+}
+
+// Sets a stored block to sixteen bytes.
+#[no_mangle]
+pub extern "C" fn uluvoli_set_block(
+    card: &[u8],
+    arena: &mut [u8],
+    code: u16,
+    number: u32,
+    block: &[u8],
+) -> u32
+    ensures { λ r. ⌜ r ≡ answerAs (setAnswer (decodedOf (now (card .entry))) (length (now (arena .entry))) code number (now (block .entry))) ⌝ }
+    ensures { λ _. ⌜ now (arena .exit) ≡ setAfter (decodedOf (now (card .entry))) (now (arena .entry)) code number (now (block .entry)) ⌝ }
+{
+    if block.len() != 16 {
+        return outcome::refused(Refusal::MalformedImage);
+    }
+    let bytes = sixteen(block);
+    let own = decoding::decode(card);
+    answered(block::set_block(own, arena, code, number, bytes))
+}
+
+// Where a stored block lies in the arena.
+#[no_mangle]
+pub extern "C" fn uluvoli_stored_block(
+    card: &[u8],
+    arena: &[u8],
+    code: u16,
+    number: u32,
+    offset: &mut usize,
+) -> u32
+    ensures { λ r. ⌜ r ≡ answerAs (blockJudged (decodedOf (now (card .entry))) (length (now (arena .entry))) code number) ⌝ }
+    ensures { λ _. ⌜ now (offset .exit) ≡ placeAfter (now (offset .entry)) (decodedOf (now (card .entry))) (length (now (arena .entry))) code number ⌝ }
+{
+    let own = decoding::decode(card);
+    match block::judge_block(own, arena.len(), code, number) {
+        Answer::Refused(refusal) => outcome::refused(refusal),
+        Answer::Done => {
+            let nodes = own.nodes;
+            let found = table::row_of(nodes, own.count, code);
+            *offset = 16 * (found.start as usize + number as usize);
+            0
+        }
+    }
+}

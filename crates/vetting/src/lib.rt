@@ -1,0 +1,44 @@
+// Whether lists for a card in the caller's bytes are well formed: calls for programs in C and Rust.
+use query::Checked;
+ghost use mathlib.Core.Path.{_≡_};
+ghost use Rattle.query.specs.Query.{areaListAnswer, serviceListAnswer};
+ghost use Rattle.layout.specs.Card.{decodedOf};
+ghost use Rattle.vetting.specs.Checked.{checkedAs, checkedAfter};
+
+// Whether a list is well formed.
+fn checked(answer: Checked, out: &mut bool) -> u32
+    ensures { λ r. ⌜ r ≡ checkedAs answer ⌝ }
+    ensures { λ _. ⌜ now (out .exit) ≡ checkedAfter (now (out .entry)) answer ⌝ }
+{
+    match answer {
+        Checked::Refused(refusal) => outcome::refused(refusal),
+        Checked::WellFormed => {
+            *out = true;
+            0
+        }
+        Checked::Malformed => {
+            *out = false;
+            0
+        }
+    }
+}
+
+// Whether an area list is well formed.
+#[no_mangle]
+pub extern "C" fn uluvoli_area_list(card: &[u8], areas: &[u16], well_formed: &mut bool) -> u32
+    ensures { λ r. ⌜ r ≡ checkedAs (areaListAnswer (decodedOf (now (card .entry))) (now (areas .entry))) ⌝ }
+    ensures { λ _. ⌜ now («well_formed» .exit) ≡ checkedAfter (now («well_formed» .entry)) (areaListAnswer (decodedOf (now (card .entry))) (now (areas .entry))) ⌝ }
+{
+    let own = decoding::decode(card);
+    checked(query::area_list_well_formed(own, areas), well_formed)
+}
+
+// Whether a service list is well formed.
+#[no_mangle]
+pub extern "C" fn uluvoli_service_list(card: &[u8], services: &[u16], well_formed: &mut bool) -> u32
+    ensures { λ r. ⌜ r ≡ checkedAs (serviceListAnswer (decodedOf (now (card .entry))) (now (services .entry))) ⌝ }
+    ensures { λ _. ⌜ now («well_formed» .exit) ≡ checkedAfter (now («well_formed» .entry)) (serviceListAnswer (decodedOf (now (card .entry))) (now (services .entry))) ⌝ }
+{
+    let own = decoding::decode(card);
+    checked(query::service_list_well_formed(own, services), well_formed)
+}
