@@ -56,11 +56,12 @@ hex16-back n h =
     (omega arith) in
     hex16-four t refl d ∙ ap Is e
 
--- What is no hex field is no joined codes.
+-- Where a test fails, so does one that passes less.
 narrower : (a b d : Bool) → (a ≡ true → b ≡ true) → (b && d) ≡ false → (a && d) ≡ false
 narrower true b d h e = rw (h refl) at e
 narrower false b d h e = refl
 
+-- What is no hex field is no joined codes.
 pub codes-not : (s : List ℕ) → hexField s ≡ false → codesField s ≡ false
 unfolding grouped hexField codesField
 codes-not [] e = refl
@@ -76,11 +77,12 @@ pub codes-none : (s : List ℕ) → length s ≡ 1 → hexField s ≡ true → c
 unfolding grouped hexField codesField
 codes-none s h e = rw (eq-eqb (length s) 1 h) (rw (eq-eqb (length s) 1 h) at e)
 
--- A longer one is joined codes where it is whole codes.
+-- A test that ends in true.
 and-true : (b : Bool) → (b && true) ≡ b
 and-true true = refl
 and-true false = refl
 
+-- A longer hex field is joined codes where it is whole codes.
 pub codes-some : (s : List ℕ) → (length s ≡ 1 → ⊥) → hexField s ≡ true → codesField s ≡ eqb (length s % 4) 0
 unfolding grouped hexField codesField
 codes-some [] h e = absurd (false≢true e)
