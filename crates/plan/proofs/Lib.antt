@@ -4,3 +4,9 @@ mod Plans
 pub mod Serves
 pub mod Ready
 pub mod Fits
+pub mod Accepted
+pub mod ReadLaws
+pub mod Codes
+pub mod Same
+mod Walks
+pub mod Frame

@@ -51,6 +51,13 @@ planServed c a r (go es) = carried (r .write) (rowsIn c r) (16 * c .used) (r .se
 unfoldable pub serve : Card → List ℕ → Request → Served
 serve c a r = planServed c a r (planOf c (length a) r)
 
+-- how many bytes a read puts out: sixteen for each element, if it is carried out
+abbrev pub readLong : Reply → ℕ → ℕ
+readLong (Refused r) count = 0
+readLong Done count = 16 * count
+readLong ShortData count = 0
+readLong (Failed i f) count = 0
+
 -- output: beyond the answer it stays as it was
 abbrev pub outputAfter : List ℕ → Served → List ℕ
 outputAfter out x = put out 0 (length (x .read)) (x .read)

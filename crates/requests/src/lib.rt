@@ -7,7 +7,8 @@ ghost use mathlib.Core.Path.{_≡_};
 ghost use Prim.Native.Nat.{_≤_};
 ghost use lib.ListN.{length};
 ghost use Rattle.asks.specs.Ask.{askOf};
-ghost use Rattle.served.specs.Line.{readLong, bytesRead, lineServed, workAfter, bytesAfter};
+ghost use Rattle.plan.specs.Serve.{readLong};
+ghost use Rattle.served.specs.Line.{bytesRead, lineServed, workAfter, bytesAfter};
 ghost use Rattle.requests.specs.Answered.{answeredLine};
 
 // What was printed of a line.

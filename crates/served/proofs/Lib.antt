@@ -1,4 +1,3 @@
 -- What callers cite, and what this crate's proofs share.
 pub mod Lines
 mod Parts
-mod Served

@@ -16,13 +16,14 @@ use Rattle.plan.specs.declared.Reply.{Reply}
 use Rattle.plan.specs.declared.Reply.the-variants.{Refused}
 use Rattle.plan.specs.Request.{readRequest, writeRequest}
 use Rattle.plan.specs.Serve.{Served, serve, outputAfter, stagingBy}
+use Rattle.plan.proofs.ReadLaws.{read-said, write-read}
+use Rattle.plan.proofs.Codes.{cut}
 use Rattle.asks.specs.declared.Ask.{Ask}
 use Rattle.asks.specs.declared.Ask.the-variants.{Malformed, Read, Write}
 use Rattle.asks.specs.Ask.{fieldIn, askOf}
 use Rattle.asks.proofs.Asking.{Fields}
 use Rattle.served.specs.Line.{codesIn, listIn, dataIn, bytesRead, askServed, lineServed, workBy, workAfter, spelledBy, bytesAfter}
 use Rattle.served.proofs.Parts.{front-put, both, first, second}
-use Rattle.served.proofs.Served.{read-said, write-read, cut}
 
 module _ {line : List ℕ} (f : Fields line) {room : ℕ} (h : 16384 ≤ room) where
   -- There is room for a list.

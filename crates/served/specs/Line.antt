@@ -8,9 +8,9 @@ use Rattle.hex.specs.Hex.{unhex}
 use Rattle.fours.specs.Codes.{codesOf}
 use Rattle.structure.specs.declared.card.Card.{Card}
 use Rattle.plan.specs.declared.Reply.{Reply}
-use Rattle.plan.specs.declared.Reply.the-variants.{Refused, Done, ShortData, Failed}
+use Rattle.plan.specs.declared.Reply.the-variants.{Refused}
 use Rattle.plan.specs.Request.{readRequest, writeRequest}
-use Rattle.plan.specs.Serve.{Served, told, serve, outputAfter, stagingBy}
+use Rattle.plan.specs.Serve.{Served, told, serve, readLong, outputAfter, stagingBy}
 use Rattle.asks.specs.declared.Ask.{Ask}
 use Rattle.asks.specs.declared.Ask.the-variants.{Malformed, Read, Write}
 use Rattle.asks.specs.Ask.{fieldIn, askOf}
@@ -25,14 +25,7 @@ listIn line = unhex (fieldIn line 4)
 abbrev pub dataIn : List ℕ → List ℕ
 dataIn line = unhex (fieldIn line 5)
 
--- how many bytes a read puts out: sixteen for each element, if it is carried out
-abbrev pub readLong : Reply → ℕ → ℕ
-readLong (Refused r) count = 0
-readLong Done count = 16 * count
-readLong ShortData count = 0
-readLong (Failed i f) count = 0
-
--- and how many what is asked puts out
+-- how many bytes what is asked puts out
 abbrev pub bytesRead : Reply → Ask → ℕ
 bytesRead reply Malformed = 0
 bytesRead reply (Read keyless count) = readLong reply count

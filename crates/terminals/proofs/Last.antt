@@ -13,13 +13,14 @@ use Rattle.built.proofs.Laid.{laid, sized}
 use Rattle.plan.specs.declared.Reply.the-variants.{Done}
 use Rattle.plan.specs.Request.{Request}
 use Rattle.plan.specs.Serve.{serve}
+use Rattle.plan.proofs.Accepted.{accepted, done-or-left, read-leaves}
+use Rattle.plan.proofs.Same.{Same, same-refl, same-trans, part-same}
+use Rattle.plan.proofs.Frame.{serve-spares}
 use Rattle.terminals.specs.Orders.{after}
 use Rattle.terminals.specs.Two.{Names, answerOf, arenaAfter}
 use Rattle.terminals.specs.Last.{Quiet, arenaThen, TowerReads}
-use Rattle.terminals.proofs.Same.{Same, same-refl, same-trans, part-same}
-use Rattle.terminals.proofs.Frame.{serve-spares}
 use Rattle.terminals.proofs.Owned.{Holds, lies-holds, own-row, one-number, one-store}
-use Rattle.terminals.proofs.Accepted.{accepted, done-or-left, read-leaves, named-owner}
+use Rattle.terminals.proofs.Named.{named-owner}
 use Rattle.terminals.proofs.Written.{row, row-owner, block-fits, wrote}
 use Rattle.terminals.proofs.Given.{given}
 

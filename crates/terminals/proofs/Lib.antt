@@ -1,12 +1,9 @@
 -- The theorems: Two (two terminals), Runs (the same of the program's own calls), Last (the tower). Example computes orders of both
 -- kinds. The others are what these cite.
 mod Generic
-mod Same
-mod Walks
-mod Frame
 mod Owned
 mod Folds
-mod Accepted
+mod Named
 mod Stored
 mod Written
 mod Given

@@ -20,8 +20,8 @@ use Rattle.built.proofs.Laid.{nodeAt, Laid, served, shared, apart}
 use Rattle.table.specs.declared.Row.{Row}
 use Rattle.table.specs.Row.{rowBy, rowAt, rowOf, rowsOf, rowAtIndex, rowIn}
 use Rattle.checks.proofs.Laws.{Good}
+use Rattle.plan.proofs.Frame.{LiesIn}
 use Rattle.terminals.specs.Two.{Any}
-use Rattle.terminals.proofs.Frame.{LiesIn}
 
 -- a row is that of a service of the code
 pub record Owner (ns : List Node) (code : ℕ) (w : Row) : Type 0 where

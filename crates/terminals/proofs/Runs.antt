@@ -8,10 +8,10 @@ use mathlib.Core.Logic.{inl, inr}
 use Rattle.structure.specs.declared.card.Card.{Card}
 use Rattle.built.specs.Built.{Built}
 use Rattle.plan.specs.Serve.{stagingBy}
+use Rattle.plan.proofs.Accepted.{read-leaves}
 use Rattle.terminals.specs.Orders.{Terminal, one, two, Sent, by, only, all, after, answers, told, Undisturbed}
 use Rattle.terminals.specs.Two.{Answer, outputOf, stagingOf, Any, Names, NoneShared}
 use Rattle.terminals.specs.Runs.{Call, reads, writes, requestOf, Left, Did, Turn, Ran, callsOf, requestsOf, TwoRuns}
-use Rattle.terminals.proofs.Accepted.{read-leaves}
 use Rattle.terminals.proofs.Two.{leftOf, arenaOf, two-askers}
 
 -- what a call leaves, by its answer

@@ -12,11 +12,11 @@ use Rattle.table.specs.Row.{rowAtIndex}
 use Rattle.plan.specs.Request.{Request}
 use Rattle.plan.specs.Plan.{rowsIn}
 use Rattle.plan.specs.Serve.{serve, outputAfter, stagingBy}
+use Rattle.plan.proofs.Same.{Same, same-refl, same-sym, same-trans, same-whole}
+use Rattle.plan.proofs.Frame.{LiesIn, serve-keeps, serve-spares}
 use Rattle.terminals.specs.Orders.{Terminal, one, two, Sent, only, Undisturbed}
 use Rattle.terminals.specs.Two.{Answer, answerOf, outputOf, stagingOf, arenaAfter, Any, Names, TwoTerminals}
 use Rattle.terminals.proofs.Generic.{All, other, Views, undisturbed}
-use Rattle.terminals.proofs.Same.{Same, same-refl, same-sym, same-trans, same-whole}
-use Rattle.terminals.proofs.Frame.{LiesIn, serve-keeps, serve-spares}
 use Rattle.terminals.proofs.Owned.{Holds, own-row, one-number}
 
 -- The terminals ask by whatever makes a request (`ask`), and keep of the answer whatever they keep (`leave`): requests and their

@@ -24,11 +24,12 @@ use Rattle.plan.specs.Request.{Request}
 use Rattle.plan.specs.Plan.{rowsIn, elementsIn}
 use Rattle.plan.specs.Serve.{serve}
 use Rattle.plan.proofs.Ready.{rows-within}
+use Rattle.plan.proofs.Accepted.{Accepted, accepted, nothing, counted, each-passed, stores-put}
 use Rattle.terminals.specs.Two.{arenaAfter}
 use Rattle.terminals.specs.Last.{elementAt, codeAt, LastBrings}
 use Rattle.terminals.proofs.Owned.{Owner}
 use Rattle.terminals.proofs.Folds.{AllFrom, folded-last}
-use Rattle.terminals.proofs.Accepted.{Accepted, accepted, nothing, counted, each-passed, named-good, named-owner, stores-put}
+use Rattle.terminals.proofs.Named.{named-good, named-owner}
 use Rattle.terminals.proofs.Stored.{part-of-put, hits, dataAt, Checks, block-staged}
 
 -- a test that is not true is false

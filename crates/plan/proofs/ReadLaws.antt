@@ -1,54 +1,62 @@
--- What any read and any write come to: what they leave as it was, and how many bytes are read. Assumes nothing.
-use Prim.Native.Nat.{ℕ, _*_, _≤_, _<_}
+-- What reads give: the blocks that their elements name, one after the other, and how many bytes those are. Assumes nothing.
+use Prim.Native.Nat.{ℕ, zero, suc, _+_, _*_, _≤_, _<_}
 use native.Mathlib.Omega.{arith}
-use native.Mathlib.Decide.{decLt}
-use mathlib.Core.Path.{_≡_, refl, sym, ap, _∙_}
-use mathlib.Core.Bool.{Bool, true, false, cond}
+use mathlib.Core.Path.{_≡_, refl, _∙_}
+use mathlib.Core.Bool.{Bool, true, false}
 use mathlib.Core.List.{List, [], _∷_}
-use lib.Dec.{ltb}
-use lib.ListN.{length, take, length-append, length-take}
-use lib.Seq.{take-all}
-use borrow.Author.Tests.{lt-ltb}
-use Rattle.answers.specs.declared.refusal.Refusal.{Refusal}
-use Rattle.answers.specs.declared.refusal.Refusal.the-variants.{TooManyElements, TooManyCodes, NotBuilt}
+use lib.ListN.{length, take, getD, length-append}
+use lib.Seq.{take-at, drop-append-add}
 use Rattle.lists.specs.declared.element.BlockListElement.{BlockListElement}
-use Rattle.lists.specs.Element.{endsAfter, elementsFrom}
+use Rattle.lists.specs.Element.{endsAfter}
 use Rattle.lists.proofs.Lists.{ends-count}
 use Rattle.spans.specs.Part.{part}
-use Rattle.spans.proofs.Part.{length-part}
+use Rattle.spans.proofs.Part.{length-part, part-part}
 use Rattle.structure.specs.declared.card.Card.{Card}
-use Rattle.structure.specs.Card.{isSound}
 use Rattle.table.specs.declared.Row.{Row}
+use Rattle.table.specs.Row.{rowIn}
 use Rattle.checks.specs.declared.check.Checked.{Checked}
 use Rattle.checks.specs.declared.check.Checked.the-variants.{Passed, Failed as FailedAt}
-use Rattle.table.specs.Row.{rowIn}
 use Rattle.checks.specs.Check.{checkedFrom}
 use Rattle.runs.specs.Runs.{Walked, bad, good}
 use Rattle.runs.specs.Staged.{staged}
-use Rattle.runs.specs.Ready.{AllReady}
-use Rattle.plan.specs.declared.Reply.{Reply}
+use Rattle.runs.specs.Ready.{Ready, AllReady}
 use Rattle.plan.specs.declared.Judged.{Judged}
 use Rattle.plan.specs.declared.Judged.the-variants.{Refused as NotFit, ShortData as NoData, Fit}
-use Rattle.plan.specs.declared.Reply.the-variants.{Refused}
 use Rattle.plan.specs.Request.{Request, readRequest, writeRequest}
-use Rattle.plan.specs.Plan.{judgedBy, lengthsOf, judgedOf, rowsIn, elementsIn, checkedPlan, judgedPlan, planOf}
-use Rattle.plan.specs.Serve.{Served, told, storeIn, blocksRead, committed, carried, planServed, serve}
+use Rattle.plan.specs.Plan.{lengthsOf, judgedOf, rowsIn, elementsIn, checkedPlan, judgedPlan, planOf}
+use Rattle.plan.specs.Serve.{Served, storeIn, blocksRead, committed, carried, planServed, serve, readLong}
 use Rattle.plan.proofs.Ready.{fits, all-ready}
-use Rattle.plan.proofs.Serves.{refused}
-use Rattle.served.specs.Line.{readLong}
+use Rattle.plan.proofs.Accepted.{nothing}
 
--- Elements that are ready name sixteen bytes each.
-blocks-long
-    : (rows : List Row) (a : List ℕ) (es : List BlockListElement) → AllReady rows (length a) es
-    → length (blocksRead rows a es) ≡ 16 * length es
-unfolding blocksRead
-blocks-long rows a [] r = refl
-blocks-long rows a (e ∷ es) r =
-    let w = rowIn rows e in
-    let p = part (storeIn a w) (16 * e .number) 16 in
-    let l = length-part a (16 * w .start) (16 * w .blocks) (r .0 .stored) in
-    let b : length p ≡ 16 = length-part (storeIn a w) (16 * e .number) 16 (omega (arith, r .0 .block)) in
-    omega (arith, length-append p (blocksRead rows a es), blocks-long rows a es (r .1))
+-- The blocks read, element by element.
+module _ (rows : List Row) (a : List ℕ) where
+  -- one of them
+  read-block : (e : BlockListElement) → Ready rows (length a) e →
+      part (storeIn a (rowIn rows e)) (16 * e .number) 16 ≡ part a (16 * rowIn rows e .start + 16 * e .number) 16
+  read-block e f = let w = rowIn rows e in part-part a (16 * w .start) (16 * w .blocks) (16 * e .number) 16 (let b = f .block in omega arith)
+
+  -- has sixteen bytes
+  sixteen : (e : BlockListElement) → Ready rows (length a) e → length (part (storeIn a (rowIn rows e)) (16 * e .number) 16) ≡ 16
+  sixteen e f =
+      rw (read-block e f) (length-part a (16 * rowIn rows e .start + 16 * e .number) 16 (let b = f .block in let s = f .stored in omega arith))
+
+  -- all of them
+  pub read-long : (es : List BlockListElement) → AllReady rows (length a) es → length (blocksRead rows a es) ≡ 16 * length es
+  unfolding blocksRead
+  read-long [] f = refl
+  read-long (e ∷ es) f = simp length-append (omega (arith, sixteen e (f .0), read-long es (f .1)))
+
+  -- each stands at its own place
+  pub read-at : (es : List BlockListElement) (j : ℕ) → AllReady rows (length a) es → j < length es →
+      let e = getD es j nothing in part (blocksRead rows a es) (16 * j) 16 ≡ part a (16 * rowIn rows e .start + 16 * e .number) 16
+  unfolding blocksRead part
+  read-at [] j f h = absurd (omega arith)
+  read-at (e ∷ es) zero f h =
+      take-at (part (storeIn a (rowIn rows e)) (16 * e .number) 16) (blocksRead rows a es) 16 (sixteen e (f .0)) ∙ read-block e (f .0)
+  read-at (e ∷ es) (suc j) f h =
+      let p = part (storeIn a (rowIn rows e)) (16 * e .number) 16 in
+      let q : 16 * suc j ≡ length p + 16 * j = omega (arith, sixteen e (f .0)) in
+      rw (q, drop-append-add p (blocksRead rows a es) (16 * j)) (read-at es j (f .1) (omega arith))
 
 -- What a read says: the arena is as it was, and the bytes read are sixteen for each element, which the output has room for, or none.
 pub record ReadSaid (a : List ℕ) (r : Request) (x : Served) : Type 0 where
@@ -74,7 +82,7 @@ module _ (c : Card) (a : List ℕ) (keyless : Bool) (codes : List ℕ) (count : 
       let es = elementsIn reading in
       let g = all-ready c h (f .sound) codes false keyless es e (length a) (f .arena) in
       let n = ends-count list count 0 (f .ends) in
-      let l : length (blocksRead (rowsIn c reading) a es) ≡ 16 * count = omega (arith, blocks-long (rowsIn c reading) a es g, n) in
+      let l : length (blocksRead (rowsIn c reading) a es) ≡ 16 * count = omega (arith, read-long (rowsIn c reading) a es g, n) in
       record { kept = refl; long = l; room = omega (arith, f .output refl); most = omega (arith, f .few) }
 
   -- by how it is judged
@@ -115,43 +123,3 @@ module _ (c : Card) (a : List ℕ) (keyless : Bool) (codes : List ℕ) (count : 
   pub write-read : serve c a writing .read ≡ []
   unfolding serve planOf
   write-read = judgement-read (judgedOf c (length a) writing)
-
--- The refusal of a request of more than sixteen codes: 8, 1, 2.
-abbrev manyRefusal : Bool → Bool → Refusal
-manyRefusal true true = TooManyElements
-manyRefusal true false = TooManyCodes
-manyRefusal false e = NotBuilt
-
--- It is refused so.
-many-judged
-    : (s e : Bool) → cond s (cond e (NotFit TooManyElements) (NotFit TooManyCodes)) (NotFit NotBuilt) ≡ NotFit (manyRefusal s e)
-many-judged true true = refl
-many-judged true false = refl
-many-judged false true = refl
-many-judged false false = refl
-
--- a request with other codes
-abbrev pub coded : Request → List ℕ → Request
-coded r codes = record {
-  write = r .write;
-  keyless = r .keyless;
-  codes = codes;
-  count = r .count;
-  list = r .list;
-  sent = r .sent;
-  room = r .room;
-}
-
-module _ (c : Card) (a : List ℕ) (r : Request) where
-  -- more than sixteen codes are refused, whatever they are
-  many : (codes : List ℕ) → 16 < length codes → serve c a (coded r codes) ≡ told a (Refused (manyRefusal (isSound c) (ltb 512 (r .count))))
-  unfolding judgedBy
-  many codes h = refused c a (coded r codes) (rw (lt-ltb 16 (length codes) h) (many-judged (isSound c) (ltb 512 (r .count))))
-
-  -- seventeen of them are as good as all
-  pub cut : (codes : List ℕ) → serve c a (coded r (take 17 codes)) ≡ serve c a (coded r codes)
-  cut codes =
-      elim (decLt 17 (length codes)) [
-        | yes h ↦ many (take 17 codes) (simp length-take (omega arith)) ∙ sym (many codes (omega arith))
-        | no h ↦ let g : length codes ≤ 17 = omega arith in rw (take-all 17 codes g)
-      ]

@@ -14,12 +14,12 @@ use Rattle.rules.specs.Lens.{back, within}
 use Rattle.rules.specs.Rules.{onStore}
 use Rattle.runs.specs.Runs.{Walked, bad, good, then, runsOf}
 use Rattle.runs.specs.Staged.{atIndex, elementOn, endOn, staged}
 use Rattle.plan.specs.declared.Reply.the-variants.{Failed}
 use Rattle.plan.specs.Request.{Request}
 use Rattle.plan.specs.Plan.{Plan, stop, go, planOf, rowsIn}
 use Rattle.plan.specs.Serve.{Served, blocksRead, committed, carried, planServed, serve}
-use Rattle.terminals.proofs.Same.{Same, same-refl, same-trans, same-take, part-same, put-same, put-spare, front-same, front-spare}
-use Rattle.terminals.proofs.Walks.{walk-is}
+use Rattle.plan.proofs.Same.{Same, same-refl, same-trans, same-take, part-same, put-same, put-spare, front-same, front-spare}
+use Rattle.plan.proofs.Walks.{walk-is}
 
 -- byte i of the arena is one of the row's store
 abbrev pub LiesIn : Row → ℕ → Type 0

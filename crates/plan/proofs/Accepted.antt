@@ -10,26 +10,22 @@ use Rattle.lists.specs.declared.element.BlockListElement.{BlockListElement}
 use Rattle.lists.specs.Element.{endsAfter}
 use Rattle.lists.proofs.Lists.{ends-count}
 use Rattle.structure.specs.declared.card.Card.{Card}
-use Rattle.structure.specs.Card.{nodesOf}
 use Rattle.spans.specs.Part.{put}
 use Rattle.checks.specs.declared.check.Checked.{Checked}
 use Rattle.checks.specs.declared.check.Checked.the-variants.{Passed as AllPassed, Failed as FailedAt}
 use Rattle.table.specs.declared.Row.{Row}
-use Rattle.table.specs.Row.{rowIn}
 use Rattle.checks.specs.Check.{checkedFrom}
 use Rattle.checks.proofs.Laws.{AllPass, all-pass, Good, good}
 use Rattle.runs.specs.Runs.{Walked, bad, good as walked}
 use Rattle.runs.specs.Staged.{staged}
 use Rattle.plan.specs.declared.Reply.the-variants.{Done, Failed}
 use Rattle.plan.specs.declared.Judged.{Judged}
 use Rattle.plan.specs.declared.Judged.the-variants.{Refused as NotFit, ShortData as NoData, Fit}
 use Rattle.plan.specs.Request.{Request}
 use Rattle.plan.specs.Plan.{Plan, stop, go, planOf, rowsIn, elementsIn, lengthsOf, judgedOf, judgedPlan, checkedPlan}
 use Rattle.plan.specs.Serve.{Served, blocksRead, committed, carried, planServed, serve}
 use Rattle.plan.proofs.Ready.{Fitting, fits}
 use Rattle.plan.proofs.Serves.{passed}
-use Rattle.terminals.specs.Last.{elementAt, codeAt, NamesBlock}
-use Rattle.terminals.proofs.Owned.{Owner, good-owner}
 
 module _ (c : Card) (a : List ℕ) (r : Request) where
   -- an accepted request fits, all its elements passed, and so it is carried out
@@ -105,7 +101,7 @@ abbrev pub nothing : BlockListElement
 nothing = record { number = 0; index = 0; mode = 0 }
 
 -- each of the elements that passed is good
-good-at : (rows : List Row) (write keyless : Bool) (es : List BlockListElement) (i : ℕ) → AllPass rows write keyless es → i < length es →
+pub good-at : (rows : List Row) (write keyless : Bool) (es : List BlockListElement) (i : ℕ) → AllPass rows write keyless es → i < length es →
     Good rows write (getD es i nothing)
 good-at rows write keyless [] i p h = absurd (omega arith)
 good-at rows write keyless (e ∷ es) zero p h = good rows write keyless e (p .0)
@@ -120,10 +116,3 @@ module _ {c : Card} {a : List ℕ} {r : Request} (k : Accepted c a r) where
   -- they passed
   pub each-passed : AllPass (rowsIn c r) (r .write) (r .keyless) (elementsIn r)
   each-passed = all-pass (rowsIn c r) (r .write) (r .keyless) 0 (elementsIn r) (k .checked)
-
-  -- so one that names a block names a block of a service
-  pub named-good : {n b i : ℕ} → NamesBlock n b r i → Good (rowsIn c r) (r .write) (elementAt r i)
-  named-good m = good-at (rowsIn c r) (r .write) (r .keyless) (elementsIn r) _ each-passed (m .listed)
-
-  pub named-owner : {n b i : ℕ} → NamesBlock n b r i → Owner (nodesOf c) (codeAt r i) (rowIn (rowsIn c r) (elementAt r i))
-  named-owner m = good-owner (nodesOf c) (r .codes) (named-good m)
