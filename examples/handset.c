@@ -96,7 +96,7 @@ int main(void) {
     read_lanes();
     spend(50, 1);
     spend(1, 2);
-    card[0] = 99;
+    card[0] = 99; /* bytes that no calls build: every call refuses them */
     read_lanes();
     return 0;
 }

@@ -9,14 +9,14 @@
  *   0                      done
  *   SF1 << 8 | SF2         a status pair of a read or a write, not 00 00 (uluvoli_sf1, uluvoli_sf2)
  *   number << 16           a refusal (uluvoli_refusal)
- * A refusal leaves every byte that the caller lent as it was. A pair other than 00 00 leaves card, arena and output as
- * they were and zeroes the staging. Numbers that a call answers are written through its last pointer, only where it
- * returns 0.
+ * A refusal leaves every byte that the caller lent as it was; a pair other than 00 00 leaves card, arena and output as
+ * they were. A number or flag that a call answers is written through its last pointer, only where it returns 0. Each
+ * call below lists the refusals that it can give: the first that holds is given.
  *
  * What the library checks, and what it cannot
- *   Every call checks the card's bytes before all else: a length other than ULUVOLI_CARD_SIZE, bytes that no card is
- *   written as, and cards that no accepted calls build, are refusal 8. Lengths of arena, staging and output that are too
- *   short are refused too, so no call reads or writes past the lengths given to it.
+ *   Every call on a card checks its bytes: a length other than ULUVOLI_CARD_SIZE, bytes that no card is written as, and
+ *   cards that no accepted calls build, are refusal 8. An arena, a staging or an output that is too short is refused
+ *   too, and no call reads or writes past the lengths given to it.
  *   It cannot check the pointers: each must be valid for as many elements as the length after it says, aligned for its
  *   type, and not null, even where the length is 0. A part that a call writes may overlap no other part of that call.
  *   Two calls may run at once only if neither writes what the other is lent.
@@ -77,7 +77,7 @@ enum {
     ULUVOLI_SF2_OUTSIDE_LIMITS = 0x03,       /* a purse would leave its limits */
     ULUVOLI_SF2_LIST_INDEX = 0xa3,           /* the element's index is beyond the codes */
     ULUVOLI_SF2_ATTRIBUTE = 0xa4,            /* an undefined attribute, or the system's code */
-    ULUVOLI_SF2_NOT_ALLOWED = 0xa5,          /* a key is needed, read-only, no cashback, or a rule of the block's kind */
+    ULUVOLI_SF2_NOT_ALLOWED = 0xa5,          /* a key is needed, read-only, no cashback, a rule of the kind */
     ULUVOLI_SF2_NO_SERVICE = 0xa6,           /* no such service */
     ULUVOLI_SF2_ACCESS_MODE = 0xa7,          /* an access mode that the request does not have */
     ULUVOLI_SF2_BLOCK_NUMBER = 0xa8,         /* the number is not below the store's count */
@@ -92,24 +92,25 @@ static inline uint32_t uluvoli_refusal(uint32_t answer) { return answer >> 16; }
 static inline uint8_t uluvoli_sf1(uint32_t answer) { return (uint8_t)(answer >> 8 & 0xff); }
 static inline uint8_t uluvoli_sf2(uint32_t answer) { return (uint8_t)(answer & 0xff); }
 
-/* ---- building: each call replaces the card's bytes where it is done */
+/* ---- building: uluvoli_set_block apart, each call writes the card's bytes anew where it is done */
 
-/* Writes a card with nothing but its root area, 0000 to FFFE. */
+/* Writes a card with nothing but its root area, 0000 to FFFE, whatever the bytes were. Refusals: 8, for the length. */
 uint32_t uluvoli_new(uint8_t *card, size_t card_len, uint16_t system, uint16_t version);
 
-/* Adds an area from `code` to `end` under the latest node of depth - 1. */
+/* Adds an area from `code` to `end` under the latest node of depth - 1. Refusals: 8, 20, 21, 13, 12, 14, 11, 15, 18. */
 uint32_t uluvoli_add_area(uint8_t *card, size_t card_len, uint32_t depth, uint16_t code, uint16_t end,
                           uint16_t version);
 
 /* Adds a service. The first of its number (code / 64) makes a store of `blocks` zeroed blocks in the arena; a later one
- * joins that store, and its `blocks` is ignored. */
+ * joins that store, and its `blocks` is ignored. Refusals: 8, 7, 20, 21, 13, 16, 17, 19, 22. */
 uint32_t uluvoli_add_service(uint8_t *card, size_t card_len, uint8_t *arena, size_t arena_len, uint32_t depth,
                              uint16_t code, uint32_t blocks, uint16_t version);
 
-/* Sets the purse limits of the node added last, which must be a service. */
+/* Sets the purse limits of the node added last, which must be a service. Refusals: 8, 28. */
 uint32_t uluvoli_set_limit(uint8_t *card, size_t card_len, int32_t upper, int32_t lower, uint8_t generation);
 
-/* Sets a stored block, whatever its service's kind, to the ULUVOLI_BLOCK_SIZE bytes at `block`. */
+/* Sets a stored block, whatever its service's kind, to the ULUVOLI_BLOCK_SIZE bytes at `block`. Refusals: 30, which is for
+ * `block_len`, 8, 7, 23. */
 uint32_t uluvoli_set_block(const uint8_t *card, size_t card_len, uint8_t *arena, size_t arena_len, uint16_t code,
                            uint32_t number, const uint8_t *block, size_t block_len);
 
@@ -117,13 +118,13 @@ uint32_t uluvoli_set_block(const uint8_t *card, size_t card_len, uint8_t *arena,
  * `count` is the number of elements in `list`: each two bytes (80h + 16 * mode + index, number) or three (16 * mode +
  * index, number low byte first), index into `codes`. */
 
-/* Reads the elements' blocks to the front of `out`, 16 bytes for each element. */
+/* Reads the elements' blocks to the front of `out`, 16 bytes for each element. Refusals: 8, 1, 2, 3, 7, 5. */
 uint32_t uluvoli_read(const uint8_t *card, size_t card_len, const uint8_t *arena, size_t arena_len, uint8_t *out,
                       size_t out_len, bool keyless, const uint16_t *codes, size_t codes_len, uint32_t count,
                       const uint8_t *list, size_t list_len);
 
 /* Writes `data`, 16 bytes for each element, to the elements' blocks: all of it or nothing. `staging` holds 16 bytes for
- * each block in use; they are zero after a status pair. */
+ * each block in use; they are zero after every status pair, 00 00 too. Refusals: 8, 1, 2, 3, 7, 4. */
 uint32_t uluvoli_write(const uint8_t *card, size_t card_len, uint8_t *arena, size_t arena_len, uint8_t *staging,
                        size_t staging_len, bool keyless, const uint16_t *codes, size_t codes_len, uint32_t count,
                        const uint8_t *list, size_t list_len, const uint8_t *data, size_t data_len);
@@ -131,24 +132,26 @@ uint32_t uluvoli_write(const uint8_t *card, size_t card_len, uint8_t *arena, siz
 /* ---- questions */
 
 /* Writes the tree to the front of `out`, in order, a pair for each node: an area's code and end, a service's code and
- * FFFF. `nodes` is how many pairs that is. */
+ * FFFF. `nodes` is how many pairs that is. Refusals: 8, 5. */
 uint32_t uluvoli_directory(const uint8_t *card, size_t card_len, uint16_t *out, size_t out_len, size_t *nodes);
 
-/* How many blocks a service's store has, or the services under an area; 0 for an unknown code. */
+/* How many blocks a service's store has, or all services under an area, a shared store counted for each and 65,535 at
+ * most; 0 for an unknown code. Refusals: 8. */
 uint32_t uluvoli_total(const uint8_t *card, size_t card_len, uint16_t code, uint16_t *blocks);
 
-/* The key version of the system (FFFF), a service or an area; FFFF for an unknown code. */
+/* The key version of the system (FFFF), a service or an area; FFFF for an unknown code. Refusals: 8. */
 uint32_t uluvoli_key_version(const uint8_t *card, size_t card_len, uint16_t code, uint16_t *version);
 
-/* Whether an area list of a mutual authentication is well formed. */
+/* Whether an area list of a mutual authentication is well formed: first an area, then areas or FFFF. Refusals: 8. */
 uint32_t uluvoli_area_list(const uint8_t *card, size_t card_len, const uint16_t *areas, size_t areas_len,
                            bool *well_formed);
 
-/* Whether a service list of a mutual authentication is well formed. */
+/* Whether a service list of a mutual authentication is well formed: each code is on the card or FFFF, at least one needs
+ * a key (areas and FFFF do), and none that does comes after one that does not. Refusals: 8. */
 uint32_t uluvoli_service_list(const uint8_t *card, size_t card_len, const uint16_t *services, size_t services_len,
                               bool *well_formed);
 
-/* Where the sixteen bytes of a stored block begin in the arena. */
+/* Where the sixteen bytes of a stored block begin in the arena. Refusals: 8, 7, 23. */
 uint32_t uluvoli_stored_block(const uint8_t *card, size_t card_len, const uint8_t *arena, size_t arena_len,
                               uint16_t code, uint32_t number, size_t *offset);
 

@@ -1,4 +1,4 @@
-//! Links libhandset.a, which `rt staticlib handset` writes; ULUVOLI_LIB names another folder that holds it.
+//! Links libhandset.a, which `bin/library` writes; ULUVOLI_LIB names another folder that holds it.
 
 fn main() {
     let here = std::env::var("CARGO_MANIFEST_DIR").expect("cargo names the crate's folder");
