@@ -36,8 +36,8 @@ use Rattle.block.proofs.set_block as block·set-block
 use Rattle.block.proofs.stored_block as block·stored-block
 use Rattle.reading.proofs.read as reading·read
 use Rattle.writing.proofs.write as writing·write
-use Rattle.terminals.proofs.turn.read_turn as terminals·read-turn
-use Rattle.terminals.proofs.turn.write_turn as terminals·write-turn
+use Rattle.turns.proofs.read_turn as turns·read-turn
+use Rattle.turns.proofs.write_turn as turns·write-turn
 
 -- what was walked to is one answer: the same, and where it is done also the same stage
 walked-once : {S : Type 0} (r r′ : Applied) (s s′ : S) → walkedTo r s ≡ walkedTo r′ s′ → (r ≡ r′) × (r ≡ Done → s ≡ s′)
@@ -104,11 +104,11 @@ module _ {M : Type 1} (𝓤 : URA M) (H : Heap 𝓤) (A : Atoms 𝓤) (mem : Mem
       let staged = staged-once (16 * a .0 .used) (now (a .1 .1 .0)) (once p q) p″ q″ in
       (once p q, λ i. (tt, (once p′ q′ i, (staged i, (tt, (tt, (tt, (tt, (tt, tt))))))))))
 
-  pub terminals·read-turn-once : OneAnswer 𝓤 terminals·read-turn.ended (terminals·read-turn.clauses 𝓤 H A mem run)
-  terminals·read-turn-once κs a g r r′ ws ws′ = of-one 𝓤 (λ p q. (once (p .0) (q .0), λ i. (tt, (tt, (once (p .1) (q .1) i, (tt, (tt, (tt, (tt, tt)))))))))
+  pub turns·read-turn-once : OneAnswer 𝓤 turns·read-turn.ended (turns·read-turn.clauses 𝓤 H A mem run)
+  turns·read-turn-once κs a g r r′ ws ws′ = of-one 𝓤 (λ p q. (once (p .0) (q .0), λ i. (tt, (tt, (once (p .1) (q .1) i, (tt, (tt, (tt, (tt, tt)))))))))
 
-  pub terminals·write-turn-once : OneAnswer 𝓤 terminals·write-turn.ended (terminals·write-turn.clauses 𝓤 H A mem run)
-  terminals·write-turn-once κs a g r r′ ws ws′ =
+  pub turns·write-turn-once : OneAnswer 𝓤 turns·write-turn.ended (turns·write-turn.clauses 𝓤 H A mem run)
+  turns·write-turn-once κs a g r r′ ws ws′ =
       of-one 𝓤 (λ p q.
       let staged = staged-once (16 * a .0 .used) (now (a .1 .1 .0)) (once (p .0) (q .0)) (p .1) (q .1) in
       (once (p .0) (q .0), λ i. (tt, (once (p .2) (q .2) i, (staged i, (tt, (tt, (tt, (tt, (tt, tt))))))))))

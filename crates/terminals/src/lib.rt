@@ -1,2 +1,1 @@
-// Two terminals at one card: what is proved of whole requests, and of runs of the program's own `read` and `write`.
-pub mod turn;
+// Two terminals at one card: what is proved of whole requests, and of runs of the program's own `read` and `write`: no code.

@@ -1,8 +1,8 @@
 // One turn of a run: the card's own `read` and `write`, by contracts in the words of the law on runs. That these are proved says
-// that each turn of a run of the program is one of which the law speaks (`Did`, specs/Runs).
+// that each turn of a run of the program is one of which the law speaks (`Did`, terminals/specs/Runs).
 use plan::Reply;
 use structure::card::Card;
 ghost use Rattle.terminals.specs.Runs.{reads, writes, Left, Did};
 
 // A read, on an arena that it leaves as it is.
 pub fn read_turn(
