@@ -2,13 +2,14 @@
 
 use crate::rows::Row;
 use crate::sides::Side;
-use std::time::{Duration, Instant};
+use std::ffi::c_long;
+use std::time::Duration;
 
 /// Rounds of a row; in each the two sides are timed one after the other.
 const ROUNDS: usize = 15;
 
-/// A round takes at least this long on each side.
-const ROUND: Duration = Duration::from_millis(10);
+/// A round takes at least this long on both sides together.
+const ROUND: Duration = Duration::from_millis(40);
 
 /// Nanoseconds of a request: the median of the rounds, the quickest and the slowest.
 pub struct Times {
@@ -17,37 +18,33 @@ pub struct Times {
     pub most: f64,
 }
 
-/// Whether both sides tell, read and store the same.
-pub fn compare(row: &Row, sides: &mut [Box<dyn Side + '_>; 2], turn: usize) {
+/// Serves the request once more on both sides; they have to tell, read and store the same.
+fn compare(row: &Row, sides: &mut [Box<dyn Side + '_>; 2], turn: usize) {
     let [rust, library] = sides;
-    assert_eq!(rust.ask(turn), row.pair, "the Rust's answer: {}", row.name);
-    assert_eq!(
-        library.ask(turn),
-        row.pair,
-        "the library's answer: {}",
-        row.name
-    );
-    assert!(
-        rust.read() == library.read(),
-        "bytes read differ: {}",
-        row.name
-    );
-    assert!(
-        rust.stored() == library.stored(),
-        "stored blocks differ: {}",
-        row.name
-    );
+    let name = &row.name;
+    assert_eq!(rust.ask(turn), row.pair, "the Rust's answer: {name}");
+    assert_eq!(library.ask(turn), row.pair, "the library's answer: {name}");
+    assert_eq!(rust.read(), library.read(), "the bytes read: {name}");
+    assert_eq!(rust.stored(), library.stored(), "the stored blocks: {name}");
+}
+
+/// The processor time of this program so far. What else the machine does is not in it.
+fn spent() -> Duration {
+    unsafe extern "C" {
+        safe fn clock() -> c_long;
+    }
+    Duration::from_micros(clock() as u64)
 }
 
 /// How long a side takes for so many requests.
 fn time(row: &Row, side: &mut dyn Side, times: usize) -> Duration {
-    let began = Instant::now();
+    let began = spent();
     for turn in 0..times {
         if side.ask(turn) != row.pair {
             panic!("an answer changed: {}", row.name);
         }
     }
-    began.elapsed()
+    spent() - began
 }
 
 /// How long each side takes for so many requests.
@@ -61,10 +58,7 @@ pub fn measure(row: &Row, sides: &mut [Box<dyn Side + '_>; 2]) -> [Times; 2] {
         compare(row, sides, turn);
     }
     let mut times = 2;
-    while round(row, sides, times)
-        .into_iter()
-        .any(|took| took < ROUND)
-    {
+    while round(row, sides, times).iter().sum::<Duration>() < ROUND {
         times *= 2;
     }
     let rounds = [(); ROUNDS].map(|()| round(row, sides, times));
