@@ -10,10 +10,10 @@ use lib.Seq.{take-append-seam}
 use Rattle.blocks.specs.declared.purse.Limit.{Limit}
 use Rattle.nodes.specs.declared.node.Entry.the-variants.{Service}
 use Rattle.nodes.specs.declared.node.Node.{Node}
-use Rattle.nodes.specs.declared.find.Found.the-variants.{At}
+use Rattle.find.specs.declared.Found.the-variants.{At}
 use Rattle.nodes.specs.Node.{rootNode, isArea, endOf, startOf, blocksOf}
-use Rattle.nodes.specs.Find.{firstFrom, serviceOf, areaOf, sharedOf}
-use Rattle.nodes.proofs.Searches.{first-kept, first-map}
+use Rattle.find.specs.Find.{firstFrom, serviceOf, areaOf, sharedOf}
+use Rattle.find.proofs.Searches.{first-kept, first-map}
 use Rattle.structure.specs.declared.card.Card.{Card}
 use Rattle.structure.specs.Card.{nodesOf, accepted}
 use Rattle.structure.specs.Grow.{nodeAs, addArea, addService, setLimit}

@@ -14,13 +14,13 @@ use Rattle.types.specs.Code.{numberOf, codeKindOf}
 use Rattle.blocks.specs.declared.purse.Limit.{Limit}
 use Rattle.nodes.specs.declared.node.Entry.the-variants.{Area, Service}
 use Rattle.nodes.specs.declared.node.Node.{Node}
-use Rattle.nodes.specs.declared.find.Found.the-variants.{At, Nothing}
+use Rattle.find.specs.declared.Found.the-variants.{At, Nothing}
 use Rattle.grow.specs.declared.Answer.the-variants.{Done}
 use Rattle.grow.specs.declared.Placed.the-variants.{Store}
 use Rattle.nodes.specs.Node.{rootNode, isService, startOf, blocksOf}
-use Rattle.nodes.specs.Find.{firstFrom, serviceOf, sharedOf}
+use Rattle.find.specs.Find.{firstFrom, serviceOf, sharedOf}
 use Rattle.grow.specs.Grow.{areaJudged, placedOf}
-use Rattle.nodes.proofs.Searches.{first-found, first-kept, first-after}
+use Rattle.find.proofs.Searches.{first-found, first-kept, first-after}
 use Rattle.grow.proofs.Growth.{Joined, Fresh, stored, used-grows}
 use Rattle.structure.specs.declared.card.Card.{Card}
 use Rattle.structure.specs.Card.{nodesOf}

@@ -17,8 +17,8 @@ use Rattle.types.specs.declared.code.DecodedKind.{DecodedKind}
 use Rattle.types.specs.declared.code.DecodedKind.the-variants.{Defined as OfKind, Undefined as NoKind}
 use Rattle.types.specs.Code.{attributeOf, codeKindOf}
 use Rattle.nodes.specs.declared.node.Node.{Node}
-use Rattle.nodes.specs.declared.find.Found.{Found}
-use Rattle.nodes.specs.declared.find.Found.the-variants.{At, Nothing}
+use Rattle.find.specs.declared.Found.{Found}
+use Rattle.find.specs.declared.Found.the-variants.{At, Nothing}
 use Rattle.grow.specs.declared.Answer.{Answer}
 use Rattle.grow.specs.declared.Answer.the-variants.{Done, Refused}
 use Rattle.grow.specs.declared.Placed.{Placed}

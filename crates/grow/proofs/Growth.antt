@@ -11,14 +11,14 @@ use borrow.Author.Tests.{leb-false, ltb-false, le-ltb}
 use Rattle.answers.specs.declared.refusal.Refusal.{Refusal}
 use Rattle.answers.specs.declared.refusal.Refusal.the-variants.{TableFull, NoRoom, OverlapKindMismatch}
 use Rattle.nodes.specs.declared.node.Node.{Node}
-use Rattle.nodes.specs.declared.find.Found.{Found}
-use Rattle.nodes.specs.declared.find.Found.the-variants.{At, Nothing}
+use Rattle.find.specs.declared.Found.{Found}
+use Rattle.find.specs.declared.Found.the-variants.{At, Nothing}
 use Rattle.grow.specs.declared.Answer.{Answer}
 use Rattle.grow.specs.declared.Answer.the-variants.{Done, Refused}
 use Rattle.grow.specs.declared.Placed.{Placed}
 use Rattle.grow.specs.declared.Placed.the-variants.{Store, Refused as NotPlaced}
 use Rattle.nodes.specs.Node.{rootNode, startOf, blocksOf}
-use Rattle.nodes.specs.Find.{sharedOf}
+use Rattle.find.specs.Find.{sharedOf}
 use Rattle.grow.specs.Grow.{parentAt, areaFound, areaJudged, serviceUnder, sameKind, joinedTo, usable, newStore, storeOf, ifDone, serviceFound, placedOf}
 
 -- at most 4,096 blocks are usable

@@ -5,11 +5,11 @@ use Prim.Native.Nat.{ℕ, _+_, _<_}
 use lib.Dec.{ltb, eqb}
 use lib.ListN.{length, take, getD}
 use Rattle.nodes.specs.declared.node.Node.{Node}
-use Rattle.nodes.specs.declared.find.Found.{Found}
-use Rattle.nodes.specs.declared.find.Found.the-variants.{At, Nothing}
-use Rattle.nodes.specs.Find.{isSharerOf, parentOf, sharedOf}
-use Rattle.nodes.proofs.Searches.{Below, below-cond, parent-below}
-use Rattle.nodes.proofs.Records.{Records, free, indexed, recorded, found-node}
+use Rattle.find.specs.declared.Found.{Found}
+use Rattle.find.specs.declared.Found.the-variants.{At, Nothing}
+use Rattle.find.specs.Find.{isSharerOf, parentOf, sharedOf}
+use Rattle.find.proofs.Searches.{Below, below-cond, parent-below}
+use Rattle.find.proofs.Records.{Records, free, indexed, recorded, found-node}
 use Rattle.grow.specs.declared.Answer.{Answer}
 use Rattle.grow.specs.declared.Placed.{Placed}
 use Rattle.grow.specs.Grow.{parentAt, areaUnder, areaJudged, serviceUnder, joinedTo, storeOf, ifDone, placedOf}

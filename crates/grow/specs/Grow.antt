@@ -12,14 +12,14 @@ use Rattle.types.specs.declared.code.DecodedKind.{DecodedKind}
 use Rattle.types.specs.declared.code.DecodedKind.the-variants.{Defined as OfKind, Undefined as NoKind}
 use Rattle.types.specs.Code.{attributeOf, codeKindOf}
 use Rattle.nodes.specs.declared.node.Node.{Node}
-use Rattle.nodes.specs.declared.find.Found.{Found}
-use Rattle.nodes.specs.declared.find.Found.the-variants.{At, Nothing}
+use Rattle.find.specs.declared.Found.{Found}
+use Rattle.find.specs.declared.Found.the-variants.{At, Nothing}
 use Rattle.grow.specs.declared.Answer.{Answer}
 use Rattle.grow.specs.declared.Answer.the-variants.{Done, Refused}
 use Rattle.grow.specs.declared.Placed.{Placed}
 use Rattle.grow.specs.declared.Placed.the-variants.{Store, Refused as NotPlaced}
 use Rattle.nodes.specs.Node.{rootNode, endOf, startOf, blocksOf}
-use Rattle.nodes.specs.Find.{sharedOf, parentOf}
+use Rattle.find.specs.Find.{sharedOf, parentOf}
 
 -- no parent at that depth, or depth 0 or over 8
 unfoldable pub parentAt : List Node → ℕ → Found

@@ -1,7 +1,6 @@
 // What may follow the nodes that are there: the refusals of a new area and of a new service, on numbers alone.
 use answers::refusal::Refusal;
-use nodes::find;
-use nodes::find::Found;
+use find::Found;
 use nodes::node::Entry;
 use nodes::node::Node;
 use types::code::Decoded;
@@ -11,7 +10,7 @@ use types::code::ServiceKind;
 ghost use mathlib.Core.Path.{_≡_};
 ghost use lib.ListN.{take};
 ghost use Rattle.nodes.specs.Node.{endOf};
-ghost use Rattle.nodes.specs.Find.{sharedOf};
+ghost use Rattle.find.specs.Find.{sharedOf};
 ghost use Rattle.grow.specs.Grow.{parentAt, rootMisfit, outside, areaUnder, areaJudged, serviceUnder, kindNumber, sameKind, joinedTo, usable, newStore, storeOf, placedOf};
 
 // How a call ended.

@@ -7,7 +7,7 @@ use native.Mathlib.Omega.{arith}
 use lib.ListN.{length, take, drop, getD}
 use lib.Seq.{take-length}
 use Rattle.nodes.specs.declared.node.Node.{Node}
-use Rattle.nodes.specs.Find.{areaOf}
+use Rattle.find.specs.Find.{areaOf}
 use Rattle.nodes.proofs.Scan.{Left, here, turn, done}
 use Rattle.keys.specs.declared.ListNode.the-variants.{Keyed, KeyFree, Unknown}
 use Rattle.keys.specs.Keys.{isFound, areaOrSystem, allAreas, areaListOf, listNodeOf, allKnown, anyKeyed, inOrder, serviceListOf}

@@ -5,10 +5,10 @@ use mathlib.Core.List.{List}
 use Prim.Native.Nat.{ℕ}
 use lib.ListN.{take, getD}
 use Rattle.nodes.specs.declared.node.Node.{Node}
-use Rattle.nodes.specs.declared.find.Found.{Found}
-use Rattle.nodes.specs.declared.find.Found.the-variants.{At}
-use Rattle.nodes.specs.Find.{firstFrom}
-use Rattle.nodes.proofs.Records.{Records, found-node}
+use Rattle.find.specs.declared.Found.{Found}
+use Rattle.find.specs.declared.Found.the-variants.{At}
+use Rattle.find.specs.Find.{firstFrom}
+use Rattle.find.proofs.Records.{Records, found-node}
 use Rattle.keys.specs.Keys.{versionAt}
 
 module _ {nodes : List Node} {count : ℕ} (r : Records nodes count) (t : Node → Bool) {f : Found} {i : ℕ} (told : f ≡ firstFrom t 0 (take count nodes)) (e : f ≡ At i) where

@@ -6,10 +6,10 @@ use lib.Dec.{eqb}
 use lib.ListN.{getD}
 use Rattle.types.specs.Code.{requiresKey}
 use Rattle.nodes.specs.declared.node.Node.{Node}
-use Rattle.nodes.specs.declared.find.Found.{Found}
-use Rattle.nodes.specs.declared.find.Found.the-variants.{At, Nothing}
+use Rattle.find.specs.declared.Found.{Found}
+use Rattle.find.specs.declared.Found.the-variants.{At, Nothing}
 use Rattle.nodes.specs.Node.{rootNode}
-use Rattle.nodes.specs.Find.{serviceOf, areaOf}
+use Rattle.find.specs.Find.{serviceOf, areaOf}
 use Rattle.keys.specs.declared.ListNode.{ListNode}
 use Rattle.keys.specs.declared.ListNode.the-variants.{Keyed, KeyFree, Unknown}
 

@@ -1,6 +1,5 @@
 // Key versions, and the two lists that a mutual authentication names.
-use nodes::find;
-use nodes::find::Found;
+use find::Found;
 use nodes::node::Node;
 use types::code::ServiceCode;
 ghost use mathlib.Core.Path.{_≡_};

@@ -9,7 +9,7 @@ use Rattle.answers.specs.declared.refusal.Refusal.the-variants.{ShortOutput}
 use Rattle.nodes.specs.declared.node.Node.{Node}
 use Rattle.nodes.specs.Node.{rootNode}
 use Rattle.nodes.proofs.Scan.{next, over}
-use Rattle.nodes.proofs.Records.{Records}
+use Rattle.find.proofs.Records.{Records}
 use Rattle.listing.specs.declared.directory.Listing.{Listing}
 use Rattle.listing.specs.declared.directory.Listing.the-variants.{Listed, Refused}
 use Rattle.listing.specs.Directory.{directoryOf, listedOf, listingOf, outAfter}

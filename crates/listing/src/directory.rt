@@ -1,6 +1,5 @@
 // The directory: each area, then its children in order, an area within starting the same again.
 use answers::refusal::Refusal;
-use nodes::find;
 use nodes::node::Entry;
 use nodes::node::Node;
 ghost use mathlib.Core.Path.{_≡_};
@@ -89,7 +88,7 @@ pub fn directory(nodes: [Node; 64], count: usize, out: &mut [u16]) -> Listing
     ensures { λ r. ⌜ r ≡ listingOf (take count nodes) (length (now (out .entry))) ⌝ }
     ensures { λ _. ⌜ now (out .exit) ≡ outAfter (take count nodes) (now (out .entry)) ⌝ }
 {
-    let n = find::taken(count);
+    let n = nodes::taken(count);
     if out.len() < 2 * n {
         return Listing::Refused(Refusal::ShortOutput);
     }

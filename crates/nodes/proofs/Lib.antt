@@ -1,4 +1,1 @@
 pub mod Scan
-mod Turns
-pub mod Searches
-pub mod Records

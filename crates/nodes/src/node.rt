@@ -1,7 +1,7 @@
 // One record: an area or a service.
 use blocks::purse::Limit;
 ghost use mathlib.Core.Path.{_≡_};
-ghost use Rattle.nodes.specs.Node.{rootNode, isArea, isService};
+ghost use Rattle.nodes.specs.Node.{rootNode};
 
 // What a node is: an area to the end of its codes, or a service over a store of blocks.
 pub enum Entry {
@@ -33,36 +33,6 @@ impl Node {
             code: 0,
             version: 0,
             entry: Entry::Area { end: 0xfffe },
-        }
-    }
-}
-
-impl Entry {
-    // Whether a node is an area.
-    pub(crate) fn is_area(self) -> bool
-        ensures { λ r. ⌜ r ≡ isArea self ⌝ }
-    {
-        match self {
-            Entry::Area { end: _ } => true,
-            Entry::Service {
-                start: _,
-                blocks: _,
-                limit: _,
-            } => false,
-        }
-    }
-
-    // Whether a node is a service.
-    pub(crate) fn is_service(self) -> bool
-        ensures { λ r. ⌜ r ≡ isService self ⌝ }
-    {
-        match self {
-            Entry::Area { end: _ } => false,
-            Entry::Service {
-                start: _,
-                blocks: _,
-                limit: _,
-            } => true,
         }
     }
 }

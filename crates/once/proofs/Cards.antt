@@ -9,11 +9,11 @@ use ghost.Atoms.{Atoms}
 use contract.Monad.{Fun}
 use Rattle.once.specs.One.{OneAnswer}
 use Rattle.once.proofs.Law.{once, of-two, result}
-use Rattle.nodes.proofs.find.taken as nodes·taken
-use Rattle.nodes.proofs.find.find_service as nodes·find-service
-use Rattle.nodes.proofs.find.find_area as nodes·find-area
-use Rattle.nodes.proofs.find.find_shared as nodes·find-shared
-use Rattle.nodes.proofs.find.find_parent as nodes·find-parent
+use Rattle.nodes.proofs.taken as nodes·taken
+use Rattle.find.proofs.find_service as find·find-service
+use Rattle.find.proofs.find_area as find·find-area
+use Rattle.find.proofs.find_shared as find·find-shared
+use Rattle.find.proofs.find_parent as find·find-parent
 use Rattle.nodes.proofs.node.Node.root as nodes·Node·root
 use Rattle.grow.proofs.judge_area as grow·judge-area
 use Rattle.grow.proofs.place_service as grow·place-service
@@ -38,17 +38,17 @@ module _ {M : Type 1} (𝓤 : URA M) (H : Heap 𝓤) (A : Atoms 𝓤) (mem : Mem
   pub nodes·taken-once : OneAnswer 𝓤 nodes·taken.ended (nodes·taken.clauses 𝓤 H A mem run)
   nodes·taken-once κs a g r r′ ws ws′ = result 𝓤 refl
 
-  pub nodes·find-service-once : OneAnswer 𝓤 nodes·find-service.ended (nodes·find-service.clauses 𝓤 H A mem run)
-  nodes·find-service-once κs a g r r′ ws ws′ = result 𝓤 refl
+  pub find·find-service-once : OneAnswer 𝓤 find·find-service.ended (find·find-service.clauses 𝓤 H A mem run)
+  find·find-service-once κs a g r r′ ws ws′ = result 𝓤 refl
 
-  pub nodes·find-area-once : OneAnswer 𝓤 nodes·find-area.ended (nodes·find-area.clauses 𝓤 H A mem run)
-  nodes·find-area-once κs a g r r′ ws ws′ = result 𝓤 refl
+  pub find·find-area-once : OneAnswer 𝓤 find·find-area.ended (find·find-area.clauses 𝓤 H A mem run)
+  find·find-area-once κs a g r r′ ws ws′ = result 𝓤 refl
 
-  pub nodes·find-shared-once : OneAnswer 𝓤 nodes·find-shared.ended (nodes·find-shared.clauses 𝓤 H A mem run)
-  nodes·find-shared-once κs a g r r′ ws ws′ = result 𝓤 refl
+  pub find·find-shared-once : OneAnswer 𝓤 find·find-shared.ended (find·find-shared.clauses 𝓤 H A mem run)
+  find·find-shared-once κs a g r r′ ws ws′ = result 𝓤 refl
 
-  pub nodes·find-parent-once : OneAnswer 𝓤 nodes·find-parent.ended (nodes·find-parent.clauses 𝓤 H A mem run)
-  nodes·find-parent-once κs a g r r′ ws ws′ = result 𝓤 refl
+  pub find·find-parent-once : OneAnswer 𝓤 find·find-parent.ended (find·find-parent.clauses 𝓤 H A mem run)
+  find·find-parent-once κs a g r r′ ws ws′ = result 𝓤 refl
 
   pub nodes·Node·root-once : OneAnswer 𝓤 nodes·Node·root.ended (nodes·Node·root.clauses 𝓤 H A mem run)
   nodes·Node·root-once κs a g r r′ ws ws′ = result 𝓤 refl

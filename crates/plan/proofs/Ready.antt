@@ -14,10 +14,10 @@ use Rattle.lists.specs.Element.{endsAfter}
 use Rattle.nodes.specs.declared.node.Entry.{Entry}
 use Rattle.nodes.specs.declared.node.Entry.the-variants.{Area, Service}
 use Rattle.nodes.specs.declared.node.Node.{Node}
-use Rattle.nodes.specs.declared.find.Found.{Found}
-use Rattle.nodes.specs.declared.find.Found.the-variants.{At, Nothing}
+use Rattle.find.specs.declared.Found.{Found}
+use Rattle.find.specs.declared.Found.the-variants.{At, Nothing}
 use Rattle.nodes.specs.Node.{rootNode, startOf, blocksOf}
-use Rattle.nodes.specs.Find.{serviceOf}
+use Rattle.find.specs.Find.{serviceOf}
 use Rattle.structure.specs.declared.card.Card.{Card}
 use Rattle.structure.specs.Card.{nodesOf, isSound}
 use Rattle.built.proofs.Built.{sound-built}

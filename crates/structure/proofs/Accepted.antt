@@ -10,11 +10,11 @@ use lib.ListN.{length, take, length-take}
 use borrow.Author.Tests.{ltb-false}
 use Rattle.answers.specs.declared.refusal.Refusal.{Refusal}
 use Rattle.nodes.specs.declared.node.Node.{Node}
-use Rattle.nodes.specs.declared.find.Found.{Found}
-use Rattle.nodes.specs.declared.find.Found.the-variants.{At, Nothing}
+use Rattle.find.specs.declared.Found.{Found}
+use Rattle.find.specs.declared.Found.the-variants.{At, Nothing}
 use Rattle.grow.specs.declared.Answer.the-variants.{Done, Refused}
 use Rattle.grow.specs.declared.Placed.the-variants.{Store, Refused as NotPlaced}
-use Rattle.nodes.specs.Find.{parentOf}
+use Rattle.find.specs.Find.{parentOf}
 use Rattle.grow.specs.Grow.{parentAt, areaFound, areaJudged, usable, serviceFound, placedOf}
 use Rattle.grow.proofs.Growth.{area-room, allowed, stored, used-grows}
 

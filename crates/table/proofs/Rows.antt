@@ -9,11 +9,11 @@ use lib.ListN.{length, getD, set, take, replicate, length-take, length-map, List
 use lib.Seq.{take-take, take-at}
 use Rattle.nodes.specs.declared.node.Node.{Node}
 use Rattle.nodes.specs.declared.node.Entry.the-variants.{Area}
-use Rattle.nodes.specs.declared.find.Found.{Found}
-use Rattle.nodes.specs.declared.find.Found.the-variants.{At, Nothing}
-use Rattle.nodes.specs.Find.{isServiceOf, serviceOf}
+use Rattle.find.specs.declared.Found.{Found}
+use Rattle.find.specs.declared.Found.the-variants.{At, Nothing}
+use Rattle.find.specs.Find.{isServiceOf, serviceOf}
 use Rattle.nodes.proofs.Scan.{read}
-use Rattle.nodes.proofs.Records.{Records, found-node}
+use Rattle.find.proofs.Records.{Records, found-node}
 use Rattle.table.specs.declared.Row.{Row}
 use Rattle.table.specs.declared.Table.{Table}
 use Rattle.table.specs.Row.{noRow, rowBy, rowOf, rowsOf, tableOf, rowAtIndex}

@@ -10,10 +10,10 @@ use Rattle.blocks.specs.declared.purse.Limit.the-variants.{Unlimited}
 use Rattle.nodes.specs.declared.node.Entry.{Entry}
 use Rattle.nodes.specs.declared.node.Entry.the-variants.{Area, Service}
 use Rattle.nodes.specs.declared.node.Node.{Node}
-use Rattle.nodes.specs.declared.find.Found.{Found}
-use Rattle.nodes.specs.declared.find.Found.the-variants.{At, Nothing}
+use Rattle.find.specs.declared.Found.{Found}
+use Rattle.find.specs.declared.Found.the-variants.{At, Nothing}
 use Rattle.nodes.specs.Node.{rootNode}
-use Rattle.nodes.specs.Find.{serviceOf}
+use Rattle.find.specs.Find.{serviceOf}
 use Rattle.table.specs.declared.Row.{Row}
 use Rattle.table.specs.declared.Table.{Table}
 

@@ -1,7 +1,6 @@
 // What the codes of a request come to on a card. Each code is looked up once.
 use blocks::purse::Limit;
-use nodes::find;
-use nodes::find::Found;
+use find::Found;
 use nodes::node::Entry;
 use nodes::node::Node;
 use types::code::Decoded;

@@ -18,7 +18,7 @@ use Rattle.word.specs.Word.{wordAt, wordBytes, signedOf, wordOf}
 use Rattle.blocks.specs.Purse.{valueOf, insideOf, outsideOf, sumOf, storedOf, purseRule}
 use Rattle.cyclic.specs.Cyclic.{cyclicOf}
 use Rattle.purse.specs.Bytes.{purseDataOf, blockOf, purseOf}
-use Rattle.nodes.specs.Find.{firstFrom, openAt, parentFrom}
+use Rattle.find.specs.Find.{firstFrom, openAt, parentFrom}
 use Rattle.grow.specs.Grow.{parentAt, outside, serviceUnder, sameKind, joinedTo, usable, newStore, placedOf}
 use Rattle.sound.specs.Sound.{isRoot, allRoots, stepOf, stepsFrom, stepsOf, soundOf}
 use Rattle.structure.specs.declared.card.Card.{Card}

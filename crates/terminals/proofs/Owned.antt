@@ -12,10 +12,10 @@ use Rattle.lists.specs.declared.element.BlockListElement.{BlockListElement}
 use Rattle.nodes.specs.declared.node.Entry.{Entry}
 use Rattle.nodes.specs.declared.node.Entry.the-variants.{Area, Service}
 use Rattle.nodes.specs.declared.node.Node.{Node}
-use Rattle.nodes.specs.declared.find.Found.{Found}
-use Rattle.nodes.specs.declared.find.Found.the-variants.{At, Nothing}
+use Rattle.find.specs.declared.Found.{Found}
+use Rattle.find.specs.declared.Found.the-variants.{At, Nothing}
 use Rattle.nodes.specs.Node.{isService, startOf, blocksOf}
-use Rattle.nodes.specs.Find.{serviceOf}
+use Rattle.find.specs.Find.{serviceOf}
 use Rattle.built.proofs.Laid.{nodeAt, Laid, served, shared, apart}
 use Rattle.table.specs.declared.Row.{Row}
 use Rattle.table.specs.Row.{rowBy, rowAt, rowOf, rowsOf, rowAtIndex, rowIn}

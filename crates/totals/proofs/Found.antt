@@ -4,11 +4,11 @@ use mathlib.Core.List.{List}
 use Prim.Native.Nat.{ℕ, _+_, min}
 use lib.ListN.{take, drop, getD}
 use Rattle.nodes.specs.declared.node.Node.{Node}
-use Rattle.nodes.specs.declared.find.Found.{Found}
-use Rattle.nodes.specs.declared.find.Found.the-variants.{At}
+use Rattle.find.specs.declared.Found.{Found}
+use Rattle.find.specs.declared.Found.the-variants.{At}
 use Rattle.nodes.specs.Node.{rootNode, blocksOf}
-use Rattle.nodes.specs.Find.{serviceOf, areaOf}
-use Rattle.nodes.proofs.Records.{Records, found-node}
+use Rattle.find.specs.Find.{serviceOf, areaOf}
+use Rattle.find.proofs.Records.{Records, found-node}
 use Rattle.under.proofs.Under.{take-most}
 use Rattle.totals.specs.Total.{sumUnder, areaTotal, totalOf}
 

@@ -5,10 +5,10 @@ use mathlib.Core.Bool.{cond}
 use lib.Dec.{leb}
 use lib.ListN.{drop, getD}
 use Rattle.nodes.specs.declared.node.Node.{Node}
-use Rattle.nodes.specs.declared.find.Found.{Found}
-use Rattle.nodes.specs.declared.find.Found.the-variants.{At, Nothing}
+use Rattle.find.specs.declared.Found.{Found}
+use Rattle.find.specs.declared.Found.the-variants.{At, Nothing}
 use Rattle.nodes.specs.Node.{rootNode, blocksOf}
-use Rattle.nodes.specs.Find.{serviceOf, areaOf}
+use Rattle.find.specs.Find.{serviceOf, areaOf}
 
 -- the blocks of the services under an area of depth d, a joined store once for each service
 unfoldable pub sumUnder : ℕ → List Node → ℕ

@@ -1,6 +1,5 @@
 // Block totals: of an area, its own services and, by the same rule, each child area's total.
-use nodes::find;
-use nodes::find::Found;
+use find::Found;
 use nodes::node::Entry;
 use nodes::node::Node;
 ghost use mathlib.Core.Path.{_≡_};
@@ -83,7 +82,7 @@ fn area_total(nodes: [Node; 64], count: usize, code: u16) -> u16
     let Found::At(i) = find::find_area(nodes, count, code) else {
         return 0;
     };
-    let n = find::taken(count);
+    let n = nodes::taken(count);
     let sum = total_at(nodes, n, i);
     capped(sum.blocks)
 }

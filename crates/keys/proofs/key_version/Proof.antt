@@ -5,7 +5,7 @@ use native.Mathlib.Omega.{arith}
 use borrow.Author.Needs.{needs}
 use borrow.Author.Tests.{ne-eqb}
 use Rattle.spans.proofs.Tests.{tests}
-use Rattle.nodes.proofs.Records.{Records, found-index}
+use Rattle.find.proofs.Records.{Records, found-index}
 use Rattle.keys.specs.Keys.{versionOf}
 use Rattle.keys.proofs.Version.{found-version}
 use Rattle.keys.proofs.key_version.Statement.{statement}

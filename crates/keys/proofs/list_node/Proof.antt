@@ -3,7 +3,7 @@ use mathlib.Core.Path.{_≡_, sym, _∙_, ap}
 use mathlib.Core.Bool.{Bool, cond}
 use lib.ListN.{take}
 use borrow.Author.Needs.{needs}
-use Rattle.nodes.specs.Find.{serviceOf, areaOf}
+use Rattle.find.specs.Find.{serviceOf, areaOf}
 use Rattle.spans.proofs.Tests.{tests}
 use Rattle.keys.specs.declared.ListNode.the-variants.{Keyed, KeyFree}
 use Rattle.keys.specs.Keys.{isFound, listNodeOf}

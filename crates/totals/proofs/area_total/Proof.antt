@@ -2,7 +2,7 @@
 use mathlib.Core.Path.{sym, _∙_}
 use native.Mathlib.Omega.{arith}
 use borrow.Author.Needs.{needs}
-use Rattle.nodes.proofs.Records.{Records, found-taken}
+use Rattle.find.proofs.Records.{Records, found-taken}
 use Rattle.totals.proofs.Found.{area-found}
 use Rattle.totals.proofs.area_total.Statement.{statement}
 use Rattle.totals.proofs.area_total.Tie as tie

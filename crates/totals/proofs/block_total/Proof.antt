@@ -3,7 +3,7 @@ use mathlib.Core.Path.{sym, _∙_}
 use Prim.Native.Nat.{_<_}
 use native.Mathlib.Omega.{arith}
 use borrow.Author.Needs.{needs}
-use Rattle.nodes.proofs.Records.{Records, found-index}
+use Rattle.find.proofs.Records.{Records, found-index}
 use Rattle.totals.specs.Total.{totalOf}
 use Rattle.totals.proofs.Found.{service-found}
 use Rattle.totals.proofs.block_total.Statement.{statement}

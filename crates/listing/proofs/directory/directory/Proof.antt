@@ -2,7 +2,7 @@
 use borrow.Author.Needs.{needs}
 use native.Mathlib.Omega.{arith}
 use denote.Ref.{now}
-use Rattle.nodes.proofs.Records.{Records}
+use Rattle.find.proofs.Records.{Records}
 use Rattle.listing.proofs.Answered.{refused, nothing, listed}
 use Rattle.listing.proofs.directory.directory.Statement.{statement}
 use Rattle.listing.proofs.directory.directory.Tie as tie

@@ -1,0 +1,135 @@
+// Which node is found: the first of a code, the first of a service number, the parent of a new one.
+use nodes::node::Entry;
+use nodes::node::Node;
+use types::code::ServiceCode;
+ghost use mathlib.Core.Path.{_≡_};
+ghost use lib.ListN.{take};
+ghost use Rattle.nodes.specs.Node.{isArea, isService};
+ghost use Rattle.find.specs.Find.{isSought, firstFrom, serviceOf, areaOf, sharedOf, parentOf, openAt};
+
+// The index of a node, or that there is none.
+pub enum Found {
+    At(usize),
+    Nothing,
+}
+
+// What a search by a code looks for.
+enum Sought {
+    ServiceCode,
+    AreaCode,
+    ServiceNumber,
+}
+
+// Whether a node is an area.
+fn is_area(entry: Entry) -> bool
+    ensures { λ r. ⌜ r ≡ isArea entry ⌝ }
+{
+    match entry {
+        Entry::Area { end: _ } => true,
+        Entry::Service {
+            start: _,
+            blocks: _,
+            limit: _,
+        } => false,
+    }
+}
+
+// Whether a node is a service.
+fn is_service(entry: Entry) -> bool
+    ensures { λ r. ⌜ r ≡ isService entry ⌝ }
+{
+    match entry {
+        Entry::Area { end: _ } => false,
+        Entry::Service {
+            start: _,
+            blocks: _,
+            limit: _,
+        } => true,
+    }
+}
+
+// Whether a node is what a search looks for.
+fn is_sought(node: Node, sought: Sought, code: u16) -> bool
+    ensures { λ r. ⌜ r ≡ isSought sought code node ⌝ }
+{
+    let entry = node.entry;
+    match sought {
+        Sought::ServiceCode => node.code == code && is_service(entry),
+        Sought::AreaCode => node.code == code && is_area(entry),
+        Sought::ServiceNumber => {
+            ServiceCode(node.code).number() == ServiceCode(code).number() && is_service(entry)
+        }
+    }
+}
+
+// The first node that is what a search looks for.
+fn find_first(nodes: [Node; 64], count: usize, sought: Sought, code: u16) -> Found
+    ensures { λ r. ⌜ r ≡ firstFrom (isSought sought code) 0 (take count nodes) ⌝ }
+{
+    let n = nodes::taken(count);
+    let mut i = 0;
+    while i < n {
+        let node = nodes[i];
+        if is_sought(node, sought, code) {
+            return Found::At(i);
+        }
+        i += 1;
+    }
+    Found::Nothing
+}
+
+// The first service of a code.
+pub fn find_service(nodes: [Node; 64], count: usize, code: u16) -> Found
+    ensures { λ r. ⌜ r ≡ serviceOf (take count nodes) code ⌝ }
+{
+    find_first(nodes, count, Sought::ServiceCode, code)
+}
+
+// The first area of a code.
+pub fn find_area(nodes: [Node; 64], count: usize, code: u16) -> Found
+    ensures { λ r. ⌜ r ≡ areaOf (take count nodes) code ⌝ }
+{
+    find_first(nodes, count, Sought::AreaCode, code)
+}
+
+// The first service of a code's number, whose store a service of that code shares.
+pub fn find_shared(nodes: [Node; 64], count: usize, code: u16) -> Found
+    ensures { λ r. ⌜ r ≡ sharedOf (take count nodes) code ⌝ }
+{
+    find_first(nodes, count, Sought::ServiceNumber, code)
+}
+
+// The area under which a new node of a depth comes.
+pub fn find_parent(nodes: [Node; 64], count: usize, depth: u8) -> Found
+    ensures { λ r. ⌜ r ≡ parentOf (take count nodes) depth ⌝ }
+{
+    let n = nodes::taken(count);
+    let mut found = Found::Nothing;
+    let mut i = 0;
+    while i < n {
+        let node = nodes[i];
+        if node.depth < depth {
+            found = open_at(node, depth, i);
+        }
+        i += 1;
+    }
+    found
+}
+
+// A node that is shallower than a new one: its parent if it is an area one level up, and no parent if not.
+fn open_at(node: Node, depth: u8, i: usize) -> Found
+    ensures { λ r. ⌜ r ≡ openAt node depth i ⌝ }
+{
+    if node.depth as u32 + 1 != depth as u32 {
+        return Found::Nothing;
+    }
+    let entry = node.entry;
+    match entry {
+        Entry::Area { end: _ } => Found::At(i),
+        Entry::Service {
+            start: _,
+            blocks: _,
+            limit: _,
+        } => Found::Nothing,
+    }
+}
