@@ -1,11 +1,12 @@
 -- What `elementCheck` and `rowCheck` are in each of their cases.
-use mathlib.Core.Path.{_≡_}
-use mathlib.Core.Bool.{Bool, true, false, _&&_}
+use mathlib.Core.Path.{_≡_, refl}
+use mathlib.Core.Bool.{Bool, true, false, cond, _&&_}
 use mathlib.Core.List.{List}
-use Prim.Native.Nat.{ℕ, _≤_, _<_, min}
+use Prim.Native.Nat.{ℕ, _≤_, _<_}
 use native.Mathlib.Omega.{arith}
-use lib.ListN.{length, take, length-take}
-use borrow.Author.Tests.{le-leb, lt-leb, lt-ltb, le-ltb}
+use lib.Dec.{leb}
+use lib.ListN.{length, take, getD, length-take}
+use borrow.Author.Tests.{leb-true, leb-false, le-leb, lt-leb, lt-ltb, le-ltb}
 use Rattle.lists.specs.declared.element.BlockListElement.{BlockListElement}
 use Rattle.types.specs.declared.code.Decoded.the-variants.{Defined, Undefined}
 use Rattle.types.specs.declared.code.ServiceAttribute.{ServiceAttribute}
@@ -13,25 +14,28 @@ use Rattle.types.specs.Code.{requiresKey}
 use Rattle.answers.specs.declared.status.Fault.{Fault}
 use Rattle.answers.specs.declared.status.Fault.the-variants.{ListIndex, AccessMode, Attribute, NoService, KeyNeeded, BlockNumber}
 use Rattle.table.specs.declared.Row.{Row}
-use Rattle.checks.specs.declared.check.Check.{Check}
 use Rattle.checks.specs.declared.check.Check.the-variants.{Passed, Failed}
 use Rattle.table.specs.Row.{rowIn}
-use Rattle.checks.specs.Check.{modeAllowed, attributeCheck, rowCheck, elementCheck}
+use Rattle.table.proofs.Rows.{within}
+use Rattle.checks.specs.Check.{modeAllowed, attributeCheck, rowCheck, namedCheck, elementCheck}
 
-module _ (rows : List Row) (n : ℕ) (write keyless : Bool) (e : BlockListElement) where
-  -- an index from the count on, or from the array's end, names none
-  pub not-named : min n (length rows) ≤ e .index → Failed ListIndex ≡ elementCheck (take n rows) write keyless e
-  unfolding elementCheck
-  not-named h =
-      let k : length (take n rows) ≤ e .index = simp length-take h in rw (le-leb (length (take n rows)) (e .index) k)
-
-  -- any other names a row, whose check answers
-  pub named : {w : Row} {c : Check} → e .index < n → e .index < length rows → w ≡ rowIn (take n rows) e →
-      c ≡ rowCheck w write keyless (e .number) (e .mode) → c ≡ elementCheck (take n rows) write keyless e
-  unfolding elementCheck
-  named h l r k =
-      let b : e .index < length (take n rows) = simp length-take (omega arith) in
-      rw (lt-leb (length (take n rows)) (e .index) b, ← r) k
+-- what stands at an index below sixteen is checked as the row that the index names, or as none
+pub named : (rows : List Row) (n : ℕ) (write keyless : Bool) (e : BlockListElement) (z : Row) → length rows ≡ 16 → e .index < 16 →
+    namedCheck n (getD rows (e .index) z) write keyless e ≡ elementCheck (take n rows) write keyless e
+unfolding elementCheck
+named rows n write keyless e z l h = by-count (leb n (e .index)) refl
+  where
+    by-count : (b : Bool) → leb n (e .index) ≡ b →
+        cond b (Failed ListIndex) (rowCheck (getD rows (e .index) z) write keyless (e .number) (e .mode))
+        ≡ cond (leb (length (take n rows)) (e .index)) (Failed ListIndex)
+        (rowCheck (rowIn (take n rows) e) write keyless (e .number) (e .mode))
+    by-count true k =
+        let c : length (take n rows) ≤ e .index = simp length-take (omega (arith, leb-true n (e .index) k)) in
+        rw (le-leb (length (take n rows)) (e .index) c)
+    by-count false k =
+        let below = leb-false n (e .index) k in
+        let c : e .index < length (take n rows) = simp length-take (omega arith) in
+        rw (lt-leb (length (take n rows)) (e .index) c, within rows n (e .index) z below (omega arith))
 
 module _ (w : Row) (write keyless : Bool) (number mode : ℕ) where
   -- a mode that the request may not use

@@ -1,20 +1,44 @@
 -- One turn of the loop over the elements of a list.
 use mathlib.Core.Path.{_≡_, sym, _∙_}
-use mathlib.Core.Bool.{Bool}
+use mathlib.Core.Bool.{Bool, true, false, cond}
 use mathlib.Core.List.{List}
 use Prim.Native.Nat.{ℕ, zero, suc, _+_, _-_, _<_}
 use native.Mathlib.Omega.{arith}
+use lib.Dec.{leb, ltb}
+use lib.ListN.{length, getD}
 use Rattle.answers.specs.declared.status.Fault.{Fault}
 use Rattle.lists.specs.declared.element.BlockListElement.{BlockListElement}
 use Rattle.lists.specs.declared.element.Unpacked.{Unpacked}
 use Rattle.lists.specs.declared.element.Unpacked.the-variants.{Element, Short}
-use Rattle.lists.specs.Element.{unpackAt, elementsFrom}
+use Rattle.lists.specs.Element.{elementOf, unpackAt, elementsFrom}
 use Rattle.lists.proofs.Lists.{elements-short, elements-element}
 use Rattle.table.specs.declared.Row.{Row}
 use Rattle.checks.specs.declared.check.Check.{Check}
 use Rattle.checks.specs.declared.check.Check.the-variants.{Passed, Failed}
 use Rattle.checks.specs.declared.check.Checked.the-variants.{Passed as AllPassed, Failed as FailedAt}
 use Rattle.checks.specs.Check.{elementCheck, checkedFrom}
+
+-- an index has four bits
+pub index-small : (s : List ℕ) (at : ℕ) {e : BlockListElement} {next : ℕ} → unpackAt s at ≡ Element e next → e .index < 16
+unfolding unpackAt
+index-small s at h = read (leb (length s) at) (ltb (getD s at 0) 0x80) (ltb (length s) (at + 3)) (ltb (length s) (at + 2)) _ _ _ _ h
+  where
+    -- too few bytes are no element
+    none : {A : Type 0} {e : BlockListElement} {next : ℕ} → Short ≡ Element e next → A
+    none g = let z : _≡_ {A = ℕ} 0 1 = cc in absurd (omega arith)
+
+    four : (number : ℕ) {e : BlockListElement} {n next : ℕ} → Element (elementOf (getD s at 0) number) n ≡ Element e next → e .index < 16
+    four number {e} g = let z : elementOf (getD s at 0) number ≡ e = cc in rw (sym z) (omega arith)
+
+    read : (a b c d : Bool) (x y p q : ℕ) {e : BlockListElement} {next : ℕ} →
+        cond a Short (cond b (cond c Short (Element (elementOf (getD s at 0) x) p)) (cond d Short (Element (elementOf (getD s at 0) y) q)))
+        ≡ Element e next →
+        e .index < 16
+    read true b c d x y p q g = none g
+    read false true true d x y p q g = none g
+    read false true false d x y p q g = four x g
+    read false false c true x y p q g = none g
+    read false false c false x y p q g = four y g
 
 module _ (rows : List Row) (write keyless : Bool) (i : ℕ) (s : List ℕ) (at : ℕ) where
   -- where no element is left, none fails

@@ -48,10 +48,14 @@ unfoldable pub rowCheck : Row → Bool → Bool → ℕ → ℕ → Check
 rowCheck w write keyless number mode =
     cond (modeAllowed write mode) (definedCheck w write keyless number mode (w .attribute)) (Failed AccessMode)
 
+-- an index below the count names a row
+abbrev pub namedCheck : ℕ → Row → Bool → Bool → BlockListElement → Check
+namedCheck count w write keyless e =
+    cond (leb count (e .index)) (Failed ListIndex) (rowCheck w write keyless (e .number) (e .mode))
+
 -- A3, A7, A4, A6, A5 (key), on a write A5 (read-only), A5 (no cashback), A8
 unfoldable pub elementCheck : List Row → Bool → Bool → BlockListElement → Check
-elementCheck rows write keyless e =
-    cond (leb (length rows) (e .index)) (Failed ListIndex) (rowCheck (rowIn rows e) write keyless (e .number) (e .mode))
+elementCheck rows write keyless e = namedCheck (length rows) (rowIn rows e) write keyless e
 
 abbrev pub nextCheck : ℕ → Check → Checked → Checked
 nextCheck i Passed more = more

@@ -13,7 +13,7 @@ ghost use mathlib.Core.Bool.{_&&_};
 ghost use lib.ListN.{take};
 ghost use Rattle.types.specs.Code.{requiresKey};
 ghost use Rattle.lists.specs.Element.{elementsFrom};
-ghost use Rattle.checks.specs.Check.{modeAllowed, attributeCheck, rowCheck, elementCheck, checkedFrom};
+ghost use Rattle.checks.specs.Check.{modeAllowed, attributeCheck, rowCheck, namedCheck, checkedFrom};
 
 // How an element's check ended.
 pub enum Check {
@@ -92,18 +92,14 @@ fn row_check(row: Row, write: bool, keyless: bool, number: u16, mode: u8) -> Che
     }
 }
 
-// The check of one element.
-fn element_check(table: Table, write: bool, keyless: bool, e: BlockListElement) -> Check
-    ensures { λ r. ⌜ r ≡ elementCheck (take (table .count) (table .rows)) write keyless e ⌝ }
+// The check of one element against what stands at its index, where `count` rows are the codes'.
+fn element_check(row: Row, count: usize, write: bool, keyless: bool, e: BlockListElement) -> Check
+    ensures { λ r. ⌜ r ≡ namedCheck count row write keyless e ⌝ }
 {
-    let index = e.index as usize;
-    if 16 <= index {
+    if count <= e.index as usize {
         return Check::Failed(Fault::ListIndex);
     }
-    if table.count <= index {
-        return Check::Failed(Fault::ListIndex);
-    }
-    row_check(table.row(e.index), write, keyless, e.number, e.mode)
+    row_check(row, write, keyless, e.number, e.mode)
 }
 
 // The check of the counted elements of a list, in order.
@@ -116,7 +112,8 @@ pub fn check_all(table: Table, write: bool, keyless: bool, list: &[u8], count: u
         let Unpacked::Element { element: e, next } = element::unpack(list, at) else {
             return Checked::Passed;
         };
-        if let Check::Failed(fault) = element_check(table, write, keyless, e) {
+        let row = table.rows[e.index as usize];
+        if let Check::Failed(fault) = element_check(row, table.count, write, keyless, e) {
             return Checked::Failed { index: i, fault };
         }
         at = next;

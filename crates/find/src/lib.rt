@@ -5,7 +5,7 @@ use types::code::ServiceCode;
 ghost use mathlib.Core.Path.{_≡_};
 ghost use lib.ListN.{take};
 ghost use Rattle.nodes.specs.Node.{isArea, isService};
-ghost use Rattle.find.specs.Find.{isSought, firstFrom, serviceOf, areaOf, sharedOf, parentOf, openAt};
+ghost use Rattle.find.specs.Find.{isServiceOf, isSought, firstFrom, serviceOf, areaOf, sharedOf, parentOf, openAt};
 
 // The index of a node, or that there is none.
 pub enum Found {
@@ -48,13 +48,21 @@ fn is_service(entry: Entry) -> bool
     }
 }
 
+// Whether a node is a service of a code.
+pub fn is_service_of(node: Node, code: u16) -> bool
+    ensures { λ r. ⌜ r ≡ isServiceOf code node ⌝ }
+{
+    let entry = node.entry;
+    node.code == code && is_service(entry)
+}
+
 // Whether a node is what a search looks for.
 fn is_sought(node: Node, sought: Sought, code: u16) -> bool
     ensures { λ r. ⌜ r ≡ isSought sought code node ⌝ }
 {
     let entry = node.entry;
     match sought {
-        Sought::ServiceCode => node.code == code && is_service(entry),
+        Sought::ServiceCode => is_service_of(node, code),
         Sought::AreaCode => node.code == code && is_area(entry),
         Sought::ServiceNumber => {
             ServiceCode(node.code).number() == ServiceCode(code).number() && is_service(entry)

@@ -5,7 +5,7 @@ use mathlib.Core.List.{List}
 use mathlib.Core.Logic.{_⊎_, inl, inr, ⊎-elim}
 use Prim.Native.Nat.{ℕ, _+_, _≤_, _<_}
 use native.Mathlib.Omega.{arith}
-use lib.Dec.{leb, ltb}
+use lib.Dec.{eqb, leb, ltb}
 use lib.ListN.{length, getD}
 use borrow.Author.Tests.{leb-false, ltb-false, le-ltb}
 use Rattle.answers.specs.declared.refusal.Refusal.{Refusal}
@@ -18,8 +18,16 @@ use Rattle.grow.specs.declared.Answer.the-variants.{Done, Refused}
 use Rattle.grow.specs.declared.Placed.{Placed}
 use Rattle.grow.specs.declared.Placed.the-variants.{Store, Refused as NotPlaced}
 use Rattle.nodes.specs.Node.{rootNode, startOf, blocksOf}
-use Rattle.find.specs.Find.{sharedOf}
+use Rattle.find.specs.Find.{sharedOf, parentOf}
+use Rattle.find.proofs.Searches.{Below, below-cond, parent-below}
 use Rattle.grow.specs.Grow.{parentAt, areaFound, areaJudged, serviceUnder, sameKind, joinedTo, usable, newStore, storeOf, ifDone, serviceFound, placedOf}
+
+-- a parent is one of the nodes
+pub parent-at-below : (ns : List Node) (depth : ℕ) → Below (parentAt ns depth) (0 + length ns)
+unfolding parentAt
+parent-at-below ns depth =
+    below-cond (eqb depth 0) Nothing _ _ tt
+    (below-cond (ltb 8 depth) Nothing (parentOf ns depth) _ tt (parent-below depth Nothing 0 ns tt))
 
 -- at most 4,096 blocks are usable
 pub usable-most : (long : ℕ) → usable long ≤ 4096

@@ -18,6 +18,8 @@ use Rattle.grow.specs.declared.Answer.{Answer}
 use Rattle.grow.specs.declared.Answer.the-variants.{Done, Refused}
 use Rattle.grow.specs.declared.Placed.{Placed}
 use Rattle.grow.specs.declared.Placed.the-variants.{Store, Refused as NotPlaced}
+use Rattle.grow.specs.declared.First.{First}
+use Rattle.grow.specs.declared.First.the-variants.{There, Missing}
 use Rattle.nodes.specs.Node.{rootNode, endOf, startOf, blocksOf}
 use Rattle.find.specs.Find.{sharedOf, parentOf}
 
@@ -88,18 +90,30 @@ usable long = min (long / 16) 4096
 unfoldable pub newStore : ℕ → ℕ → ℕ → Placed
 newStore used long blocks = cond (ltb (usable long) (used + blocks)) (NotPlaced NoRoom) (Store used blocks (used + blocks))
 
+-- the first service of a number, where one is found
+abbrev pub firstIn : List Node → Found → First
+firstIn ns (At j) = There (getD ns j rootNode)
+firstIn ns Nothing = Missing
+
+abbrev pub storeBy : ℕ → ℕ → ℕ → ℕ → First → Placed
+storeBy used long code blocks (There first) = joinedTo first code used
+storeBy used long code blocks Missing = newStore used long blocks
+
 abbrev pub storeOf : List Node → ℕ → ℕ → ℕ → ℕ → Found → Placed
-storeOf ns used long code blocks (At j) = joinedTo (getD ns j rootNode) code used
-storeOf ns used long code blocks Nothing = newStore used long blocks
+storeOf ns used long code blocks f = storeBy used long code blocks (firstIn ns f)
 
 abbrev pub ifDone : Answer → Placed → Placed
 ifDone Done p = p
 ifDone (Refused r) p = NotPlaced r
 
+-- a service under its parent gets its store
+abbrev pub placedUnder : Node → First → ℕ → ℕ → ℕ → ℕ → Placed
+placedUnder above first used long code blocks = ifDone (serviceUnder above code) (storeBy used long code blocks first)
+
 abbrev pub serviceFound : List Node → ℕ → ℕ → ℕ → ℕ → Found → Placed
 serviceFound ns used long code blocks Nothing = NotPlaced NoParent
 serviceFound ns used long code blocks (At p) =
-    ifDone (serviceUnder (getD ns p rootNode) code) (storeOf ns used long code blocks (sharedOf ns code))
+    placedUnder (getD ns p rootNode) (firstIn ns (sharedOf ns code)) used long code blocks
 
 -- 20, 21, then those of a service
 unfoldable pub placedOf : List Node → ℕ → ℕ → ℕ → ℕ → ℕ → Placed

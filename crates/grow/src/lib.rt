@@ -1,6 +1,5 @@
-// What may follow the nodes that are there: the refusals of a new area and of a new service, on numbers alone.
+// What may come under a node: the refusals of a new area and of a new service, and a service's store.
 use answers::refusal::Refusal;
-use find::Found;
 use nodes::node::Entry;
 use nodes::node::Node;
 use types::code::Decoded;
@@ -8,10 +7,8 @@ use types::code::DecodedKind;
 use types::code::ServiceCode;
 use types::code::ServiceKind;
 ghost use mathlib.Core.Path.{_≡_};
-ghost use lib.ListN.{take};
 ghost use Rattle.nodes.specs.Node.{endOf};
-ghost use Rattle.find.specs.Find.{sharedOf};
-ghost use Rattle.grow.specs.Grow.{parentAt, rootMisfit, outside, areaUnder, areaJudged, serviceUnder, kindNumber, sameKind, joinedTo, usable, newStore, storeOf, placedOf};
+ghost use Rattle.grow.specs.Grow.{rootMisfit, outside, areaUnder, serviceUnder, kindNumber, sameKind, joinedTo, usable, newStore, placedUnder};
 
 // How a call ended.
 pub enum Answer {
@@ -29,17 +26,10 @@ pub enum Placed {
     Refused(Refusal),
 }
 
-// The parent of a new node at a depth from 1 to 8.
-fn parent_at(nodes: [Node; 64], count: usize, depth: u32) -> Found
-    ensures { λ r. ⌜ r ≡ parentAt (take count nodes) depth ⌝ }
-{
-    if depth == 0 {
-        return Found::Nothing;
-    }
-    if 8 < depth {
-        return Found::Nothing;
-    }
-    find::find_parent(nodes, count, depth as u8)
+// The first service of a number, or that there is none.
+pub enum First {
+    There(Node),
+    Missing,
 }
 
 // Whether area 0000 ends elsewhere than at FFFE.
@@ -71,7 +61,7 @@ fn last_code(entry: Entry) -> u16
 }
 
 // The refusal of an area under its parent.
-fn area_under(above: Node, code: u16, end: u16) -> Answer
+pub fn area_under(above: Node, code: u16, end: u16) -> Answer
     ensures { λ r. ⌜ r ≡ areaUnder above code end ⌝ }
 {
     if 0xfffe < code {
@@ -98,20 +88,6 @@ fn area_under(above: Node, code: u16, end: u16) -> Answer
         return Answer::Refused(Refusal::AreaOutOfRange);
     }
     Answer::Done
-}
-
-// The refusal of an area that comes after the nodes that are there.
-pub fn judge_area(nodes: [Node; 64], count: usize, depth: u32, code: u16, end: u16) -> Answer
-    ensures { λ r. ⌜ r ≡ areaJudged (take count nodes) depth code end ⌝ }
-{
-    if 64 <= count {
-        return Answer::Refused(Refusal::TableFull);
-    }
-    let Found::At(p) = parent_at(nodes, count, depth) else {
-        return Answer::Refused(Refusal::NoParent);
-    };
-    let above = nodes[p];
-    area_under(above, code, end)
 }
 
 // The refusal of a service under its parent.
@@ -205,47 +181,22 @@ fn new_store(used: usize, long: usize, blocks: u32) -> Placed
     }
 }
 
-// Where a service's store lies: with the first of its number, or next after those in use.
-fn store_of(
-    nodes: [Node; 64],
-    count: usize,
+// Where the store of a service under its parent lies: with the first of its number, or next after those in use.
+pub fn placed_under(
+    above: Node,
+    first: First,
     used: usize,
     long: usize,
     code: u16,
     blocks: u32,
 ) -> Placed
-    ensures { λ r. ⌜ r ≡ storeOf (take count nodes) used long code blocks (sharedOf (take count nodes) code) ⌝ }
+    ensures { λ r. ⌜ r ≡ placedUnder above first used long code blocks ⌝ }
 {
-    match find::find_shared(nodes, count, code) {
-        Found::At(j) => {
-            let first = nodes[j];
-            joined_to(first, code, used)
-        }
-        Found::Nothing => new_store(used, long, blocks),
-    }
-}
-
-// Where the store of a service lies that comes after the nodes that are there, or its refusal.
-pub fn place_service(
-    nodes: [Node; 64],
-    count: usize,
-    used: usize,
-    long: usize,
-    depth: u32,
-    code: u16,
-    blocks: u32,
-) -> Placed
-    ensures { λ r. ⌜ r ≡ placedOf (take count nodes) used long depth code blocks ⌝ }
-{
-    if 64 <= count {
-        return Placed::Refused(Refusal::TableFull);
-    }
-    let Found::At(p) = parent_at(nodes, count, depth) else {
-        return Placed::Refused(Refusal::NoParent);
-    };
-    let above = nodes[p];
     if let Answer::Refused(r) = service_under(above, code) {
         return Placed::Refused(r);
     }
-    store_of(nodes, count, used, long, code, blocks)
+    match first {
+        First::There(node) => joined_to(node, code, used),
+        First::Missing => new_store(used, long, blocks),
+    }
 }

@@ -10,13 +10,16 @@ use contract.Monad.{Fun}
 use Rattle.once.specs.One.{OneAnswer}
 use Rattle.once.proofs.Law.{once, of-two, result}
 use Rattle.nodes.proofs.taken as nodes·taken
+use Rattle.find.proofs.is_service_of as find·is-service-of
 use Rattle.find.proofs.find_service as find·find-service
 use Rattle.find.proofs.find_area as find·find-area
 use Rattle.find.proofs.find_shared as find·find-shared
 use Rattle.find.proofs.find_parent as find·find-parent
 use Rattle.nodes.proofs.node.Node.root as nodes·Node·root
-use Rattle.grow.proofs.judge_area as grow·judge-area
-use Rattle.grow.proofs.place_service as grow·place-service
+use Rattle.grow.proofs.area_under as grow·area-under
+use Rattle.grow.proofs.placed_under as grow·placed-under
+use Rattle.fits.proofs.judge_area as fits·judge-area
+use Rattle.fits.proofs.place_service as fits·place-service
 use Rattle.sound.proofs.sound as sound·sound
 use Rattle.listing.proofs.directory.directory as listing·directory
 use Rattle.totals.proofs.block_total as totals·block-total
@@ -38,6 +41,9 @@ module _ {M : Type 1} (𝓤 : URA M) (H : Heap 𝓤) (A : Atoms 𝓤) (mem : Mem
   pub nodes·taken-once : OneAnswer 𝓤 nodes·taken.ended (nodes·taken.clauses 𝓤 H A mem run)
   nodes·taken-once κs a g r r′ ws ws′ = result 𝓤 refl
 
+  pub find·is-service-of-once : OneAnswer 𝓤 find·is-service-of.ended (find·is-service-of.clauses 𝓤 H A mem run)
+  find·is-service-of-once κs a g r r′ ws ws′ = result 𝓤 refl
+
   pub find·find-service-once : OneAnswer 𝓤 find·find-service.ended (find·find-service.clauses 𝓤 H A mem run)
   find·find-service-once κs a g r r′ ws ws′ = result 𝓤 refl
 
@@ -53,11 +59,17 @@ module _ {M : Type 1} (𝓤 : URA M) (H : Heap 𝓤) (A : Atoms 𝓤) (mem : Mem
   pub nodes·Node·root-once : OneAnswer 𝓤 nodes·Node·root.ended (nodes·Node·root.clauses 𝓤 H A mem run)
   nodes·Node·root-once κs a g r r′ ws ws′ = result 𝓤 refl
 
-  pub grow·judge-area-once : OneAnswer 𝓤 grow·judge-area.ended (grow·judge-area.clauses 𝓤 H A mem run)
-  grow·judge-area-once κs a g r r′ ws ws′ = result 𝓤 refl
+  pub grow·area-under-once : OneAnswer 𝓤 grow·area-under.ended (grow·area-under.clauses 𝓤 H A mem run)
+  grow·area-under-once κs a g r r′ ws ws′ = result 𝓤 refl
 
-  pub grow·place-service-once : OneAnswer 𝓤 grow·place-service.ended (grow·place-service.clauses 𝓤 H A mem run)
-  grow·place-service-once κs a g r r′ ws ws′ = result 𝓤 refl
+  pub grow·placed-under-once : OneAnswer 𝓤 grow·placed-under.ended (grow·placed-under.clauses 𝓤 H A mem run)
+  grow·placed-under-once κs a g r r′ ws ws′ = result 𝓤 refl
+
+  pub fits·judge-area-once : OneAnswer 𝓤 fits·judge-area.ended (fits·judge-area.clauses 𝓤 H A mem run)
+  fits·judge-area-once κs a g r r′ ws ws′ = result 𝓤 refl
+
+  pub fits·place-service-once : OneAnswer 𝓤 fits·place-service.ended (fits·place-service.clauses 𝓤 H A mem run)
+  fits·place-service-once κs a g r r′ ws ws′ = result 𝓤 refl
 
   pub sound·sound-once : OneAnswer 𝓤 sound·sound.ended (sound·sound.clauses 𝓤 H A mem run)
   sound·sound-once κs a g r r′ ws ws′ = result 𝓤 refl

@@ -1,3 +1,4 @@
 -- What the proofs cite.
+pub mod Named
 mod RunLaws
 mod Walking

@@ -106,6 +106,10 @@ module _ {rows : List Row} {d list : List ℕ} {count : ℕ} where
     pub finished : left list count first start ≡ [] → staged rows d (elementsFrom list count 0) stage₀ ≡ walkedTo state stage
     finished e = rw (b .none) (b .same ∙ rw e (walk-over (numberIn rows) (elementOn rows d) (endOn rows d) first stage))
 
+    -- the next that is left is ready
+    pub next-ready : first < count → {e : BlockListElement} {next : ℕ} → unpackAt list start ≡ Element e next → Ready rows (length stage) e
+    next-ready h here = (rw (left-element list count first start h here) at (b .ready)) .0
+
     -- a run begins with the next
     pub opens
         : first < count → {e : BlockListElement} {next : ℕ} → unpackAt list start ≡ Element e next → {w : Row} → w ≡ rowIn rows e
@@ -125,7 +129,7 @@ module _ {rows : List Row} {d list : List ℕ} {count : ℕ} where
           none = b .none;
           begun = λ _. refl;
           long = refl;
-          opened = (rw l at (b .ready)) .0;
+          opened = next-ready h here;
           ready = b .ready;
           same = rw (l, z) (run-starts (numberIn rows) (elementOn rows d) (endOn rows d) first stage e (left list count (first + 1) next));
         }
@@ -155,6 +159,10 @@ module _ {rows : List Row} {d list : List ℕ} {count : ℕ} where
         s .same ∙ rw (left-short list count end at h here) (run-over (numberIn rows) (elementOn rows d) (endOn rows d) first (s .opener) (end - first) end stage),
       )
 
+      -- the next that is left is ready
+      pub each-ready : {f : BlockListElement} {next : ℕ} → unpackAt list at ≡ Element f next → Ready rows (length stage) f
+      each-ready here = (rw (left-element list count end at h here) at (s .ready)) .0
+
       module _ {f : BlockListElement} {next : ℕ} (here : unpackAt list at ≡ Element f next) {own : Row} (named : own ≡ rowIn rows f) where
         -- it is the first of those left
         next-left : left list count end at ≡ f ∷ left list count (end + 1) next
@@ -163,7 +171,7 @@ module _ {rows : List Row} {d list : List ℕ} {count : ℕ} where
         -- the element's store and block
         pub fits : (16 * own .start + 16 * own .blocks ≤ length stage) × (16 * f .number + 16 ≤ 16 * own .blocks)
         fits =
-            let q = (rw next-left at (s .ready)) .0 in
+            let q = each-ready here in
             let b = q .block in
             rw named (q .stored, omega arith)
 

@@ -39,14 +39,14 @@ pub fn apply(stage: &mut [u8], table: Table, list: &[u8], count: usize, input: &
         let Unpacked::Element { element, next: _ } = element::unpack(list, at) else {
             break 'runs;
         };
-        let row = table.row(element.index);
+        let row = table.rows[element.index as usize];
         let number = number_of(row);
         let from = end;
         'scan: while end < count {
             let Unpacked::Element { element: f, next } = element::unpack(list, at) else {
                 break 'scan;
             };
-            let own = table.row(f.index);
+            let own = table.rows[f.index as usize];
             if number_of(own) != number {
                 break 'scan;
             }

@@ -16,7 +16,7 @@ pub same-read : {A : Type 0} (l : List A) (i : ℕ) (y z : A) → i < length l �
 same-read l i y z h = cc (drop-cons l i y h, drop-cons l i z h)
 
 -- a test that must fail for what follows to hold
-passed : (b x : Bool) → cond b false x ≡ true → (b ≡ false) × (x ≡ true)
+pub passed : (b x : Bool) → cond b false x ≡ true → (b ≡ false) × (x ≡ true)
 passed true x e = absurd (let z : _≡_ {A = ℕ} 0 1 = cc in (omega arith))
 passed false x e = (refl, e)
 

@@ -1,2 +1,4 @@
 pub mod Laws
+mod Kept
 mod Turns
+mod Walk

@@ -1,21 +1,23 @@
 -- One turn of each loop over the records.
-use mathlib.Core.Path.{_≡_, refl, sym, _∙_}
+use mathlib.Core.Path.{_≡_}
 use mathlib.Core.Bool.{Bool, true, false}
 use mathlib.Core.List.{List}
-use Prim.Native.Nat.{ℕ, suc, _+_, _≤_, _<_}
+use Prim.Native.Nat.{ℕ, _+_, _≤_, _<_}
 use native.Mathlib.Omega.{arith}
 use lib.ListN.{length, take, drop, getD}
 use lib.Seq.{take-all, take-take, take-suc}
-use Rattle.blocks.specs.declared.purse.Limit.{Limit}
+use borrow.Author.Tests.{lt-leb}
+use Rattle.nodes.specs.declared.node.Entry.{Entry}
 use Rattle.nodes.specs.declared.node.Entry.the-variants.{Area, Service}
 use Rattle.nodes.specs.declared.node.Node.{Node}
-use Rattle.grow.specs.declared.Answer.{Answer}
-use Rattle.grow.specs.declared.Placed.{Placed}
-use Rattle.grow.specs.Grow.{areaJudged, placedOf}
-use Rattle.nodes.proofs.Scan.{Left, here, turn, done}
-use Rattle.sound.specs.declared.Step.{Step}
+use Rattle.find.specs.declared.Found.the-variants.{At, Nothing}
+use Rattle.nodes.specs.Node.{rootNode}
+use Rattle.find.specs.Find.{sharedOf}
+use Rattle.grow.specs.Grow.{parentAt, areaJudged, firstIn, placedOf}
+use Rattle.nodes.proofs.Scan.{Left, here, turn}
 use Rattle.sound.specs.declared.Step.the-variants.{Goes, Stops}
-use Rattle.sound.specs.Sound.{isRoot, allRoots, areaStep, serviceStep, stepOf, stepsFrom, stepsOf}
+use Rattle.sound.specs.Sound.{isRoot, allRoots, stepBy, stepOf, stepsFrom, stepsOf}
+use Rattle.sound.specs.Walk.{stepUnder}
 
 -- whether the records from an index on are unused, of which those from i on are left
 abbrev pub Unused : List Node → Bool → ℕ → Type 0
@@ -35,18 +37,26 @@ module _ {nodes : List Node} {whole : Bool} {i : ℕ} (z : Node) (left : Unused 
   unfolding allRoots
   more e = turn left z (λ i. allRoots) h (λ rest. rw e)
 
-module _ (before : List Node) (used : ℕ) (n : Node) {r : Step} where
-  -- a record that is an area is judged
-  pub area-stepped : {e : ℕ} {a : Answer} → n .entry ≡ Area e → a ≡ areaJudged before (n .depth) (n .code) e → r ≡ areaStep used a →
-      r ≡ stepOf before used n
-  unfolding stepOf
-  area-stepped k j e = e ∙ rw (j, k)
+module _ (before : List Node) (used : ℕ) (n : Node) (few : length before < 64) where
+  -- a record that has no parent stops
+  pub orphan : parentAt before (n .depth) ≡ Nothing → stepOf before used n ≡ Stops
+  unfolding stepOf areaJudged placedOf
+  orphan k = by-entry (n .entry)
+    where
+      by-entry : (e : Entry) → stepBy before used n e ≡ Stops
+      by-entry (Area e) = rw (lt-leb 64 (length before) few, k)
+      by-entry (Service s b l) = rw (lt-leb 64 (length before) few, k)
 
-  -- one that is a service is placed
-  pub service-stepped : {s b : ℕ} {l : Limit} {p : Placed} → n .entry ≡ Service s b l →
-      p ≡ placedOf before used 65536 (n .depth) (n .code) b → r ≡ serviceStep s b p → r ≡ stepOf before used n
-  unfolding stepOf
-  service-stepped k j e = e ∙ rw (j, k)
+  -- any other steps as it does under its parent
+  pub under : {p : ℕ} → parentAt before (n .depth) ≡ At p →
+      stepUnder (getD before p rootNode) (firstIn before (sharedOf before (n .code))) used (n .code) (n .entry) ≡ stepOf before used n
+  unfolding stepOf areaJudged placedOf
+  under {p = p} k = by-entry (n .entry)
+    where
+      by-entry : (e : Entry) →
+          stepUnder (getD before p rootNode) (firstIn before (sharedOf before (n .code))) used (n .code) e ≡ stepBy before used n e
+      by-entry (Area e) = rw (lt-leb 64 (length before) few, k)
+      by-entry (Service s b l) = rw (lt-leb 64 (length before) few, k)
 
 -- the records of a count are stepped through, of which those from i on are left
 abbrev pub Stepped : List Node → ℕ → ℕ → ℕ → Type 0

@@ -1,13 +1,15 @@
 // Refusal 8: whether accepted additions and limits produce a card's records.
 use grow::Answer;
+use grow::First;
 use grow::Placed;
 use nodes::node::Entry;
 use nodes::node::Node;
+use types::code::ServiceCode;
 ghost use mathlib.Core.Path.{_≡_};
-ghost use Prim.Native.Nat.{_<_, _≤_};
-ghost use lib.ListN.{take, drop, getD};
-ghost use Rattle.nodes.specs.Node.{rootNode};
-ghost use Rattle.sound.specs.Sound.{isRoot, allRoots, areaStep, serviceStep, stepOf, stepsOf, soundOf};
+ghost use Prim.Native.Nat.{_<_};
+ghost use Rattle.types.specs.Code.{numberOf};
+ghost use Rattle.sound.specs.Sound.{isRoot, areaStep, serviceStep, soundOf};
+ghost use Rattle.sound.specs.Walk.{starting, isOpen, deepestBy, firstBy, firstAfter, stepUnder};
 
 // The blocks in use after a record, or that no accepted addition makes it.
 pub enum Step {
@@ -37,22 +39,6 @@ fn is_root(node: Node) -> bool
             limit: _,
         } => false,
     }
-}
-
-// Whether the records from an index on are all as a new card has them.
-fn rest_unused(nodes: [Node; 64], from: usize) -> bool
-    requires { ⌜ from ≤ 64 ⌝ }
-    ensures { λ r. ⌜ r ≡ allRoots (drop from nodes) ⌝ }
-{
-    let mut i = from;
-    while i < 64 {
-        let node = nodes[i];
-        if !is_root(node) {
-            return false;
-        }
-        i += 1;
-    }
-    true
 }
 
 // An area's record, judged.
@@ -87,18 +73,75 @@ fn service_step(start: u16, blocks: u16, placed: Placed) -> Step
     }
 }
 
-// The record at an index, after those before it.
-fn step_at(nodes: [Node; 64], i: usize, used: usize) -> Step
-    requires { ⌜ i < 64 ⌝ }
-    ensures { λ r. ⌜ r ≡ stepOf (take i nodes) used (getD nodes i rootNode) ⌝ }
+// Whether a node may come at a depth, down to the deepest that those before it leave open.
+fn is_open(depth: usize, deepest: usize) -> bool
+    ensures { λ r. ⌜ r ≡ isOpen depth deepest ⌝ }
 {
-    let node = nodes[i];
+    if depth == 0 {
+        return false;
+    }
+    if 8 < depth {
+        return false;
+    }
+    depth <= deepest
+}
+
+// The deepest that a node leaves open: under an area, beside a service.
+fn deepest_by(node: Node) -> usize
+    ensures { λ r. ⌜ r ≡ deepestBy (node .depth) (node .entry) ⌝ }
+{
     let entry = node.entry;
     match entry {
-        Entry::Area { end } => area_step(
-            used,
-            grow::judge_area(nodes, i, node.depth as u32, node.code, end),
-        ),
+        Entry::Area { end: _ } => node.depth as usize + 1,
+        Entry::Service {
+            start: _,
+            blocks: _,
+            limit: _,
+        } => node.depth as usize,
+    }
+}
+
+// The first service of a number, or none where the root's record stands for it.
+fn first_by(node: Node) -> First
+    ensures { λ r. ⌜ r ≡ firstBy node (node .entry) ⌝ }
+{
+    let entry = node.entry;
+    match entry {
+        Entry::Area { end: _ } => First::Missing,
+        Entry::Service {
+            start: _,
+            blocks: _,
+            limit: _,
+        } => First::There(node),
+    }
+}
+
+// The index of the first service of a number, after a node of that number.
+fn first_after(first: First, f: u8, node: Node, i: usize) -> u8
+    requires { ⌜ i < 64 ⌝ }
+    ensures { λ r. ⌜ r ≡ firstAfter first f (node .entry) i ⌝ }
+{
+    let First::Missing = first else {
+        return f;
+    };
+    let entry = node.entry;
+    match entry {
+        Entry::Area { end: _ } => f,
+        Entry::Service {
+            start: _,
+            blocks: _,
+            limit: _,
+        } => i as u8,
+    }
+}
+
+// A record under its parent, after the first service of its number.
+fn step_under(node: Node, above: Node, first: First, used: usize) -> Step
+    ensures { λ r. ⌜ r ≡ stepUnder above first used (node .code) (node .entry) ⌝ }
+{
+    let entry = node.entry;
+    match entry {
+        Entry::Area { end } => area_step(used, grow::area_under(above, node.code, end)),
         Entry::Service {
             start,
             blocks,
@@ -106,43 +149,21 @@ fn step_at(nodes: [Node; 64], i: usize, used: usize) -> Step
         } => service_step(
             start,
             blocks,
-            grow::place_service(
-                nodes,
-                i,
-                used,
-                65536,
-                node.depth as u32,
-                node.code,
-                blocks as u32,
-            ),
+            grow::placed_under(above, first, used, 65536, node.code, blocks as u32),
         ),
     }
 }
 
-// The blocks in use after all records that a count takes.
-fn steps(nodes: [Node; 64], count: usize) -> Step
-    requires { ⌜ (1 ≤ count) × (count ≤ 64) ⌝ }
-    ensures { λ r. ⌜ r ≡ stepsOf (take count nodes) ⌝ }
+// The service number of a node's code.
+fn number_of(node: Node) -> usize
+    ensures { λ r. ⌜ (r ≡ numberOf (node .code)) × (r < 1024) ⌝ }
 {
-    let mut used = 0;
-    let mut i = 1;
-    while i < count {
-        match step_at(nodes, i, used) {
-            Step::Goes(u) => {
-                used = u;
-            }
-            Step::Stops => {
-                return Step::Stops;
-            }
-        }
-        i += 1;
-    }
-    Step::Goes(used)
+    ServiceCode(node.code).number() as usize
 }
 
-// Whether accepted additions and limits produce these records and these blocks in use.
-pub fn sound(nodes: [Node; 64], count: usize, used: usize) -> bool
-    ensures { λ r. ⌜ r ≡ soundOf nodes count used ⌝ }
+// Whether a count takes one record or more, of at most 64, and the first is the root's.
+fn starts(count: usize, root: Node) -> bool
+    ensures { λ r. ⌜ r ≡ starting count root ⌝ }
 {
     if count == 0 {
         return false;
@@ -150,15 +171,44 @@ pub fn sound(nodes: [Node; 64], count: usize, used: usize) -> bool
     if 64 < count {
         return false;
     }
+    is_root(root)
+}
+
+// Whether accepted additions and limits produce these records and these blocks in use.
+pub fn sound(nodes: [Node; 64], count: usize, used: usize) -> bool
+    ensures { λ r. ⌜ r ≡ soundOf nodes count used ⌝ }
+{
     let root = nodes[0];
-    if !is_root(root) {
+    if !starts(count, root) {
         return false;
     }
-    if !rest_unused(nodes, count) {
-        return false;
+    for k in count..64 {
+        let unused = nodes[k];
+        if !is_root(unused) {
+            return false;
+        }
     }
-    match steps(nodes, count) {
-        Step::Goes(u) => u == used,
-        Step::Stops => false,
+    let mut parents = [0; 10]; // for each depth, the record that a node comes under
+    let mut firsts = [0; 1024]; // for each number, the record of its first service, or the root's
+    let mut deepest = 1; // the deepest at which a node may come
+    let mut now = 0; // the blocks in use
+    for i in 1..count {
+        let node = nodes[i];
+        let depth = node.depth as usize;
+        if !is_open(depth, deepest) {
+            return false;
+        }
+        let above = nodes[parents[depth]];
+        let number = number_of(node);
+        let f = firsts[number];
+        let first = first_by(nodes[f as usize]);
+        let Step::Goes(after) = step_under(node, above, first, now) else {
+            return false;
+        };
+        now = after;
+        deepest = deepest_by(node);
+        parents[depth + 1] = i;
+        firsts[number] = first_after(first, f, node, i);
     }
+    now == used
 }

@@ -49,7 +49,7 @@ impl Card {
         let nodes = self.nodes;
         let count = self.count;
         let used = self.used;
-        match grow::judge_area(nodes, count, depth, code, end) {
+        match fits::judge_area(nodes, count, depth, code, end) {
             Answer::Refused(refusal) => refuse(self, refusal),
             Answer::Done => self.grow(
                 Node {
@@ -84,7 +84,7 @@ impl Card {
         if arena.len() / 16 < used {
             return refuse(self, Refusal::ShortArena);
         }
-        match grow::place_service(nodes, count, used, arena.len(), depth, code, blocks) {
+        match fits::place_service(nodes, count, used, arena.len(), depth, code, blocks) {
             Placed::Refused(refusal) => refuse(self, refusal),
             Placed::Store {
                 start,

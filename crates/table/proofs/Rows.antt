@@ -5,8 +5,8 @@ use Prim.Native.Nat.{ℕ, zero, suc, _+_, _-_, _≤_, _<_, min}
 use native.Mathlib.Nat.{sub-zero, suc-sub-suc}
 use native.Mathlib.Numerals.{add-one}
 use native.Mathlib.Omega.{arith}
-use lib.ListN.{length, getD, set, take, replicate, length-take, length-map, List·getD-eq-default}
-use lib.Seq.{take-take, take-at}
+use lib.ListN.{length, getD, set, take, replicate, length-take, length-map}
+use lib.Seq.{set-set, take-take, take-at}
 use Rattle.nodes.specs.declared.node.Node.{Node}
 use Rattle.nodes.specs.declared.node.Entry.the-variants.{Area}
 use Rattle.find.specs.declared.Found.{Found}
@@ -29,14 +29,17 @@ module _ {nodes : List Node} {count : ℕ} (r : Records nodes count) (code : ℕ
   unfolding rowOf
   no-service e = rw (sym told ∙ e)
 
+-- a place that was filled, and may have been filled anew
+module _ {x y : Row} (e : x ≡ y) (rows : List Row) (i : ℕ) where
+  pub filled-once : {after : List Row} → after ≡ set rows i x → after ≡ set rows i y
+  filled-once k = k ∙ rw e
+
+  pub filled-anew : {before after : List Row} (z : Row) → before ≡ set rows i z → after ≡ set before i x → after ≡ set rows i y
+  filled-anew z h k = k ∙ rw (h, e) (set-set rows i z y)
+
 -- below the count, the row of the array, whatever a read past its end gives
 pub within : (rows : List Row) (n i : ℕ) (z : Row) → i < n → i < length rows → getD rows i z ≡ rowAtIndex (take n rows) i
 within rows n i z h k = sym (read rows n i noRow z (simp length-take (omega arith)))
-
--- from the count on, and from the array's end on, none
-pub beyond : (rows : List Row) (n i : ℕ) → min n (length rows) ≤ i → noRow ≡ rowAtIndex (take n rows) i
-beyond rows n i h =
-    let k : length (take n rows) ≤ i = simp length-take h in sym (List·getD-eq-default (take n rows) noRow k)
 
 -- of k places the first i filled
 abbrev pub filled : {A : Type 0} → (ℕ → A) → A → ℕ → List ℕ → ℕ → List A

@@ -7,7 +7,7 @@ use types::code::Decoded;
 use types::code::ServiceCode;
 ghost use mathlib.Core.Path.{_≡_};
 ghost use lib.ListN.{take};
-ghost use Rattle.table.specs.Row.{noRow, rowBy, rowOf, tableOf, rowAtIndex};
+ghost use Rattle.table.specs.Row.{noRow, rowBy, rowOf, tableOf};
 
 // What a code comes to: its attribute and, where the card has that service, its store and limit.
 pub struct Row {
@@ -89,26 +89,22 @@ pub fn table_of(nodes: [Node; 64], count: usize, codes: &[u16]) -> Table
     let none = no_row();
     let mut rows = [none; 16];
     let n = if codes.len() < 16 { codes.len() } else { 16 };
+    let taken = nodes::taken(count);
     let mut i = 0;
     while i < n {
-        rows[i] = row_of(nodes, count, codes[i]);
+        let code = codes[i];
+        rows[i] = row_by(code, Entry::Area { end: 0 });
+        let mut k = 0;
+        while k < taken {
+            let node = nodes[k];
+            if find::is_service_of(node, code) {
+                let entry = node.entry;
+                rows[i] = row_by(code, entry);
+                break;
+            }
+            k += 1;
+        }
         i += 1;
     }
     Table { rows, count: n }
-}
-
-impl Table {
-    // The row at an index of the codes, or none.
-    pub fn row(self, index: u8) -> Row
-        ensures { λ r. ⌜ r ≡ rowAtIndex (take (self .count) (self .rows)) index ⌝ }
-    {
-        let i = index as usize;
-        if 16 <= i {
-            return no_row();
-        }
-        if self.count <= i {
-            return no_row();
-        }
-        self.rows[i]
-    }
 }

@@ -18,18 +18,17 @@ is-sought-spec =
     (λ c κs. search needs)
     (λ c κs. search needs)
     (λ c κs. search needs)
-    (λ c. c .is-service .ensures ∙ search (tests, c .before .before .before .enum-told .given .1))
-    (λ c. search (tests, c .before .before .enum-told .given .1))
+    (λ c. c .is-service-of .ensures ∙ search (c .before .enum-told .given .1))
     (λ c. c .is-area .ensures ∙ search (tests, c .before .before .before .enum-told2 .given .1))
     (λ c. search (tests, c .before .before .enum-told2 .given .1))
-    (λ c. c .is-service2 .ensures ∙ search (
+    (λ c. c .is-service .ensures ∙ search (
       tests,
       c .before .before .before .before .enum-told3 .given .1,
-      sym (c .before .before .before .number .ensures) ∙ c .before .if3 .taken ∙ c .before .before .number2 .ensures,
+      sym (c .before .before .before .number .ensures) ∙ c .before .if2 .taken ∙ c .before .before .number2 .ensures,
     ))
     (λ c. rw (
       c .before .before .before .enum-told3 .given .1,
       ← c .before .before .number .ensures,
       ← c .before .number2 .ensures,
-      ne-eqb _ _ (c .if3 .left),
+      ne-eqb _ _ (c .if2 .left),
     )))

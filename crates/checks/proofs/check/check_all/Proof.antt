@@ -1,24 +1,44 @@
 -- The invariant: the answer for all elements is the answer for those that are left from `at`, the first of them number i.
 use mathlib.Core.Path.{_≡_, sym, _∙_}
-use Prim.Native.Nat.{_-_, _≤_}
+use Prim.Native.Nat.{_-_, _≤_, _<_}
 use native.Mathlib.Omega.{arith}
 use native.Mathlib.Nat.{sub-zero}
-use lib.ListN.{take}
+use lib.ListN.{length, take, length-map}
 use borrow.Author.Needs.{needs}
 use Rattle.lists.specs.Element.{elementsFrom}
-use Rattle.checks.specs.Check.{checkedFrom}
-use Rattle.checks.proofs.Steps.{none-left, cut-short, fails, passes}
+use Rattle.checks.specs.Check.{elementCheck, checkedFrom}
+use Rattle.checks.proofs.Cases.{named}
+use Rattle.checks.proofs.Steps.{index-small, none-left, cut-short, fails, passes}
 use Rattle.checks.proofs.check.check_all.Statement.{statement}
 use Rattle.checks.proofs.check.check_all.Tie as tie
 
 abbrev Inv-loop : tie.InvT-loop
-Inv-loop table write keyless list count at₀ i₀ at i =
+Inv-loop write keyless list count table at₀ i₀ at i =
     let rows = take (table .count) (table .rows) in
     (i ≤ count)
     × (checkedFrom rows write keyless 0 (elementsFrom list count 0) ≡ checkedFrom rows write keyless i (elementsFrom list (count - i) at))
 
 abbrev μ-loop : tie.MeasureT-loop
-μ-loop table write keyless list count at₀ i₀ at i = count - i
+μ-loop write keyless list count table at₀ i₀ at i = count - i
+
+-- the array has sixteen rows
+sixteen : (c : tie.Start Inv-loop μ-loop) → length (c .args .t1 .rows) ≡ 16
+sixteen c = simp length-map at (c .good .0 .1 .1 .0 .1 .0 .1)
+
+-- and an index is below that
+small : (c : tie.After-e Inv-loop μ-loop) → c .e .given .0 .0 .index < 16
+small c = index-small _ _ (sym (c .before .before .unpack .ensures) ∙ c .e .given .1)
+
+-- so the check of what stands at the index is the element's
+checked : (c : tie.After-element-check Inv-loop μ-loop) →
+    let e = c .before .before .before .before in
+    let a = e .before .before .before .before .before .before .args in
+    c .element-check .result ≡ elementCheck (take (a .t1 .count) (a .t1 .rows)) (a .write) (a .keyless) (e .e .given .0 .0)
+checked c =
+    let e = c .before .before .before .before in
+    let s = e .before .before .before .before .before .before in
+    c .element-check .ensures
+    ∙ named (s .args .t1 .rows) (s .args .t1 .count) (s .args .write) (s .args .keyless) (e .e .given .0 .0) _ (sixteen s) (small e)
 
 loop-holds : tie.Need-loop-holds Inv-loop μ-loop
 loop-holds c = (omega arith, rw sub-zero)
@@ -32,22 +52,18 @@ returns c =
 returns-2 : tie.Need-returns-2 Inv-loop μ-loop
 returns-2 c =
     let k = c .before .before .before in
-    let e = k .before .before in
+    let e = k .before .before .before .before in
     let u = e .before .before in
     let l = u .before .before .loop in
-    sym (l .inv .1
-    ∙ fails _ _ _ _ _ _ (u .unpack .ensures) (e .e .given .1) (k .element-check .ensures) (omega arith) (c .before .fault .given .1))
+    sym (l .inv .1 ∙ fails _ _ _ _ _ _ (u .unpack .ensures) (e .e .given .1) (checked k) (omega arith) (c .before .fault .given .1))
 
 loop-again : tie.Need-loop-again Inv-loop μ-loop
 loop-again c =
     let k = c .before .before in
-    let e = k .before .before in
+    let e = k .before .before .before .before in
     let u = e .before .before in
-    let l = u .before .before .loop in (
-      omega arith,
-      l .inv .1
-          ∙ passes _ _ _ _ _ _ (u .unpack .ensures) (e .e .given .1) (k .element-check .ensures) (omega arith) (c .enum-told2 .given .1),
-    )
+    let l = u .before .before .loop in
+    (omega arith, l .inv .1 ∙ passes _ _ _ _ _ _ (u .unpack .ensures) (e .e .given .1) (checked k) (omega arith) (c .enum-told2 .given .1))
 
 returns-3 : tie.Need-returns-3 Inv-loop μ-loop
 returns-3 c = sym (c .before .loop .inv .1 ∙ none-left _ _ _ _ _ _ _ (omega arith))
@@ -63,6 +79,9 @@ check-all-spec =
     (λ c. search needs)
     (λ c. search needs)
     returns
+    (λ c. search needs)
+    (λ c. omega (arith, small (c .before .before)))
+    (λ c. small (c .before .before))
     (λ c κs. search needs)
     (λ c. search needs)
     returns-2

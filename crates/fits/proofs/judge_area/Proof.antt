@@ -4,10 +4,10 @@ use Prim.Native.Nat.{_<_}
 use native.Mathlib.Omega.{arith}
 use borrow.Author.Needs.{needs}
 use Rattle.find.proofs.Records.{Records, full, free}
 use Rattle.grow.specs.Grow.{areaJudged}
-use Rattle.grow.proofs.Judged.{parent-index, judged}
-use Rattle.grow.proofs.judge_area.Statement.{statement}
-use Rattle.grow.proofs.judge_area.Tie as tie
+use Rattle.fits.proofs.Judged.{parent-index, judged}
+use Rattle.fits.proofs.judge_area.Statement.{statement}
+use Rattle.fits.proofs.judge_area.Tie as tie
 
 -- the records that it is given
 records : (c : tie.Start) → Records (c .args .t1) (c .args .count)

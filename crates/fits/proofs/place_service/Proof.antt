@@ -1,13 +1,13 @@
 -- The code tests in the definition's order, and reads the parent that the definition finds.
-use mathlib.Core.Path.{refl, sym, _∙_}
+use mathlib.Core.Path.{sym, _∙_}
 use Prim.Native.Nat.{_<_}
 use native.Mathlib.Omega.{arith}
 use borrow.Author.Needs.{needs}
 use Rattle.find.proofs.Records.{Records, full, free}
 use Rattle.grow.specs.Grow.{placedOf}
-use Rattle.grow.proofs.Judged.{parent-index, placed}
-use Rattle.grow.proofs.place_service.Statement.{statement}
-use Rattle.grow.proofs.place_service.Tie as tie
+use Rattle.fits.proofs.Judged.{parent-index, placed}
+use Rattle.fits.proofs.place_service.Statement.{statement}
+use Rattle.fits.proofs.place_service.Tie as tie
 
 -- the records that it is given
 records : (c : tie.Start) → Records (c .args .t1) (c .args .count)
@@ -25,19 +25,11 @@ returns-2 c =
 
 returns-3 : tie.Need-returns-3
 returns-3 c =
-    let s = c .before .before .before in
-    let p = s .before .before .before in
+    let f = c .before in
+    let p = f .before .before .before in
     let b = p .before .before in
-    placed (records (b .before .before)) _ (b .parent-at .ensures) (p .p .given .1) _ _ _ _ _ _ (b .before .if1 .left)
-    (sym (c .before .r .given .1) ∙ s .service-under .ensures) refl
-
-returns-4 : tie.Need-returns-4
-returns-4 c =
-    let s = c .before .before .before in
-    let p = s .before .before .before in
-    let b = p .before .before in
-    placed (records (b .before .before)) _ (b .parent-at .ensures) (p .p .given .1) _ _ _ _ _ _ (b .before .if1 .left)
-    (sym (c .before .enum-told2 .given .1) ∙ s .service-under .ensures) (c .store-of .ensures)
+    c .placed-under .ensures
+    ∙ placed (records (b .before .before)) _ (b .parent-at .ensures) (p .p .given .1) _ _ _ _ _ (b .before .if1 .left) (f .first-of .ensures)
 
 pub place-service-spec : {M : Type 1} → statement M
 unfolding placedOf
@@ -52,8 +44,5 @@ place-service-spec =
     (λ c. omega (arith, inside (c .before)))
     (λ c. inside (c .before))
     (λ c κs. search needs)
-    (λ c. search needs)
-    returns-3
-    (λ c. search needs)
     (λ c κs. search needs)
-    returns-4)
+    returns-3)

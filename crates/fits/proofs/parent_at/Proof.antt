@@ -1,10 +1,10 @@
 -- Depths outside 1 to 8 have no parent; the others go to the search.
 use mathlib.Core.Path.{_∙_}
 use borrow.Author.Needs.{needs}
 use Rattle.grow.specs.Grow.{parentAt}
 use Rattle.spans.proofs.Tests.{tests}
-use Rattle.grow.proofs.parent_at.Statement.{statement}
-use Rattle.grow.proofs.parent_at.Tie as tie
+use Rattle.fits.proofs.parent_at.Statement.{statement}
+use Rattle.fits.proofs.parent_at.Tie as tie
 
 pub parent-at-spec : {M : Type 1} → statement M
 unfolding parentAt

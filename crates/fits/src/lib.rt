@@ -1,0 +1,80 @@
+// What may follow the nodes that are there: whether a new area or a new service fits after them.
+use answers::refusal::Refusal;
+use find::Found;
+use grow::Answer;
+use grow::First;
+use grow::Placed;
+use nodes::node::Node;
+ghost use mathlib.Core.Path.{_≡_};
+ghost use lib.ListN.{take};
+ghost use Rattle.find.specs.Find.{sharedOf};
+ghost use Rattle.grow.specs.Grow.{parentAt, areaJudged, firstIn, placedOf};
+
+// The parent of a new node at a depth from 1 to 8.
+fn parent_at(nodes: [Node; 64], count: usize, depth: u32) -> Found
+    ensures { λ r. ⌜ r ≡ parentAt (take count nodes) depth ⌝ }
+{
+    if depth == 0 {
+        return Found::Nothing;
+    }
+    if 8 < depth {
+        return Found::Nothing;
+    }
+    find::find_parent(nodes, count, depth as u8)
+}
+
+// The refusal of an area that comes after the nodes that are there.
+pub fn judge_area(nodes: [Node; 64], count: usize, depth: u32, code: u16, end: u16) -> Answer
+    ensures { λ r. ⌜ r ≡ areaJudged (take count nodes) depth code end ⌝ }
+{
+    if 64 <= count {
+        return Answer::Refused(Refusal::TableFull);
+    }
+    let Found::At(p) = parent_at(nodes, count, depth) else {
+        return Answer::Refused(Refusal::NoParent);
+    };
+    let above = nodes[p];
+    grow::area_under(above, code, end)
+}
+
+// The first service of a code's number among the nodes that are there.
+fn first_of(nodes: [Node; 64], count: usize, code: u16) -> First
+    ensures { λ r. ⌜ r ≡ firstIn (take count nodes) (sharedOf (take count nodes) code) ⌝ }
+{
+    match find::find_shared(nodes, count, code) {
+        Found::At(j) => {
+            let node = nodes[j];
+            First::There(node)
+        }
+        Found::Nothing => First::Missing,
+    }
+}
+
+// Where the store of a service lies that comes after the nodes that are there, or its refusal.
+pub fn place_service(
+    nodes: [Node; 64],
+    count: usize,
+    used: usize,
+    long: usize,
+    depth: u32,
+    code: u16,
+    blocks: u32,
+) -> Placed
+    ensures { λ r. ⌜ r ≡ placedOf (take count nodes) used long depth code blocks ⌝ }
+{
+    if 64 <= count {
+        return Placed::Refused(Refusal::TableFull);
+    }
+    let Found::At(p) = parent_at(nodes, count, depth) else {
+        return Placed::Refused(Refusal::NoParent);
+    };
+    let above = nodes[p];
+    grow::placed_under(
+        above,
+        first_of(nodes, count, code),
+        used,
+        long,
+        code,
+        blocks,
+    )
+}
