@@ -109,8 +109,8 @@ uint32_t uluvoli_add_service(uint8_t *card, size_t card_len, uint8_t *arena, siz
 /* Sets the purse limits of the node added last, which must be a service. Refusals: 8, 28. */
 uint32_t uluvoli_set_limit(uint8_t *card, size_t card_len, int32_t upper, int32_t lower, uint8_t generation);
 
-/* Sets a stored block, whatever its service's kind, to the ULUVOLI_BLOCK_SIZE bytes at `block`. Refusals: 30 (for
- * `block_len`), 8, 7, 23. */
+/* Sets a stored block, whatever its service's kind, to the ULUVOLI_BLOCK_SIZE bytes at `block`. Refusals: 8, 7, 23,
+ * 30 (for `block_len`). */
 uint32_t uluvoli_set_block(const uint8_t *card, size_t card_len, uint8_t *arena, size_t arena_len, uint16_t code,
                            uint32_t number, const uint8_t *block, size_t block_len);
 

@@ -12,9 +12,14 @@ use Rattle.structure.specs.Card.{nodesOf}
 use Rattle.table.specs.Row.{rowOf}
 use Rattle.block.specs.Block.{blockPlace, blockJudged, arenaSet}
 
--- a block of another length is what a malformed `blk` line is: 30, ahead of all others
+-- a block of another length is what a malformed `blk` line is: 30, after the call's own refusals
+abbrev pub unfitAfter : Answer → Answer
+unfitAfter Done = Refused MalformedImage
+unfitAfter (Refused r) = Refused r
+
 unfoldable pub setAnswer : Card → ℕ → ℕ → ℕ → List ℕ → Answer
-setAnswer c long code number block = cond (eqb (length block) 16) (blockJudged c long code number) (Refused MalformedImage)
+setAnswer c long code number block =
+    cond (eqb (length block) 16) (blockJudged c long code number) (unfitAfter (blockJudged c long code number))
 
 unfoldable pub setAfter : Card → List ℕ → ℕ → ℕ → List ℕ → List ℕ
 setAfter c arena code number block = cond (eqb (length block) 16) (arenaSet c arena code number block) arena

@@ -6,7 +6,7 @@ ghost use lib.ListN.{length};
 ghost use Rattle.block.specs.Block.{blockJudged};
 ghost use Rattle.layout.specs.Card.{decodedOf};
 ghost use Rattle.outcome.specs.Outcome.{answerAs};
-ghost use Rattle.stowing.specs.Block.{setAnswer, setAfter, placeAfter};
+ghost use Rattle.stowing.specs.Block.{unfitAfter, setAnswer, setAfter, placeAfter};
 
 // How a call ended.
 fn answered(answer: Answer) -> u32
@@ -14,6 +14,16 @@ fn answered(answer: Answer) -> u32
 {
     match answer {
         Answer::Done => 0,
+        Answer::Refused(refusal) => outcome::refused(refusal),
+    }
+}
+
+// How a call ended to which a block of another length than sixteen was lent: its own refusals come first.
+fn unfit(answer: Answer) -> u32
+    ensures { λ r. ⌜ r ≡ answerAs (unfitAfter answer) ⌝ }
+{
+    match answer {
+        Answer::Done => outcome::refused(Refusal::MalformedImage),
         Answer::Refused(refusal) => outcome::refused(refusal),
     }
 }
@@ -40,11 +50,11 @@ pub extern "C" fn uluvoli_set_block(
     ensures { λ r. ⌜ r ≡ answerAs (setAnswer (decodedOf (now (card .entry))) (length (now (arena .entry))) code number (now (block .entry))) ⌝ }
     ensures { λ _. ⌜ now (arena .exit) ≡ setAfter (decodedOf (now (card .entry))) (now (arena .entry)) code number (now (block .entry)) ⌝ }
 {
+    let own = decoding::decode(card);
     if block.len() != 16 {
-        return outcome::refused(Refusal::MalformedImage);
+        return unfit(block::judge_block(own, arena.len(), code, number));
     }
     let bytes = sixteen(block);
-    let own = decoding::decode(card);
     answered(block::set_block(own, arena, code, number, bytes))
 }
 
