@@ -24,7 +24,6 @@ use Rattle.once.proofs.Law.{once, once-by, of-one, of-two, of-three, re
 use Rattle.checks.proofs.check.check_all as checks·check-all
 use Rattle.table.proofs.row_of as table·row-of
 use Rattle.table.proofs.table_of as table·table-of
-use Rattle.table.proofs.Table.row as table·Table·row
 use Rattle.rules.proofs.element_on as rules·element-on
 use Rattle.rules.proofs.end_on as rules·end-on
 use Rattle.runs.proofs.run.apply as runs·apply
@@ -59,9 +58,6 @@ module _ {M : Type 1} (𝓤 : URA M) (H : Heap 𝓤) (A : Atoms 𝓤) (mem : Mem
 
   pub table·table-of-once : OneAnswer 𝓤 table·table-of.ended (table·table-of.clauses 𝓤 H A mem run)
   table·table-of-once κs a g r r′ ws ws′ = result 𝓤 refl
-
-  pub table·Table·row-once : OneAnswer 𝓤 table·Table·row.ended (table·Table·row.clauses 𝓤 H A mem run)
-  table·Table·row-once κs a g r r′ ws ws′ = result 𝓤 refl
 
   pub rules·element-on-once : OneAnswer 𝓤 rules·element-on.ended (rules·element-on.clauses 𝓤 H A mem run)
   rules·element-on-once κs a g r r′ ws ws′ = of-two 𝓤 (λ p p′ q q′. (once p q, λ i. (once p′ q′ i, (tt, (tt, (tt, (tt, tt)))))))

@@ -53,7 +53,7 @@ module _ {rows : List Row} {arena list : List ℕ} {count : ℕ} {old out : List
     cut short =
         let e = elements-short list at (count - i) (omega arith) (sym told ∙ short) in sym (k .same ∙ rw e (put-zero out (16 * i) []))
 
-    module _ {e : BlockListElement} {next : ℕ} (here : u ≡ Element e next) {w : Row} (r : w ≡ rowIn rows e) where
+    module _ {e : BlockListElement} {next : ℕ} (here : u ≡ Element e next) where
       -- it is the first of those left
       head : elementsFrom list (count - i) at ≡ e ∷ elementsFrom list (count - (i + 1)) next
       head = let n : count - i ≡ suc (count - (i + 1)) = omega arith in elements-element list at n (sym told ∙ here)
@@ -62,14 +62,19 @@ module _ {rows : List Row} {arena list : List ℕ} {count : ℕ} {old out : List
       each : AllReady rows (length arena) (e ∷ elementsFrom list (count - (i + 1)) next)
       each = subst (AllReady rows (length arena)) head (k .ready)
 
+      -- and so is it
+      pub ready-here : Ready rows (length arena) e
+      ready-here = each .0
+
+    module _ {e : BlockListElement} {next : ℕ} (here : u ≡ Element e next) {w : Row} (r : w ≡ rowIn rows e) where
       -- its block lies in the arena
       pub inside : 16 * w .start + 16 * e .number + 16 ≤ length arena
-      inside = let f = each .0 in rw r (omega arith)
+      inside = let f = ready-here here in rw r (omega arith)
 
       -- and is a part of it
       block : part (storeIn arena (rowIn rows e)) (16 * e .number) 16 ≡ part arena (16 * w .start + 16 * e .number) 16
       block =
-          let f = each .0 in
+          let f = ready-here here in
           let x = rowIn rows e in
           rw r (part-part arena (16 * x .start) (16 * x .blocks) (16 * e .number) 16 (omega arith))
 
@@ -88,6 +93,6 @@ module _ {rows : List Row} {arena list : List ℕ} {count : ℕ} {old out : List
           record {
             most = omega arith;
             long = rw n (length-put out (16 * i) 16 (drop (16 * w .start + 16 * e .number) arena) ∙ k .long);
-            ready = each .1;
-            same = k .same ∙ rw head step;
+            ready = each here .1;
+            same = k .same ∙ rw (head here) step;
           }

@@ -28,7 +28,7 @@ fn copy_blocks(out: &mut [u8], arena: &[u8], table: Table, list: &[u8], count: u
         let Unpacked::Element { element: e, next } = element::unpack(list, at) else {
             break;
         };
-        let own = table.row(e.index);
+        let own = table.rows[e.index as usize];
         let from = 16 * (own.start as usize) + 16 * (e.number as usize);
         spans::copy(out, 16 * i, arena, from, 16);
         at = next;

@@ -5,7 +5,7 @@ use Prim.Native.Nat.{ℕ, zero, suc, _+_, _-_, _≤_, _<_, min}
 use native.Mathlib.Nat.{sub-zero, suc-sub-suc}
 use native.Mathlib.Numerals.{add-one}
 use native.Mathlib.Omega.{arith}
-use lib.ListN.{length, getD, set, take, replicate, length-take, length-map, List·getD-eq-default}
+use lib.ListN.{length, getD, set, take, replicate, length-take, length-map}
 use lib.Seq.{set-set, take-take, take-at}
 use Rattle.nodes.specs.declared.node.Node.{Node}
 use Rattle.nodes.specs.declared.node.Entry.the-variants.{Area}
@@ -40,11 +40,6 @@ module _ {x y : Row} (e : x ≡ y) (rows : List Row) (i : ℕ) where
 -- below the count, the row of the array, whatever a read past its end gives
 pub within : (rows : List Row) (n i : ℕ) (z : Row) → i < n → i < length rows → getD rows i z ≡ rowAtIndex (take n rows) i
 within rows n i z h k = sym (read rows n i noRow z (simp length-take (omega arith)))
-
--- from the count on, and from the array's end on, none
-pub beyond : (rows : List Row) (n i : ℕ) → min n (length rows) ≤ i → noRow ≡ rowAtIndex (take n rows) i
-beyond rows n i h =
-    let k : length (take n rows) ≤ i = simp length-take h in sym (List·getD-eq-default (take n rows) noRow k)
 
 -- of k places the first i filled
 abbrev pub filled : {A : Type 0} → (ℕ → A) → A → ℕ → List ℕ → ℕ → List A

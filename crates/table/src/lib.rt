@@ -7,7 +7,7 @@ use types::code::Decoded;
 use types::code::ServiceCode;
 ghost use mathlib.Core.Path.{_≡_};
 ghost use lib.ListN.{take};
-ghost use Rattle.table.specs.Row.{noRow, rowBy, rowOf, tableOf, rowAtIndex};
+ghost use Rattle.table.specs.Row.{noRow, rowBy, rowOf, tableOf};
 
 // What a code comes to: its attribute and, where the card has that service, its store and limit.
 pub struct Row {
@@ -107,20 +107,4 @@ pub fn table_of(nodes: [Node; 64], count: usize, codes: &[u16]) -> Table
         i += 1;
     }
     Table { rows, count: n }
-}
-
-impl Table {
-    // The row at an index of the codes, or none.
-    pub fn row(self, index: u8) -> Row
-        ensures { λ r. ⌜ r ≡ rowAtIndex (take (self .count) (self .rows)) index ⌝ }
-    {
-        let i = index as usize;
-        if 16 <= i {
-            return no_row();
-        }
-        if self.count <= i {
-            return no_row();
-        }
-        self.rows[i]
-    }
 }
