@@ -158,12 +158,6 @@ impl Card {
 
     /// Reads the elements' blocks to the front of `out`, 16 bytes for each element.
     pub fn read(&self, arena: &[u8], out: &mut [u8], request: &Request) -> Result<(), Failure> {
-        let Request {
-            keyless,
-            codes,
-            count,
-            list,
-        } = *request;
         // SAFETY: the pointers are valid for their lengths; the output is lent for writing, and apart.
         replied(unsafe {
             ffi::uluvoli_read(
@@ -173,12 +167,12 @@ impl Card {
                 arena.len(),
                 out.as_mut_ptr(),
                 out.len(),
-                keyless,
-                codes.as_ptr(),
-                codes.len(),
-                count,
-                list.as_ptr(),
-                list.len(),
+                request.keyless,
+                request.codes.as_ptr(),
+                request.codes.len(),
+                request.count,
+                request.list.as_ptr(),
+                request.list.len(),
             )
         })
     }
@@ -192,12 +186,6 @@ impl Card {
         request: &Request,
         data: &[u8],
     ) -> Result<(), Failure> {
-        let Request {
-            keyless,
-            codes,
-            count,
-            list,
-        } = *request;
         // SAFETY: the pointers are valid for their lengths; arena and staging are lent for writing, and all are apart.
         replied(unsafe {
             ffi::uluvoli_write(
@@ -207,12 +195,12 @@ impl Card {
                 arena.len(),
                 staging.as_mut_ptr(),
                 staging.len(),
-                keyless,
-                codes.as_ptr(),
-                codes.len(),
-                count,
-                list.as_ptr(),
-                list.len(),
+                request.keyless,
+                request.codes.as_ptr(),
+                request.codes.len(),
+                request.count,
+                request.list.as_ptr(),
+                request.list.len(),
                 data.as_ptr(),
                 data.len(),
             )

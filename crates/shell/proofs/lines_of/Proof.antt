@@ -1,10 +1,10 @@
--- `steps::lines_of` is safe and ends: each line takes at least its LF from the chunk. Assumes nothing.
+-- `shell::lines_of` is safe and ends: each line takes at least its LF from the chunk. Assumes nothing.
 use Prim.Native.Nat.{_+_, _-_, _≤_}
 use mathlib.Core.Path.{_≡_}
 use lib.ListN.{length}
 use borrow.Author.Needs.{needs}
-use Rattle.steps.proofs.lines_of.Statement.{statement}
-use Rattle.steps.proofs.lines_of.Tie as tie
+use Rattle.shell.proofs.lines_of.Statement.{statement}
+use Rattle.shell.proofs.lines_of.Tie as tie
 
 abbrev Inv-loop : tie.InvT-loop
 Inv-loop chunk line₀ arena₀ work₀ bytes₀ out₀ next₀ line arena work bytes out next =

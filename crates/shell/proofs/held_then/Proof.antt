@@ -1,8 +1,8 @@
--- `held::held_then` is safe: the sum is within the buffer. Assumes nothing.
+-- `shell::held_then` is safe: the sum is within the buffer. Assumes nothing.
 use native.Mathlib.Omega.{arith}
 use borrow.Author.Needs.{needs}
-use Rattle.held.proofs.held_then.Statement.{statement}
-use Rattle.held.proofs.held_then.Tie as tie
+use Rattle.shell.proofs.held_then.Statement.{statement}
+use Rattle.shell.proofs.held_then.Tie as tie
 
 add-result : tie.Need-add-result
 add-result c = omega arith

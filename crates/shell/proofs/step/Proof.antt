@@ -1,11 +1,11 @@
--- `steps::step` is safe, stays in the chunk and moves on past a LF that it took. Assumes nothing.
+-- `shell::step` is safe, stays in the chunk and moves on past a LF that it took. Assumes nothing.
 use native.Mathlib.Omega.{arith}
 use mathlib.Core.Path.{refl}
 use denote.Ref.{now}
 use borrow.Author.Needs.{needs}
 use Rattle.feed.proofs.Laws.{fed}
-use Rattle.steps.proofs.step.Statement.{statement}
-use Rattle.steps.proofs.step.Tie as tie
+use Rattle.shell.proofs.step.Statement.{statement}
+use Rattle.shell.proofs.step.Tie as tie
 
 returns : tie.Need-returns
 returns c =
