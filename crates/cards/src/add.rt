@@ -1,7 +1,7 @@
 // Lines that grow a card.
+use crate::numbers::at16;
+use crate::numbers::at32;
 use grow::Answer;
-use stored::number16;
-use stored::number32;
 use structure::card::Added;
 use structure::card::Card;
 
@@ -53,12 +53,7 @@ fn area(g: Grown, b: &[u8]) -> Grown {
         return unknown(g);
     }
     let card = g.card;
-    let added = card.add_area(
-        number32(b[0], b[1], b[2], b[3]),
-        number16(b[4], b[5]),
-        number16(b[6], b[7]),
-        number16(b[8], b[9]),
-    );
+    let added = card.add_area(at32(b, 0), at16(b, 4), at16(b, 6), at16(b, 8));
     after(added, g.long, b[10])
 }
 
@@ -71,15 +66,15 @@ fn service(g: Grown, b: &[u8], arena: &mut [u8]) -> Grown {
     if arena.len() < long {
         return unknown(g);
     }
-    let used = number16(b[13], b[14]) as usize;
+    let used = at16(b, 13) as usize;
     let told = b[12];
     let card = g.card;
     let added = card.add_service(
         &mut arena[0..long],
-        number32(b[0], b[1], b[2], b[3]),
-        number16(b[4], b[5]),
-        number32(b[6], b[7], b[8], b[9]),
-        number16(b[10], b[11]),
+        at32(b, 0),
+        at16(b, 4),
+        at32(b, 6),
+        at16(b, 10),
     );
     let mut next = after(added, long, told);
     let grown = next.card;
@@ -95,11 +90,7 @@ fn limit(g: Grown, b: &[u8]) -> Grown {
         return unknown(g);
     }
     let card = g.card;
-    let added = card.set_limit(
-        word::signed32(number32(b[0], b[1], b[2], b[3])),
-        word::signed32(number32(b[4], b[5], b[6], b[7])),
-        b[8],
-    );
+    let added = card.set_limit(word::signed32(at32(b, 0)), word::signed32(at32(b, 4)), b[8]);
     after(added, g.long, b[9])
 }
 
@@ -108,11 +99,7 @@ fn tree(g: Grown, b: &[u8]) -> Grown {
     if b.len() != 8 {
         return unknown(g);
     }
-    start(
-        number16(b[0], b[1]),
-        number16(b[2], b[3]),
-        number32(b[4], b[5], b[6], b[7]) as usize,
-    )
+    start(at16(b, 0), at16(b, 2), at32(b, 4) as usize)
 }
 
 // A line `m`: the length of the arena from here on.
@@ -121,7 +108,7 @@ fn arena_length(g: Grown, b: &[u8]) -> Grown {
         return unknown(g);
     }
     let mut next = g;
-    next.long = number32(b[0], b[1], b[2], b[3]) as usize;
+    next.long = at32(b, 0) as usize;
     next.agrees = true;
     next
 }

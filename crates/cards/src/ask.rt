@@ -1,5 +1,6 @@
 // Questions about a card's tree.
 use crate::codes::codes;
+use crate::numbers::at16;
 use listing::directory::Listing;
 use query::Checked;
 use query::Told;
@@ -56,7 +57,7 @@ fn directory(card: Card, b: &[u8]) -> bool {
     if b.len() < 3 {
         return false;
     }
-    let room = number16(b[0], b[1]) as usize;
+    let room = at16(b, 0) as usize;
     if 512 < room {
         return false;
     }
@@ -93,21 +94,9 @@ pub(crate) fn agrees(card: Card, kind: u8, b: &[u8]) -> bool {
             list_check(card, kind, b, &mut list)
         }
         b'N' => {
-            b.len() == 4
-                && number(
-                    query::block_count_for_node(card, number16(b[0], b[1])),
-                    b[2],
-                    b[3],
-                )
+            b.len() == 4 && number(query::block_count_for_node(card, at16(b, 0)), b[2], b[3])
         }
-        b'V' => {
-            b.len() == 4
-                && number(
-                    query::node_key_version(card, number16(b[0], b[1])),
-                    b[2],
-                    b[3],
-                )
-        }
+        b'V' => { b.len() == 4 && number(query::node_key_version(card, at16(b, 0)), b[2], b[3]) }
         _ => false,
     }
 }

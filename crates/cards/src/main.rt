@@ -6,6 +6,7 @@ use structure::card::Card;
 mod add;
 mod ask;
 mod codes;
+mod numbers;
 mod request;
 mod spelt;
 
@@ -57,9 +58,9 @@ fn counted(t: Tally, kind: u8, agrees: bool) -> Tally {
     next
 }
 
-// Whether a line that leaves the card as it is agrees.
+// Whether a line that leaves the card as it is agrees, with as much of the arena as is lent.
 fn asked(
-    card: Card,
+    grown: Grown,
     kind: u8,
     line: &[u8],
     b: &[u8],
@@ -67,39 +68,16 @@ fn asked(
     room: &mut [u8],
     copy: &mut [u8],
 ) -> bool {
-    match kind {
-        b'b' => request::set(card, arena, b),
-        b'R' | b'W' => request::request(card, arena, line, room, copy),
-        _ => ask::agrees(card, kind, b),
-    }
-}
-
-// The same with as much of the arena as is lent.
-fn lent(
-    card: Card,
-    long: usize,
-    kind: u8,
-    line: &[u8],
-    b: &[u8],
-    arena: &mut [u8],
-    room: &mut [u8],
-    copy: &mut [u8],
-) -> bool {
+    let card = grown.card;
+    let long = grown.long;
     if arena.len() < long {
         return false;
     }
-    if copy.len() < long {
-        return false;
+    match kind {
+        b'b' => request::set(card, &mut arena[0..long], b),
+        b'R' | b'W' => request::request(card, &mut arena[0..long], line, room, copy),
+        _ => ask::agrees(card, kind, b),
     }
-    asked(
-        card,
-        kind,
-        line,
-        b,
-        &mut arena[0..long],
-        room,
-        &mut copy[0..long],
-    )
 }
 
 // Counts a line that makes a card, adds to it, or sets the arena's length.
@@ -140,17 +118,7 @@ fn one_line(kept: Kept, line: &[u8], arena: &mut [u8], room: &mut [u8], copy: &m
         return step(kept, kind, &bytes[0..n], arena);
     }
     let grown = kept.grown;
-    let card = grown.card;
-    let agrees = lent(
-        card,
-        grown.long,
-        kind,
-        line,
-        &bytes[0..n],
-        arena,
-        room,
-        copy,
-    );
+    let agrees = asked(grown, kind, line, &bytes[0..n], arena, room, copy);
     question(kept, kind, agrees)
 }
 

@@ -1,10 +1,13 @@
 // Requests on a card, and blocks set between them.
 use crate::codes::codes;
+use crate::numbers::at16;
 use crate::spelt;
 use grow::Answer;
 use plan::Reply;
 use stored::number16;
 use structure::card::Card;
+ghost use Prim.Native.Nat.{_≤_};
+ghost use lib.ListN.{length};
 
 // Whether a reply is the one told: two status bytes, or the number of a refusal.
 fn told(reply: Reply, answer: &[u8]) -> bool {
@@ -119,11 +122,12 @@ fn write_agrees(
     staging: &mut [u8],
     copy: &mut [u8],
 ) -> bool {
-    if copy.len() != arena.len() {
+    fill(staging, 0xa5);
+    let long = arena.len();
+    if copy.len() != long {
         return false;
     }
-    fill(staging, 0xa5);
-    spans::copy(copy, 0, arena, 0, arena.len());
+    spans::copy(copy, 0, arena, 0, long);
     let keyless = spelt::first(line, 1) == b'O';
     let mut sent = [0u8; 16384];
     let n = spelt::bytes(line, 5, &mut sent);
@@ -166,6 +170,32 @@ fn written_right(
     spans::same(arena, copy)
 }
 
+// Puts the codes that a line names to the front of a list; gives how many they are.
+fn named(line: &[u8], names: &mut [u16]) -> usize
+    ensures { λ r. ⌜ r ≤ length (now (names .entry)) ⌝ }
+{
+    let mut bytes = [0u8; 128];
+    let n = spelt::bytes(line, 2, &mut bytes);
+    codes(&bytes[0..n], names)
+}
+
+// A read or a write, by its line's kind.
+fn served(
+    card: Card,
+    arena: &mut [u8],
+    line: &[u8],
+    codes: &[u16],
+    list: &[u8],
+    room: &mut [u8],
+    copy: &mut [u8],
+) -> bool {
+    if spelt::first(line, 0) == b'R' {
+        read_agrees(card, arena, line, codes, list, room)
+    } else {
+        write_agrees(card, arena, line, codes, list, room, copy)
+    }
+}
+
 // A line `R` or `W`.
 pub(crate) fn request(
     card: Card,
@@ -174,36 +204,27 @@ pub(crate) fn request(
     room: &mut [u8],
     copy: &mut [u8],
 ) -> bool {
-    let mut bytes = [0u8; 128];
-    let b = spelt::bytes(line, 2, &mut bytes);
     let mut names = [0u16; 64];
-    let n = codes(&bytes[0..b], &mut names);
+    let n = named(line, &mut names);
     let mut list = [0u8; 2048];
     let m = spelt::bytes(line, 4, &mut list);
     let size = spelt::number(line, 6) as usize;
     if room.len() < size {
         return false;
     }
-    if spelt::first(line, 0) == b'R' {
-        read_agrees(
-            card,
-            arena,
-            line,
-            &names[0..n],
-            &list[0..m],
-            &mut room[0..size],
-        )
-    } else {
-        write_agrees(
-            card,
-            arena,
-            line,
-            &names[0..n],
-            &list[0..m],
-            &mut room[0..size],
-            copy,
-        )
+    let long = arena.len();
+    if copy.len() < long {
+        return false;
     }
+    served(
+        card,
+        arena,
+        line,
+        &names[0..n],
+        &list[0..m],
+        &mut room[0..size],
+        &mut copy[0..long],
+    )
 }
 
 // A line `b`: code, number, block.
@@ -213,8 +234,8 @@ pub(crate) fn set(card: Card, arena: &mut [u8], b: &[u8]) -> bool {
     }
     let mut block = [0u8; 16];
     spans::copy(&mut block, 0, b, 4, 16);
-    let number = number16(b[2], b[3]) as u32;
-    match block::set_block(card, arena, number16(b[0], b[1]), number, block) {
+    let number = at16(b, 2) as u32;
+    match block::set_block(card, arena, at16(b, 0), number, block) {
         Answer::Done => true,
         Answer::Refused(_) => false,
     }
