@@ -14,7 +14,7 @@ use Rattle.structure.specs.Build.{areaAdded, serviceAdded, limitAdded}
 use Rattle.query.specs.Query.{directoryAnswer, totalAnswer, versionAnswer, areaListAnswer, serviceListAnswer}
 use Rattle.plan.specs.declared.Reply.the-variants.{Refused as NotServed}
 use Rattle.plan.specs.Request.{Request}
-use Rattle.plan.specs.Plan.{judgedBy, planOf}
+use Rattle.plan.specs.Plan.{judgedWith, planOf}
 use Rattle.plan.specs.Serve.{told, serve}
 use Rattle.block.specs.Block.{blockJudged}
 use Rattle.layout.specs.Card.{isCard, decodedOf}
@@ -59,5 +59,5 @@ module _ (s : List ℕ) (no : isCard s ≡ false) where
   block-none long code number = rw (unsound s no)
 
   pub request-none : (arena : List ℕ) (r : Request) → serve (decodedOf s) arena r ≡ told arena (NotServed NotBuilt)
-  unfolding serve planOf judgedBy
+  unfolding serve planOf judgedWith
   request-none arena r = rw (unsound s no)

@@ -16,7 +16,7 @@ use Rattle.structure.specs.Card.{isSound}
 use Rattle.plan.specs.declared.Reply.the-variants.{Refused}
 use Rattle.plan.specs.declared.Judged.the-variants.{Refused as NotFit}
 use Rattle.plan.specs.Request.{Request}
-use Rattle.plan.specs.Plan.{judgedBy}
+use Rattle.plan.specs.Plan.{judgedWith}
 use Rattle.plan.specs.Serve.{told, serve}
 use Rattle.plan.proofs.Serves.{refused}
 
@@ -49,7 +49,7 @@ coded r codes = record {
 module _ (c : Card) (a : List ℕ) (r : Request) where
   -- more than sixteen codes are refused, whatever they are
   many : (codes : List ℕ) → 16 < length codes → serve c a (coded r codes) ≡ told a (Refused (manyRefusal (isSound c) (ltb 512 (r .count))))
-  unfolding judgedBy
+  unfolding judgedWith
   many codes h = refused c a (coded r codes) (rw (lt-ltb 16 (length codes) h) (many-judged (isSound c) (ltb 512 (r .count))))
 
   -- seventeen of them are as good as all

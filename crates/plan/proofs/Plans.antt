@@ -1,4 +1,4 @@
--- What `lentJudged` and `judgedBy` are in each of their cases.
+-- What `lentJudged` and `judgedWith` are in each of their cases.
 use mathlib.Core.Path.{_≡_}
 use mathlib.Core.Bool.{Bool, true, false}
 use mathlib.Core.List.{List}
@@ -7,12 +7,10 @@ use native.Mathlib.Omega.{arith}
 use borrow.Author.Tests.{lt-ltb, le-ltb}
 use Rattle.answers.specs.declared.refusal.Refusal.the-variants.{TooManyElements, TooManyCodes, ListLength, ShortStaging, ShortOutput, ShortArena, NotBuilt}
 use Rattle.lists.specs.Element.{endsAfter}
-use Rattle.structure.specs.declared.card.Card.{Card}
-use Rattle.structure.specs.Card.{isSound}
 use Rattle.plan.specs.declared.Lengths.{Lengths}
 use Rattle.plan.specs.declared.Judged.{Judged}
 use Rattle.plan.specs.declared.Judged.the-variants.{Refused as NotFit, ShortData as NoData, Fit}
-use Rattle.plan.specs.Plan.{lentJudged, judgedBy}
+use Rattle.plan.specs.Plan.{lentJudged, judgedWith}
 
 module _ (used count arena sent room : ℕ) where
   -- the blocks in use do not fit the arena
@@ -48,32 +46,32 @@ module _ (used count arena sent room : ℕ) where
     unfolding lentJudged
     read-fits w h = rw (le-ltb arena (16 * used) (omega arith), w, le-ltb room (16 * count) (omega arith))
 
-module _ (c : Card) (write : Bool) (count : ℕ) (list : List ℕ) (n : Lengths) where
+module _ (sound : Bool) (used : ℕ) (write : Bool) (count : ℕ) (list : List ℕ) (n : Lengths) where
   -- a card that was not built
-  pub not-built : isSound c ≡ false → NotFit NotBuilt ≡ judgedBy c write count list n
-  unfolding judgedBy
+  pub not-built : sound ≡ false → NotFit NotBuilt ≡ judgedWith sound used write count list n
+  unfolding judgedWith
   not-built s = rw s
 
-  module _ (s : isSound c ≡ true) where
+  module _ (s : sound ≡ true) where
     -- more than 512 elements
-    pub many-elements : 512 < count → NotFit TooManyElements ≡ judgedBy c write count list n
-    unfolding judgedBy
+    pub many-elements : 512 < count → NotFit TooManyElements ≡ judgedWith sound used write count list n
+    unfolding judgedWith
     many-elements h = rw (s, lt-ltb 512 count h)
 
     module _ (f : count ≤ 512) where
       -- more than 16 codes
-      pub many-codes : 16 < n .codes → NotFit TooManyCodes ≡ judgedBy c write count list n
-      unfolding judgedBy
+      pub many-codes : 16 < n .codes → NotFit TooManyCodes ≡ judgedWith sound used write count list n
+      unfolding judgedWith
       many-codes h = rw (s, le-ltb 512 count f, lt-ltb 16 (n .codes) h)
 
       module _ (g : n .codes ≤ 16) where
         -- a list that ends early, or runs on
-        pub bad-list : endsAfter list count ≡ false → NotFit ListLength ≡ judgedBy c write count list n
-        unfolding judgedBy
+        pub bad-list : endsAfter list count ≡ false → NotFit ListLength ≡ judgedWith sound used write count list n
+        unfolding judgedWith
         bad-list e = rw (s, le-ltb 512 count f, le-ltb 16 (n .codes) g, e)
 
         -- then what is lent
-        pub lent : {j : Judged} → endsAfter list count ≡ true → j ≡ lentJudged (c .used) write count (n .arena) (n .sent) (n .room) →
-            j ≡ judgedBy c write count list n
-        unfolding judgedBy
+        pub lent : {j : Judged} → endsAfter list count ≡ true → j ≡ lentJudged used write count (n .arena) (n .sent) (n .room) →
+            j ≡ judgedWith sound used write count list n
+        unfolding judgedWith
         lent e k = rw (s, le-ltb 512 count f, le-ltb 16 (n .codes) g, e) k

@@ -30,7 +30,7 @@ use Rattle.checks.proofs.Laws.{AllPass, all-pass, good}
 use Rattle.runs.specs.Ready.{Ready, AllReady}
 use Rattle.plan.specs.declared.Lengths.{Lengths}
 use Rattle.plan.specs.declared.Judged.the-variants.{Refused as NotFit, ShortData as NoData, Fit}
-use Rattle.plan.specs.Plan.{lentJudged, judgedBy}
+use Rattle.plan.specs.Plan.{lentJudged, judgedWith, judgedBy}
 use Rattle.plan.proofs.Tests.{held, unheld}
 
 -- the blocks up to the end of a row's store
@@ -127,7 +127,7 @@ module _ (used count arena sent room : ℕ) where
 -- a request that is judged to fit
 pub fits : (c : Card) (write : Bool) (count : ℕ) (list : List ℕ) (n : Lengths) → judgedBy c write count list n ≡ Fit →
     Fitting c write count list n
-unfolding judgedBy
+unfolding judgedWith
 fits c write count list n e =
     let s = held (not-fit {r = NotBuilt}) (isSound c) _ e in
     let m = unheld (not-fit {r = TooManyElements}) (ltb 512 count) _ (s .1) in

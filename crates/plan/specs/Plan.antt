@@ -41,14 +41,17 @@ lentJudged used write count arena sent room =
     (cond (ltb room (16 * used)) (NotFit ShortStaging) (cond (ltb sent (16 * count)) NoData Fit))
     (cond (ltb room (16 * count)) (NotFit ShortOutput) Fit))
 
--- 8, 1, 2, 3 ahead of those
-unfoldable pub judgedBy : Card → Bool → ℕ → List ℕ → Lengths → Judged
-judgedBy c write count list n =
-    cond (isSound c)
+-- 8, 1, 2, 3 ahead of those; of the card it is asked whether it is sound and how many blocks are in use
+unfoldable pub judgedWith : Bool → ℕ → Bool → ℕ → List ℕ → Lengths → Judged
+judgedWith sound used write count list n =
+    cond sound
     (cond (ltb 512 count) (NotFit TooManyElements)
     (cond (ltb 16 (n .codes)) (NotFit TooManyCodes)
-    (cond (endsAfter list count) (lentJudged (c .used) write count (n .arena) (n .sent) (n .room)) (NotFit ListLength))))
+    (cond (endsAfter list count) (lentJudged used write count (n .arena) (n .sent) (n .room)) (NotFit ListLength))))
     (NotFit NotBuilt)
+
+abbrev pub judgedBy : Card → Bool → ℕ → List ℕ → Lengths → Judged
+judgedBy c write count list n = judgedWith (isSound c) (c .used) write count list n
 
 abbrev pub lengthsOf : ℕ → Request → Lengths
 lengthsOf long r = record { arena = long; codes = length (r .codes); sent = length (r .sent); room = r .room }

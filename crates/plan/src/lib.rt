@@ -2,10 +2,9 @@
 use answers::refusal::Refusal;
 use answers::status;
 use answers::status::Fault;
-use structure::card::Card;
 ghost use mathlib.Core.Path.{_≡_};
 ghost use Rattle.plan.specs.Request.{flag1, flag2};
-ghost use Rattle.plan.specs.Plan.{lentJudged, judgedBy};
+ghost use Rattle.plan.specs.Plan.{lentJudged, judgedWith};
 
 // The reply to a request. Only `Done` is a request carried out.
 pub enum Reply {
@@ -59,32 +58,46 @@ pub struct Lengths {
 }
 
 // 7, then 4 or 5, then FF AC.
-fn lent_judged(used: usize, write: bool, count: usize, lengths: Lengths) -> Judged
-    ensures { λ r. ⌜ r ≡ lentJudged used write count (lengths .arena) (lengths .sent) (lengths .room) ⌝ }
+fn lent_judged(
+    used: usize,
+    write: bool,
+    count: usize,
+    arena: usize,
+    sent: usize,
+    room: usize,
+) -> Judged
+    ensures { λ r. ⌜ r ≡ lentJudged used write count arena sent room ⌝ }
 {
-    if lengths.arena / 16 < used {
+    if arena / 16 < used {
         return Judged::Refused(Refusal::ShortArena);
     }
     if write {
-        if lengths.room / 16 < used {
+        if room / 16 < used {
             return Judged::Refused(Refusal::ShortStaging);
         }
-        if lengths.sent / 16 < count {
+        if sent / 16 < count {
             return Judged::ShortData;
         }
         return Judged::Fit;
     }
-    if lengths.room / 16 < count {
+    if room / 16 < count {
         return Judged::Refused(Refusal::ShortOutput);
     }
     Judged::Fit
 }
 
 // The refusals of a request, in their order, then whether its data are there.
-pub fn judge(card: Card, write: bool, count: u32, list: &[u8], lengths: Lengths) -> Judged
-    ensures { λ r. ⌜ r ≡ judgedBy card write count (now (list .entry)) lengths ⌝ }
+pub fn judge(
+    sound: bool,
+    used: usize,
+    write: bool,
+    count: u32,
+    list: &[u8],
+    lengths: Lengths,
+) -> Judged
+    ensures { λ r. ⌜ r ≡ judgedWith sound used write count (now (list .entry)) lengths ⌝ }
 {
-    if !card.is_sound() {
+    if !sound {
         return Judged::Refused(Refusal::NotBuilt);
     }
     if 512 < count {
@@ -96,5 +109,12 @@ pub fn judge(card: Card, write: bool, count: u32, list: &[u8], lengths: Lengths)
     if !reader::list_ends(list, count as usize) {
         return Judged::Refused(Refusal::ListLength);
     }
-    lent_judged(card.used, write, count as usize, lengths)
+    lent_judged(
+        used,
+        write,
+        count as usize,
+        lengths.arena,
+        lengths.sent,
+        lengths.room,
+    )
 }

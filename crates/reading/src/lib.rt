@@ -49,13 +49,14 @@ pub fn read(
     ensures { λ r. ⌜ r ≡ serve card (now (arena .entry)) (readRequest keyless (now (codes .entry)) count (now (list .entry)) (length (now (out .entry)))) .reply ⌝ }
     ensures { λ _. ⌜ now (out .exit) ≡ outputAfter (now (out .entry)) (serve card (now (arena .entry)) (readRequest keyless (now (codes .entry)) count (now (list .entry)) (length (now (out .entry))))) ⌝ }
 {
+    let sound = card.is_sound();
     let lengths = Lengths {
         arena: arena.len(),
         codes: codes.len(),
         sent: 0,
         room: out.len(),
     };
-    match plan::judge(card, false, count, list, lengths) {
+    match plan::judge(sound, card.used, false, count, list, lengths) {
         Judged::Refused(refusal) => Reply::Refused(refusal),
         Judged::ShortData => Reply::ShortData,
         Judged::Fit => {

@@ -33,7 +33,7 @@ use Rattle.runs.specs.Runs.{then, push, runsOf, scan, walk}
 use Rattle.runs.specs.Staged.{staged}
 use Rattle.plan.specs.declared.Reply.the-variants.{Refused, Done, Failed}
 use Rattle.plan.specs.Request.{Request, readRequest, writeRequest}
-use Rattle.plan.specs.Plan.{lentJudged, judgedBy, planOf}
+use Rattle.plan.specs.Plan.{lentJudged, judgedWith, planOf}
 use Rattle.plan.specs.Serve.{blocksRead, committed, carried, serve, outputAfter}
 use Rattle.terminals.specs.Orders.{Sent, by, one, two, only, all, after, answers, told, Undisturbed}
 use Rattle.terminals.specs.Two.{Answer, answerOf, arenaAfter, Any, Names, NoneShared}
@@ -217,7 +217,7 @@ IsRedrawn = Redrawn card 0x41 1 (replicate 16 3) arena redraw between (reading 0
 
 -- all of it, computed by the definitions
 computed : Told × Alone × Ends × Disturbed × Redraws × IsRedrawn
-unfolding addService placedOf parentAt parentFrom openAt firstFrom serviceUnder outside sameKind joinedTo usable newStore numberOf attributesOf tableOf decodedOf attributeOf codeKindOf requiresKey unpackAt endsFrom endsAfter elementsFrom part put sameBytes wordAt wordBytes signedOf wordOf cyclicOf valueOf insideOf outsideOf sumOf storedOf purseRule purseDataOf blockOf purseOf isRoot allRoots stepOf stepsFrom stepsOf soundOf rowOf modeAllowed attributeCheck rowCheck elementCheck checkedFrom then push runsOf scan walk back within cashbackIn elementBy endBy onStore staged lentJudged judgedBy planOf blocksRead committed carried serve only all after answers told
+unfolding addService placedOf parentAt parentFrom openAt firstFrom serviceUnder outside sameKind joinedTo usable newStore numberOf attributesOf tableOf decodedOf attributeOf codeKindOf requiresKey unpackAt endsFrom endsAfter elementsFrom part put sameBytes wordAt wordBytes signedOf wordOf cyclicOf valueOf insideOf outsideOf sumOf storedOf purseRule purseDataOf blockOf purseOf isRoot allRoots stepOf stepsFrom stepsOf soundOf rowOf modeAllowed attributeCheck rowCheck elementCheck checkedFrom then push runsOf scan walk back within cashbackIn elementBy endBy onStore staged lentJudged judgedWith planOf blocksRead committed carried serve only all after answers told
 computed = (
   refl,
   (refl, refl),

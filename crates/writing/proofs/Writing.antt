@@ -32,7 +32,7 @@ use Rattle.plan.specs.declared.Judged.the-variants.{Refused as NotFit, ShortDat
 use Rattle.plan.specs.declared.Reply.{Reply}
 use Rattle.plan.specs.declared.Reply.the-variants.{Done, Failed}
 use Rattle.plan.specs.Request.{Request}
-use Rattle.plan.specs.Plan.{lentJudged, judgedBy, judgedOf, rowsIn, elementsIn, checkedPlan, planOf}
+use Rattle.plan.specs.Plan.{lentJudged, judgedWith, judgedBy, judgedOf, rowsIn, elementsIn, checkedPlan, planOf}
 use Rattle.plan.specs.Serve.{committed, carried, planServed, serve, stagingBy}
 use Rattle.plan.proofs.Tests.{held, unheld}
 use Rattle.plan.proofs.Ready.{all-ready}
@@ -156,7 +156,7 @@ not-short r e = let z : _≡_ {A = ℕ} 0 1 = cc in (omega arith)
 -- a write with too few data has room for its stores
 pub short-fits : (c : Card) (count : ℕ) (list : List ℕ) (n : Lengths) → judgedBy c true count list n ≡ NoData →
     (16 * c .used ≤ n .arena) × (16 * c .used ≤ n .room)
-unfolding judgedBy lentJudged
+unfolding judgedWith lentJudged
 short-fits c count list n e =
     let m = unheld (not-short TooManyElements) (ltb 512 count) _ (held (not-short NotBuilt) (isSound c) _ e .1) in
     let k = unheld (not-short TooManyCodes) (ltb 16 (n .codes)) _ (m .1) in

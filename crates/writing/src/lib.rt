@@ -84,13 +84,14 @@ pub fn write(
     ensures { λ _. ⌜ now (arena .exit) ≡ serve card (now (arena .entry)) (writeRequest keyless (now (codes .entry)) count (now (list .entry)) (now (input .entry)) (length (now (staging .entry)))) .arena ⌝ }
     ensures { λ r. ⌜ now (staging .exit) ≡ stagingBy r (16 * card .used) (now (staging .entry)) ⌝ }
 {
+    let sound = card.is_sound();
     let lengths = Lengths {
         arena: arena.len(),
         codes: codes.len(),
         sent: input.len(),
         room: staging.len(),
     };
-    match plan::judge(card, true, count, list, lengths) {
+    match plan::judge(sound, card.used, true, count, list, lengths) {
         Judged::Refused(refusal) => Reply::Refused(refusal),
         Judged::ShortData => {
             spans::zero(staging, 0, 16 * card.used);

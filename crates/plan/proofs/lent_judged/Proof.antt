@@ -9,8 +9,8 @@ lent-judged-spec =
     tie.close
     (tie.spec
     (λ c. short-arena _ _ _ _ _ _ (omega arith))
-    (λ c. short-staging _ _ _ _ _ (omega arith) (c .before .before .if2 .taken) (omega arith))
-    (λ c. short-data _ _ _ _ _ (omega arith) (c .before .before .before .before .if2 .taken) (omega arith) (omega arith))
-    (λ c. write-fits _ _ _ _ _ (omega arith) (c .before .before .before .before .if2 .taken) (omega arith) (omega arith))
-    (λ c. short-output _ _ _ _ _ (omega arith) (c .before .before .if2 .left) (omega arith))
-    (λ c. read-fits _ _ _ _ _ (omega arith) (c .before .before .if2 .left) (omega arith)))
+    (λ c. short-staging _ _ _ _ _ (omega arith) (c .before .if2 .taken) (omega arith))
+    (λ c. short-data _ _ _ _ _ (omega arith) (c .before .before .if2 .taken) (omega arith) (omega arith))
+    (λ c. write-fits _ _ _ _ _ (omega arith) (c .before .before .if2 .taken) (omega arith) (omega arith))
+    (λ c. short-output _ _ _ _ _ (omega arith) (c .before .if2 .left) (omega arith))
+    (λ c. read-fits _ _ _ _ _ (omega arith) (c .before .if2 .left) (omega arith)))

@@ -15,25 +15,34 @@ use Rattle.reading.proofs.read.Tie as tie
 records : (c : tie.Start) → length (c .args .card .nodes) ≡ 64
 records c = simp length-map at (c .good .0 .1 .1 .0 .1 .0 .1)
 
+-- the function's entry, from the judgement
+abbrev start-of : tie.After-judge → tie.Start
+start-of c = c .before .before .before .before .before .before
+
+-- how the request is judged
+judged : (c : tie.After-judge) → let a = start-of c .args in
+    judgedOf (a .card) (length (now (a .arena))) (readRequest (a .keyless) (now (a .codes)) (a .count) (now (a .list)) (length (now (a .out)))) ≡ c .judge .result
+judged c = sym (rw (c .before .is-sound .ensures) at (c .judge .ensures))
+
 -- the request fits
-fit : (c : tie.After-enum-told2) → let a = c .before .before .before .before .before .before .before .args in
+fit : (c : tie.After-enum-told2) → let a = start-of (c .before .before) .args in
     judgedOf (a .card) (length (now (a .arena))) (readRequest (a .keyless) (now (a .codes)) (a .count) (now (a .list)) (length (now (a .out)))) ≡ Fit
-fit c = sym (c .before .before .judge .ensures) ∙ c .enum-told2 .given .1
+fit c = judged (c .before .before) ∙ c .enum-told2 .given .1
 
 ready : tie.Need-copy-blocks-requires
 ready c κs =
     let k = c .before .before .before in
     let f = k .before .before .before in
-    let s = f .before .before .before .before .before .before .before in
+    let s = start-of (f .before .before) in
     let a = s .args in
     read-ready (a .card) (now (a .arena)) (now (a .out)) _ _ _ _ (fit f) (k .before .table-of .ensures) (k .check-all .ensures) (records s)
     (c .before .enum-told3 .given .1)
 
 returns : tie.Need-returns
-returns c = unread _ (refused _ _ _ (sym (c .before .before .before .judge .ensures) ∙ c .before .refusal .given .1))
+returns c = unread _ (refused _ _ _ (judged (c .before .before .before) ∙ c .before .refusal .given .1))
 
 returns-2 : tie.Need-returns-2
-returns-2 c = unread _ (short _ _ _ (sym (c .before .before .judge .ensures) ∙ c .enum-told .given .1))
+returns-2 c = unread _ (short _ _ _ (judged (c .before .before) ∙ c .enum-told .given .1))
 
 returns-3 : tie.Need-returns-3
 returns-3 c =
@@ -51,6 +60,7 @@ pub read-spec : {M : Type 1} → statement M
 read-spec =
     tie.close
     (tie.spec
+    (λ c κs. search needs)
     (λ c κs. search needs)
     (λ c. search needs)
     (λ c. search needs)

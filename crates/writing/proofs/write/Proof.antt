@@ -14,17 +14,22 @@ use Rattle.writing.proofs.write.Tie as tie
 
 -- the function's entry, from the judgement
 abbrev start-of : tie.After-judge → tie.Start
-start-of c = c .before .before .before .before .before .before
+start-of c = c .before .before .before .before .before .before .before
+
+-- how the request is judged
+judged : (c : tie.After-judge) → let a = start-of c .args in
+    judgedOf (a .card) (length (now (a .arena))) (writeRequest (a .keyless) (now (a .codes)) (a .count) (now (a .list)) (now (a .input)) (length (now (a .staging)))) ≡ c .judge .result
+judged c = sym (rw (c .before .is-sound .ensures) at (c .judge .ensures))
 
 -- too few data
 no-data : (c : tie.After-enum-told) → let a = start-of (c .before .before) .args in
     judgedOf (a .card) (length (now (a .arena))) (writeRequest (a .keyless) (now (a .codes)) (a .count) (now (a .list)) (now (a .input)) (length (now (a .staging)))) ≡ NoData
-no-data c = sym (c .before .before .judge .ensures) ∙ c .enum-told .given .1
+no-data c = judged (c .before .before) ∙ c .enum-told .given .1
 
 -- the request fits
 fit : (c : tie.After-enum-told2) → let a = start-of (c .before .before) .args in
     judgedOf (a .card) (length (now (a .arena))) (writeRequest (a .keyless) (now (a .codes)) (a .count) (now (a .list)) (now (a .input)) (length (now (a .staging)))) ≡ Fit
-fit c = sym (c .before .before .judge .ensures) ∙ c .enum-told2 .given .1
+fit c = judged (c .before .before) ∙ c .enum-told2 .given .1
 
 mul-zero : tie.Need-mul-zero
 mul-zero c =
@@ -54,7 +59,7 @@ zero-requires-2 c κs =
 
 returns : tie.Need-returns
 returns c =
-    let o = unchanged (refused _ _ _ (sym (c .before .before .before .judge .ensures) ∙ c .before .refusal .given .1)) in
+    let o = unchanged (refused _ _ _ (judged (c .before .before .before) ∙ c .before .refusal .given .1)) in
     (o .0, (o .1, refl))
 
 returns-2 : tie.Need-returns-2
@@ -73,6 +78,7 @@ pub write-spec : {M : Type 1} → statement M
 write-spec =
     tie.close
     (tie.spec
+    (λ c κs. search needs)
     (λ c κs. search needs)
     (λ c. search needs)
     (λ c. search needs)
