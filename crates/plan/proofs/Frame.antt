@@ -27,14 +27,14 @@ LiesIn w i = (16 * w .start ≤ i) × (i < 16 * w .start + 16 * w .blocks)
 
 module _ (P : ℕ → Type 0) where
   -- the same failure, or states alike at P
-  abbrev Alike : Walked (List ℕ) → Walked (List ℕ) → Type 0
+  abbrev pub Alike : Walked (List ℕ) → Walked (List ℕ) → Type 0
   Alike (bad i k) (bad j l) = (i ≡ j) × (k ≡ l)
   Alike (bad i k) (good u) = ⊥
   Alike (good s) (bad j l) = ⊥
   Alike (good s) (good u) = Same P s u
 
   -- a failure, or a state that is as it was at P
-  abbrev Spared : List ℕ → Walked (List ℕ) → Type 0
+  abbrev pub Spared : List ℕ → Walked (List ℕ) → Type 0
   Spared s (bad i k) = Unit {0}
   Spared s (good u) = Same P s u
 
@@ -82,6 +82,33 @@ module _ (P : ℕ → Type 0) where
         here (failed f) = tt
         here (passed t) = put-spare P s (16 * w .start) (16 * w .blocks) t (λ k a b. m k (a, b))
 
+  module _ (rows : List Row) (sent : List ℕ) (es : List BlockListElement) where
+    -- the runs read nothing outside P, where the rows' stores lie within it
+    pub staged-keeps : ((j i : ℕ) → LiesIn (rowAtIndex rows j) i → P i) → Keeps (staged rows sent es)
+    unfolding staged
+    staged-keeps m =
+        walk-is (elementOn rows sent) (endOn rows sent) Keeps
+        (record {
+          stay = λ s u h. h;
+          both = λ f g a b s u h. keeps-then (f s) (f u) g (a s u h) b;
+          one-is = λ i e. keeps-on i (rowIn rows e) _ (m (e .index));
+          close-is = λ i e n. keeps-on i (rowIn rows e) _ (m (e .index));
+        })
+        0 (runsOf (numberIn rows) es)
+
+    -- they change nothing in P, where the rows' stores lie outside it
+    pub staged-spares : ((j i : ℕ) → LiesIn (rowAtIndex rows j) i → P i → ⊥) → Spares (staged rows sent es)
+    unfolding staged
+    staged-spares m =
+        walk-is (elementOn rows sent) (endOn rows sent) Spares
+        (record {
+          stay = λ s. same-refl P s;
+          both = λ f g a b s. spares-then s (f s) g (a s) b;
+          one-is = λ i e. spares-on i (rowIn rows e) _ (m (e .index));
+          close-is = λ i e n. spares-on i (rowIn rows e) _ (m (e .index));
+        })
+        0 (runsOf (numberIn rows) es)
+
   -- the caller is told the same, and the arenas are left alike
   pub record Like (x y : Served) : Type 0 where
     pub reply : x .reply ≡ y .reply
@@ -97,18 +124,6 @@ module _ (P : ℕ → Type 0) where
 
     -- the request's stores lie within P
     module _ (m : (j i : ℕ) → LiesIn (rowAtIndex rows j) i → P i) where
-      staged-keeps : (es : List BlockListElement) → Keeps (staged rows (r .sent) es)
-      unfolding staged
-      staged-keeps es =
-          walk-is (elementOn rows (r .sent)) (endOn rows (r .sent)) Keeps
-          (record {
-            stay = λ s u h. h;
-            both = λ f g a b s u h. keeps-then (f s) (f u) g (a s u h) b;
-            one-is = λ i e. keeps-on i (rowIn rows e) _ (m (e .index));
-            close-is = λ i e n. keeps-on i (rowIn rows e) _ (m (e .index));
-          })
-          0 (runsOf (numberIn rows) es)
-
       read-keeps : (a u : List ℕ) (es : List BlockListElement) → Same P a u → blocksRead rows a es ≡ blocksRead rows u es
       unfolding blocksRead
       read-keeps a u [] h = refl
@@ -132,7 +147,7 @@ module _ (P : ℕ → Type 0) where
           here : (b : Bool) → Like (carried b rows size (r .sent) a es) (carried b rows size (r .sent) u es)
           here true =
               done (staged rows (r .sent) es (take size a)) (staged rows (r .sent) es (take size u))
-              (staged-keeps es _ _ (same-take P size a u h))
+              (staged-keeps rows (r .sent) es m _ _ (same-take P size a u h))
           here false = record { reply = refl; read = read-keeps a u es h; left = h }
 
       -- A request is answered by the bytes of its own stores alone, and leaves them so. What it is refused goes by the arena's length.
@@ -144,18 +159,6 @@ module _ (P : ℕ → Type 0) where
 
     -- the request's stores lie outside P
     module _ (m : (j i : ℕ) → LiesIn (rowAtIndex rows j) i → P i → ⊥) where
-      staged-spares : (es : List BlockListElement) → Spares (staged rows (r .sent) es)
-      unfolding staged
-      staged-spares es =
-          walk-is (elementOn rows (r .sent)) (endOn rows (r .sent)) Spares
-          (record {
-            stay = λ s. same-refl P s;
-            both = λ f g a b s. spares-then s (f s) g (a s) b;
-            one-is = λ i e. spares-on i (rowIn rows e) _ (m (e .index));
-            close-is = λ i e n. spares-on i (rowIn rows e) _ (m (e .index));
-          })
-          0 (runsOf (numberIn rows) es)
-
       plan-spares : (a : List ℕ) (p : Plan) → Same P a (planServed c a r p .arena)
       unfolding carried committed
       plan-spares a (stop x) = same-refl P a
@@ -166,7 +169,7 @@ module _ (P : ℕ → Type 0) where
           done (good s) w = front-spare P a size s w
 
           here : (b : Bool) → Same P a (carried b rows size (r .sent) a es .arena)
-          here true = done (staged rows (r .sent) es (take size a)) (staged-spares es (take size a))
+          here true = done (staged rows (r .sent) es (take size a)) (staged-spares rows (r .sent) es m (take size a))
           here false = same-refl P a
 
       -- a request changes no byte outside its own stores

@@ -6,17 +6,19 @@ use Prim.Native.Nat.{ℕ, _+_, _-_, _*_, _≤_}
 use native.Mathlib.Omega.{arith}
 use native.Mathlib.Nat.{sub-zero, zero-add}
 use lib.Dec.{ltb}
-use lib.ListN.{length, take, drop, replicate, length-replicate}
+use lib.ListN.{length, take, drop, replicate, length-replicate, length-append}
 use lib.Seq.{length-take-le, take-at, drop-at}
 use borrow.Author.Tests.{ltb-false}
 use Rattle.answers.specs.declared.refusal.Refusal.{Refusal}
 use Rattle.answers.specs.declared.refusal.Refusal.the-variants.{TooManyElements, TooManyCodes, ListLength, ShortStaging, ShortArena, NotBuilt}
 use Rattle.answers.specs.declared.status.Fault.{Fault}
 use Rattle.lists.specs.Element.{endsAfter}
-use Rattle.spans.specs.Part.{put}
-use Rattle.spans.proofs.Part.{put-split, put-take}
+use Rattle.lists.specs.declared.element.BlockListElement.{BlockListElement}
+use Rattle.spans.specs.Part.{part, put}
+use Rattle.spans.proofs.Part.{put-split, put-take, part-put}
 use Rattle.structure.specs.declared.card.Card.{Card}
 use Rattle.structure.specs.Card.{nodesOf, isSound}
+use Rattle.table.specs.declared.Row.{Row}
 use Rattle.table.specs.declared.Table.{Table}
 use Rattle.checks.specs.declared.check.Checked.{Checked}
 use Rattle.checks.specs.declared.check.Checked.the-variants.{Passed as AllPassed, Failed as FailedAt}
@@ -35,51 +37,82 @@ use Rattle.plan.specs.Request.{Request}
 use Rattle.plan.specs.Plan.{lentJudged, judgedWith, judgedBy, judgedOf, rowsIn, elementsIn, checkedPlan, planOf}
 use Rattle.plan.specs.Serve.{committed, carried, planServed, serve, stagingBy}
 use Rattle.plan.proofs.Tests.{held, unheld}
-use Rattle.plan.proofs.Ready.{all-ready}
+use Rattle.plan.proofs.Ready.{rows-within, sound-laid, all-ready}
 use Rattle.plan.proofs.Serves.{failed, passed, unchanged}
 use Rattle.plan.proofs.Fits.{fit, rows, checked}
+use Rattle.plan.proofs.Same.{Same, same-refl, same-sym, same-trans, same-whole, same-take, front-same, front-spare}
+use Rattle.plan.proofs.Frame.{Alike, Spared, staged-keeps, staged-spares}
+use Rattle.writing.specs.Stores.{AllIn, storesPut}
+use Rattle.writing.proofs.Stores.{Named, stores-spare, stores-front, stores-rest}
 
--- the staging s, once `size` bytes of the arena a were copied over its old bytes g
-module _ (a g s : List ℕ) (size : ℕ) (fa : size ≤ length a) (fg : size ≤ length g) (e : s ≡ put g 0 size (drop 0 a)) where
-  -- the arena's front, then the old rest
-  split : s ≡ take size a ++ drop size g
-  split = e ∙ put-split g 0 size a (omega arith) fa ∙ rw (zero-add size)
+-- the staging s, once the rows' stores of the arena a were copied over its old bytes g
+module _ (rows : List Row) (a g s : List ℕ) (size : ℕ) (fa : size ≤ length a) (fg : size ≤ length g) (n : AllIn rows size)
+    (e : s ≡ storesPut g a rows) where
+  -- in those stores it is alike to the staging that holds all of the arena's front
+  whole : Same (Named rows) s (put g 0 size a)
+  whole = rw e (stores-front g a rows size n fg fa)
 
-  -- it holds the arena's front
-  front : take (size - 0) s ≡ take size a
-  front = rw (sub-zero size, split) (take-at (take size a) (drop size g) size (length-take-le size a fa))
+  -- so it is alike to that front
+  front : Same (Named rows) (take (size - 0) (drop 0 s)) (take size a)
+  unfolding part
+  front = rw (sub-zero size, ← part-put g 0 size a (omega arith) fa) (same-take (Named rows) size s (put g 0 size a) whole)
 
   -- what is lent to the runs is as long as the blocks in use
   pub lent-long : length (take (size - 0) (drop 0 s)) ≡ size
-  lent-long = rw front (length-take-le size a fa)
+  lent-long = front .long ∙ length-take-le size a fa
 
   -- the part lent comes back as t
   module _ (t : List ℕ) (l : length t ≡ length (take (size - 0) (drop 0 s))) where
     -- beyond it the staging is as it was
     pub rest-kept : drop size (take 0 s ++ (t ++ drop (size - 0) (drop 0 s))) ≡ drop size g
-    rest-kept =
-        rw (sub-zero size, drop-at t (drop size s) size (l ∙ lent-long), split)
-        (drop-at (take size a) (drop size g) size (length-take-le size a fa))
+    rest-kept = rw (sub-zero size, drop-at t (drop size s) size (l ∙ lent-long), e) (stores-rest g a rows size n fg)
 
-    module _ (f : List ℕ → Walked (List ℕ)) {r : Applied} (h : f (take (size - 0) (drop 0 s)) ≡ walkedTo r t) where
-      -- what the runs come to, on the arena's front
-      walked : {x : Applied} → r ≡ x → f (take size a) ≡ walkedTo x t
-      walked k = rw k at (rw front at h)
+    -- the stores lie in it
+    pub staged-in : AllIn rows (length (take 0 s ++ (t ++ drop (size - 0) (drop 0 s))))
+    staged-in j = simp length-append (omega (arith, l, lent-long, n j))
+
+    module _ (sent : List ℕ) (es : List BlockListElement) {r : Applied} (h : staged rows sent es (take (size - 0) (drop 0 s)) ≡ walkedTo r t) where
+      -- on the arena's front the runs fail alike, or leave the stores alike
+      alike : {x : Applied} → r ≡ x → Alike (Named rows) (walkedTo x t) (staged rows sent es (take size a))
+      alike k = rw (h ∙ ap (λ (x : Applied). walkedTo x t) k) at (staged-keeps (Named rows) rows sent es (λ j i l. (j, l)) _ _ front)
 
       -- a run that fails leaves the arena
-      pub run-failed : {i : ℕ} {x : Fault} → r ≡ RunFailed i x →
-          (Failed i x ≡ committed size a (f (take size a)) .reply) × (a ≡ committed size a (f (take size a)) .arena)
+      pub run-failed : {i : ℕ} {x : Fault} → r ≡ RunFailed i x → let y = committed size a (staged rows sent es (take size a)) in
+          (Failed i x ≡ y .reply) × (a ≡ y .arena)
       unfolding committed
-      run-failed k = rw (walked k) (refl, refl)
+      run-failed {i = i} {x = x} k = by-walked (staged rows sent es (take size a)) (alike k)
+        where
+          by-walked : (w : Walked (List ℕ)) → Alike (Named rows) (bad i x) w → (Failed i x ≡ committed size a w .reply) × (a ≡ committed size a w .arena)
+          by-walked (bad j f) m = ((λ d. Failed (m .0 d) (m .1 d)), refl)
+          by-walked (good u) m = absurd m
 
       -- all runs pass: the arena takes the staged stores over
-      pub runs-done : {new : List ℕ} → r ≡ AllDone → new ≡ put a 0 size (drop 0 (take 0 s ++ (t ++ drop (size - 0) (drop 0 s)))) →
-          (Done ≡ committed size a (f (take size a)) .reply) × (new ≡ committed size a (f (take size a)) .arena)
+      pub runs-done : {new : List ℕ} → r ≡ AllDone → new ≡ storesPut a (take 0 s ++ (t ++ drop (size - 0) (drop 0 s))) rows →
+          let y = committed size a (staged rows sent es (take size a)) in (Done ≡ y .reply) × (new ≡ y .arena)
       unfolding committed
-      runs-done k n =
-          let w = t ++ drop (size - 0) s in
-          rw (walked k)
-          (refl, n ∙ sym (put-take a 0 size w) ∙ ap (put a 0 size) (take-at t (drop (size - 0) s) size (l ∙ lent-long)))
+      runs-done {new = new} k q =
+          by-walked (staged rows sent es (take size a)) (alike k) (staged-spares (λ i. Named rows i → ⊥) rows sent es (λ j i m p. p (j, m)) (take size a))
+        where
+          v : List ℕ
+          v = t ++ drop (size - 0) s
+
+          lent : put a 0 size v ≡ put a 0 size t
+          lent = sym (put-take a 0 size v) ∙ ap (put a 0 size) (take-at t (drop (size - 0) s) size (l ∙ lent-long))
+
+          taken : (u : List ℕ) → Same (Named rows) t u → Same (λ i. Named rows i → ⊥) (take size a) u → storesPut a v rows ≡ put a 0 size u
+          taken u m o =
+              same-whole (Named rows) (storesPut a v rows) (put a 0 size u)
+              (same-trans (Named rows) (storesPut a v rows) (put a 0 size t) (put a 0 size u)
+              (rw lent at (stores-front a v rows size n fa (simp length-append (omega (arith, l, lent-long)))))
+              (front-same (Named rows) a a size t u (same-refl (Named rows) a) m))
+              (same-trans (λ i. Named rows i → ⊥) (storesPut a v rows) a (put a 0 size u)
+              (same-sym (λ i. Named rows i → ⊥) a (storesPut a v rows) (stores-spare (λ i. Named rows i → ⊥) a v rows (λ j i w p. p (j, w))))
+              (front-spare (λ i. Named rows i → ⊥) a size u o))
+
+          by-walked : (w : Walked (List ℕ)) → Alike (Named rows) (good t) w → Spared (λ i. Named rows i → ⊥) (take size a) w →
+              (Done ≡ committed size a w .reply) × (new ≡ committed size a w .arena)
+          by-walked (bad j f) m o = absurd m
+          by-walked (good u) m o = (refl, q ∙ taken u m o)
 
 module _ (c : Card) (a : List ℕ) (r : Request) (j : judgedOf c (length a) r ≡ Fit) where
   -- a write that fits has its stores in arena and staging
@@ -97,6 +130,8 @@ module _ (c : Card) (a : List ℕ) (r : Request) (j : judgedOf c (length a) r �
       pub write-ready : length (c .nodes) ≡ 64 →
           (16 * c .used ≤ length a) × (16 * c .used ≤ r .room) × (16 * r .count ≤ length (r .sent))
           × AllReady (take (t .count) (t .rows)) (16 * c .used) (elementsIn r)
+          × (t .count ≤ 16) × AllIn (take (t .count) (t .rows)) (16 * c .used)
+      unfolding tableOf
       write-ready h =
           let f = fit c a r j in (
             f .arena,
@@ -104,6 +139,8 @@ module _ (c : Card) (a : List ℕ) (r : Request) (j : judgedOf c (length a) r �
             f .sent w,
             rw (rows c a r j made)
                 (all-ready c h (f .sound) (r .codes) (r .write) (r .keyless) (elementsIn r) (checked c a r j made e p) (16 * c .used) (omega arith)),
+            rw made (omega arith),
+            rw (rows c a r j made) (λ i. omega (arith, rows-within (sound-laid c h (f .sound)) (r .codes) i)),
           )
 
       -- the runs are carried out

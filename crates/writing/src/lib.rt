@@ -1,4 +1,5 @@
-// Writing: all elements are checked, then the runs work on staged stores, which are committed only if every run passes.
+// Writing: all elements are checked, then the runs work on the stores that the codes name, staged, which are committed
+// only if every run passes.
 use checks::check;
 use checks::check::Checked;
 use plan::Judged;
@@ -18,6 +19,21 @@ ghost use Rattle.plan.specs.declared.Judged.the-variants.{Fit};
 ghost use Rattle.plan.specs.Request.{writeRequest};
 ghost use Rattle.plan.specs.Plan.{judgedOf};
 ghost use Rattle.plan.specs.Serve.{serve, committed, stagingBy};
+ghost use Rattle.writing.specs.Stores.{AllIn, storesPut};
+
+// Copies the stores of the table's rows to where they stand in the other slice.
+fn copy_stores(to: &mut [u8], from: &[u8], table: Table)
+    requires { ⌜ (table .count ≤ 16) × AllIn (take (table .count) (table .rows)) (length (now to)) × AllIn (take (table .count) (table .rows)) (length (now from)) ⌝ }
+    ensures { λ _. ⌜ now (to .exit) ≡ storesPut (now (to .entry)) (now (from .entry)) (take (table .count) (table .rows)) ⌝ }
+{
+    let mut i = 0;
+    while i < table.count {
+        let row = table.rows[i];
+        let at = 16 * (row.start as usize);
+        spans::copy(to, at, from, at, 16 * (row.blocks as usize));
+        i += 1;
+    }
+}
 
 // The runs on the staged stores; the arena takes them over if every run passes.
 fn carry_out(
@@ -29,16 +45,16 @@ fn carry_out(
     count: usize,
     input: &[u8],
 ) -> Reply
-    requires { ⌜ (size ≤ length (now arena)) × (size ≤ length (now staging)) × (16 * count ≤ length (now input)) × AllReady (take (table .count) (table .rows)) size (elementsFrom (now list) count 0) ⌝ }
+    requires { ⌜ (size ≤ length (now arena)) × (size ≤ length (now staging)) × (16 * count ≤ length (now input)) × AllReady (take (table .count) (table .rows)) size (elementsFrom (now list) count 0) × (table .count ≤ 16) × AllIn (take (table .count) (table .rows)) size ⌝ }
     ensures { λ r. ⌜ r ≡ committed size (now (arena .entry)) (staged (take (table .count) (table .rows)) (now (input .entry)) (elementsFrom (now (list .entry)) count 0) (take size (now (arena .entry)))) .reply ⌝ }
     ensures { λ _. ⌜ now (arena .exit) ≡ committed size (now (arena .entry)) (staged (take (table .count) (table .rows)) (now (input .entry)) (elementsFrom (now (list .entry)) count 0) (take size (now (arena .entry)))) .arena ⌝ }
     ensures { λ _. ⌜ drop size (now (staging .exit)) ≡ drop size (now (staging .entry)) ⌝ }
 {
-    spans::copy(staging, 0, arena, 0, size);
+    copy_stores(staging, arena, table);
     match run::apply(&mut staging[0..size], table, list, count, input) {
         Applied::Failed { index, fault } => Reply::Failed { index, fault },
         Applied::Done => {
-            spans::copy(arena, 0, staging, 0, size);
+            copy_stores(arena, staging, table);
             Reply::Done
         }
     }
@@ -69,7 +85,7 @@ fn checked_write(
 }
 
 // A whole write. The arena changes only where the reply is `Done`; after a refusal the staging is as it was, else zero
-// where the stores were staged.
+// for all blocks in use.
 pub fn write(
     card: Card,
     arena: &mut [u8],
@@ -108,7 +124,7 @@ pub fn write(
                 count as usize,
                 input,
             );
-            spans::zero(staging, 0, 16 * card.used); // what was staged
+            spans::zero(staging, 0, 16 * card.used); // wherever a store was staged
             reply
         }
     }

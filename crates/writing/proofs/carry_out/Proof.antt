@@ -1,13 +1,14 @@
 -- By how the runs end.
-use mathlib.Core.Path.{_≡_}
+use mathlib.Core.Path.{_≡_, sym, subst}
 use mathlib.Core.List.{List}
-use Prim.Native.Nat.{_-_}
+use native.Mathlib.Omega.{arith}
 use lib.ListN.{take}
 use denote.Ref.{now}
 use borrow.Author.Needs.{needs}
 use Rattle.lists.specs.Element.{elementsFrom}
-use Rattle.runs.specs.Staged.{staged}
-use Rattle.writing.proofs.Writing.{lent-long, rest-kept, run-failed, runs-done}
+use Rattle.table.specs.declared.Row.{Row}
+use Rattle.runs.specs.Ready.{AllReady}
+use Rattle.writing.proofs.Writing.{lent-long, rest-kept, staged-in, run-failed, runs-done}
 use Rattle.writing.proofs.carry_out.Statement.{statement}
 use Rattle.writing.proofs.carry_out.Tie as tie
 
@@ -15,11 +16,32 @@ use Rattle.writing.proofs.carry_out.Tie as tie
 abbrev start-of : tie.After-apply-arg → tie.Start
 start-of c = c .before .before .before .before .before .before .before .before .before .before
 
+-- the rows that the table holds
+abbrev rows-of : tie.Start → List Row
+rows-of c = take (c .args .table .count) (c .args .table .rows)
+
+copy-stores-requires : tie.Need-copy-stores-requires
+copy-stores-requires c κs =
+    let p = c .before .before .before .before .before .before .pre in
+    (p .4, (λ i. omega (arith, p .1, p .5 i)), (λ i. omega (arith, p .0, p .5 i)))
+
 apply-requires : tie.Need-apply-requires
 apply-requires c κs =
-    let st = start-of c in (
+    let st = start-of c in
+    let a = st .args in (
       st .pre .2,
-      rw (lent-long (now (st .args .arena)) (now (st .args .staging)) _ (st .args .size) (st .pre .0) (st .pre .1) (c .before .before .before .copy .ensures)) (st .pre .3),
+      subst (λ n. AllReady (rows-of st) n (elementsFrom (now (a .list)) (a .count) 0)) (sym (lent-long (rows-of st) (now (a .arena)) (now (a .staging)) _ (a .size) (st .pre .0) (st .pre .1) (st .pre .5) (c .before .before .before .copy-stores .ensures))) (st .pre .3),
+    )
+
+copy-stores-requires-2 : tie.Need-copy-stores-requires-2
+copy-stores-requires-2 c κs =
+    let p = c .before .before .before .before .before .before in
+    let st = start-of (p .before) in
+    let a = st .args in
+    let k = p .before .before .before .before .copy-stores .ensures in (
+      st .pre .4,
+      (λ i. omega (arith, st .pre .0, st .pre .5 i)),
+      staged-in (rows-of st) (now (a .arena)) (now (a .staging)) _ (a .size) (st .pre .0) (st .pre .1) (st .pre .5) k (p .apply .last .0) (p .apply .kept .0),
     )
 
 returns : tie.Need-returns
@@ -27,33 +49,31 @@ returns c =
     let p = c .before .before .before .before .before in
     let st = start-of (p .before) in
     let a = st .args in
-    let k = p .before .before .before .before .copy .ensures in
-    let f = staged (take (a .table .count) (a .table .rows)) (now (a .input)) (elementsFrom (now (a .list)) (a .count) 0) in
-    let o = run-failed (now (a .arena)) (now (a .staging)) _ (a .size) (st .pre .0) (st .pre .1) k (p .apply .last .0) (p .apply .kept .0) f (p .apply .ensures) (c .before .index .given .1) in
-    (o .0, (o .1, rest-kept (now (a .arena)) (now (a .staging)) _ (a .size) (st .pre .0) (st .pre .1) k (p .apply .last .0) (p .apply .kept .0)))
+    let k = p .before .before .before .before .copy-stores .ensures in
+    let o = run-failed (rows-of st) (now (a .arena)) (now (a .staging)) _ (a .size) (st .pre .0) (st .pre .1) (st .pre .5) k (p .apply .last .0) (p .apply .kept .0) (now (a .input)) (elementsFrom (now (a .list)) (a .count) 0) (p .apply .ensures) (c .before .index .given .1) in
+    (o .0, (o .1, rest-kept (rows-of st) (now (a .arena)) (now (a .staging)) _ (a .size) (st .pre .0) (st .pre .1) (st .pre .5) k (p .apply .last .0) (p .apply .kept .0)))
 
 returns-2 : tie.Need-returns-2
 returns-2 c =
     let p = c .before .before .before .before .before .before .before .before .before in
     let st = start-of (p .before) in
     let a = st .args in
-    let k = p .before .before .before .before .copy .ensures in
-    let f = staged (take (a .table .count) (a .table .rows)) (now (a .input)) (elementsFrom (now (a .list)) (a .count) 0) in
-    let o = runs-done (now (a .arena)) (now (a .staging)) _ (a .size) (st .pre .0) (st .pre .1) k (p .apply .last .0) (p .apply .kept .0) f (p .apply .ensures) (c .before .before .before .before .before .enum-told .given .1) (c .before .before .copy2 .ensures) in
-    (o .0, (o .1, rest-kept (now (a .arena)) (now (a .staging)) _ (a .size) (st .pre .0) (st .pre .1) k (p .apply .last .0) (p .apply .kept .0)))
+    let k = p .before .before .before .before .copy-stores .ensures in
+    let o = runs-done (rows-of st) (now (a .arena)) (now (a .staging)) _ (a .size) (st .pre .0) (st .pre .1) (st .pre .5) k (p .apply .last .0) (p .apply .kept .0) (now (a .input)) (elementsFrom (now (a .list)) (a .count) 0) (p .apply .ensures) (c .before .before .before .before .before .enum-told .given .1) (c .before .before .copy-stores2 .ensures) in
+    (o .0, (o .1, rest-kept (rows-of st) (now (a .arena)) (now (a .staging)) _ (a .size) (st .pre .0) (st .pre .1) (st .pre .5) k (p .apply .last .0) (p .apply .kept .0)))
 
 pub carry-out-spec : {M : Type 1} → statement M
 carry-out-spec =
     tie.close
     (tie.spec
-    (λ c κs. search needs)
+    copy-stores-requires
     (λ c. search needs)
     (λ c. search needs)
     (λ c. search needs)
     apply-requires
     (λ c. search needs)
     (λ c. search needs)
-    (λ c κs. search needs)
+    copy-stores-requires-2
     (λ c. search needs)
     (λ c. search needs)
     returns
