@@ -43,6 +43,12 @@ pub enum Refusal {
     MalformedImage,
 }
 
+// A number of 16 bits, or why there is none.
+pub enum Told {
+    Number(u16),
+    Refused(Refusal),
+}
+
 impl Refusal {
     // The number of a refusal.
     pub fn number(self) -> u8

@@ -1,9 +1,9 @@
 -- What a question returns, and the number that it answers with.
 use Prim.Native.Nat.{ℕ}
-use Rattle.listing.specs.declared.directory.Listing.{Listing}
-use Rattle.listing.specs.declared.directory.Listing.the-variants.{Listed, Refused as NotListed}
-use Rattle.query.specs.declared.Told.{Told}
-use Rattle.query.specs.declared.Told.the-variants.{Number, Refused as NotTold}
+use Rattle.listing.specs.declared.Listing.{Listing}
+use Rattle.listing.specs.declared.Listing.the-variants.{Listed, Refused as NotListed}
+use Rattle.answers.specs.declared.refusal.Told.{Told}
+use Rattle.answers.specs.declared.refusal.Told.the-variants.{Number, Refused as NotTold}
 use Rattle.outcome.specs.Outcome.{refusedAs}
 
 -- a number of 16 bits

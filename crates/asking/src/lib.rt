@@ -1,9 +1,11 @@
 // What can be asked of the tree of a card in the caller's bytes: calls for programs in C and Rust.
-use listing::directory::Listing;
-use query::Told;
+use answers::refusal::Told;
+use listing::Listing;
 ghost use mathlib.Core.Path.{_≡_};
 ghost use lib.ListN.{length};
-ghost use Rattle.query.specs.Query.{directoryAnswer, directoryOut, totalAnswer, versionAnswer};
+ghost use Rattle.listing.specs.Directory.{directoryAnswer, directoryOut};
+ghost use Rattle.totals.specs.Total.{totalAnswer};
+ghost use Rattle.keys.specs.Keys.{versionAnswer};
 ghost use Rattle.layout.specs.Card.{decodedOf};
 ghost use Rattle.asking.specs.Told.{toldAs, toldAfter, listedAs, listedAfter};
 
@@ -29,7 +31,7 @@ pub extern "C" fn uluvoli_directory(card: &[u8], out: &mut [u16], nodes: &mut us
     ensures { λ _. ⌜ now (nodes .exit) ≡ listedAfter (now (nodes .entry)) (directoryAnswer (decodedOf (now (card .entry))) (length (now (out .entry)))) ⌝ }
 {
     let own = decoding::decode(card);
-    listed(query::directory(own, out), nodes)
+    listed(listing::directory(own, out), nodes)
 }
 
 // A number of 16 bits, or why there is none.
@@ -53,7 +55,7 @@ pub extern "C" fn uluvoli_total(card: &[u8], code: u16, blocks: &mut u16) -> u32
     ensures { λ _. ⌜ now (blocks .exit) ≡ toldAfter (now (blocks .entry)) (totalAnswer (decodedOf (now (card .entry))) code) ⌝ }
 {
     let own = decoding::decode(card);
-    told(query::block_count_for_node(own, code), blocks)
+    told(totals::block_count_for_node(own, code), blocks)
 }
 
 // The key version of a node.
@@ -63,5 +65,5 @@ pub extern "C" fn uluvoli_key_version(card: &[u8], code: u16, version: &mut u16)
     ensures { λ _. ⌜ now (version .exit) ≡ toldAfter (now (version .entry)) (versionAnswer (decodedOf (now (card .entry))) code) ⌝ }
 {
     let own = decoding::decode(card);
-    told(query::node_key_version(own, code), version)
+    told(keys::node_key_version(own, code), version)
 }

@@ -1,9 +1,9 @@
 // Questions about a card's tree.
 use crate::codes::codes;
 use crate::numbers::at16;
-use listing::directory::Listing;
-use query::Checked;
-use query::Told;
+use answers::refusal::Told;
+use keys::Checked;
+use listing::Listing;
 use stored::number16;
 use structure::card::Card;
 
@@ -41,7 +41,7 @@ fn same_pairs(pairs: &[u16], b: &[u8]) -> bool {
 
 // The same of a directory written to an output.
 fn listed(card: Card, out: &mut [u16], b: &[u8]) -> bool {
-    match query::directory(card, out) {
+    match listing::directory(card, out) {
         Listing::Refused(r) => b.len() == 3 && r.number() == b[2],
         Listing::Listed(n) => {
             if out.len() / 2 < n {
@@ -68,9 +68,9 @@ fn directory(card: Card, b: &[u8]) -> bool {
 // Whether a list check is the one that a line of a kind tells.
 fn list_told(card: Card, kind: u8, list: &[u16], told: u8) -> bool {
     if kind == b'K' {
-        checked(query::area_list_well_formed(card, list), told)
+        checked(keys::area_list_well_formed(card, list), told)
     } else {
-        checked(query::service_list_well_formed(card, list), told)
+        checked(keys::service_list_well_formed(card, list), told)
     }
 }
 
@@ -94,9 +94,9 @@ pub(crate) fn agrees(card: Card, kind: u8, b: &[u8]) -> bool {
             list_check(card, kind, b, &mut list)
         }
         b'N' => {
-            b.len() == 4 && number(query::block_count_for_node(card, at16(b, 0)), b[2], b[3])
+            b.len() == 4 && number(totals::block_count_for_node(card, at16(b, 0)), b[2], b[3])
         }
-        b'V' => { b.len() == 4 && number(query::node_key_version(card, at16(b, 0)), b[2], b[3]) }
+        b'V' => { b.len() == 4 && number(keys::node_key_version(card, at16(b, 0)), b[2], b[3]) }
         _ => false,
     }
 }

@@ -6,12 +6,14 @@ use Prim.Native.Nat.{ℕ}
 use lib.IntN.{ℤ}
 use Rattle.answers.specs.declared.refusal.Refusal.the-variants.{NotBuilt}
 use Rattle.grow.specs.declared.Answer.the-variants.{Refused}
-use Rattle.listing.specs.declared.directory.Listing.the-variants.{Refused as NotListed}
-use Rattle.query.specs.declared.Told.the-variants.{Refused as NotTold}
-use Rattle.query.specs.declared.Checked.the-variants.{Refused as NotChecked}
+use Rattle.listing.specs.declared.Listing.the-variants.{Refused as NotListed}
+use Rattle.answers.specs.declared.refusal.Told.the-variants.{Refused as NotTold}
+use Rattle.keys.specs.declared.Checked.the-variants.{Refused as NotChecked}
 use Rattle.structure.specs.Card.{refused}
 use Rattle.structure.specs.Build.{areaAdded, serviceAdded, limitAdded}
-use Rattle.query.specs.Query.{directoryAnswer, totalAnswer, versionAnswer, areaListAnswer, serviceListAnswer}
+use Rattle.listing.specs.Directory.{directoryAnswer}
+use Rattle.totals.specs.Total.{totalAnswer}
+use Rattle.keys.specs.Keys.{versionAnswer, areaListAnswer, serviceListAnswer}
 use Rattle.plan.specs.declared.Reply.the-variants.{Refused as NotServed}
 use Rattle.plan.specs.Request.{Request}
 use Rattle.plan.specs.Plan.{judgedWith, planOf}

@@ -1,17 +1,24 @@
--- Key versions and the two list checks.
+-- Key versions and the two list checks, on nodes and of a card.
 use Prim.Native.Nat.{ℕ}
 use mathlib.Core.List.{List, [], _∷_}
 use mathlib.Core.Bool.{Bool, true, false, cond, not, _&&_, _||_}
 use lib.Dec.{eqb}
 use lib.ListN.{getD}
 use Rattle.types.specs.Code.{requiresKey}
+use Rattle.answers.specs.declared.refusal.Refusal.the-variants.{NotBuilt}
+use Rattle.answers.specs.declared.refusal.Told.{Told}
+use Rattle.answers.specs.declared.refusal.Told.the-variants.{Number, Refused as NotTold}
 use Rattle.nodes.specs.declared.node.Node.{Node}
 use Rattle.find.specs.declared.Found.{Found}
 use Rattle.find.specs.declared.Found.the-variants.{At, Nothing}
 use Rattle.nodes.specs.Node.{rootNode}
 use Rattle.find.specs.Find.{serviceOf, areaOf}
+use Rattle.structure.specs.declared.card.Card.{Card}
+use Rattle.structure.specs.Card.{nodesOf, isSound}
 use Rattle.keys.specs.declared.ListNode.{ListNode}
 use Rattle.keys.specs.declared.ListNode.the-variants.{Keyed, KeyFree, Unknown}
+use Rattle.keys.specs.declared.Checked.{Checked}
+use Rattle.keys.specs.declared.Checked.the-variants.{WellFormed, Malformed, Refused as NotChecked}
 
 abbrev pub isFound : Found → Bool
 isFound (At i) = true
@@ -78,3 +85,17 @@ inOrder ns (c ∷ cs) = cond (isFree (listNodeOf ns c)) (not (anyKeyed ns cs)) (
 
 unfoldable pub serviceListOf : List Node → List ℕ → Bool
 serviceListOf ns cs = allKnown ns cs && (inOrder ns cs && anyKeyed ns cs)
+
+-- what a card answers, refusal 8 first
+unfoldable pub versionAnswer : Card → ℕ → Told
+versionAnswer c code = cond (isSound c) (Number (versionOf (nodesOf c) (c .version) code)) (NotTold NotBuilt)
+
+abbrev pub checkedBy : Bool → Checked
+checkedBy true = WellFormed
+checkedBy false = Malformed
+
+unfoldable pub areaListAnswer : Card → List ℕ → Checked
+areaListAnswer c areas = cond (isSound c) (checkedBy (areaListOf (nodesOf c) areas)) (NotChecked NotBuilt)
+
+unfoldable pub serviceListAnswer : Card → List ℕ → Checked
+serviceListAnswer c services = cond (isSound c) (checkedBy (serviceListOf (nodesOf c) services)) (NotChecked NotBuilt)

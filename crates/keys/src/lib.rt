@@ -1,12 +1,22 @@
 // Key versions, and the two lists that a mutual authentication names.
+use answers::refusal::Refusal;
+use answers::refusal::Told;
 use find::Found;
 use nodes::node::Node;
+use structure::card::Card;
 use types::code::ServiceCode;
 ghost use mathlib.Core.Path.{_≡_};
 ghost use mathlib.Core.Bool.{cond};
 ghost use lib.ListN.{take};
 ghost use Rattle.keys.specs.declared.ListNode.the-variants.{Keyed, KeyFree};
-ghost use Rattle.keys.specs.Keys.{versionOf, isFound, areaOrSystem, areaListOf, listNodeOf, serviceListOf};
+ghost use Rattle.keys.specs.Keys.{versionOf, isFound, areaOrSystem, areaListOf, listNodeOf, serviceListOf, checkedBy, versionAnswer, areaListAnswer, serviceListAnswer};
+
+// Whether a list is well formed, or why that is not said.
+pub enum Checked {
+    WellFormed,
+    Malformed,
+    Refused(Refusal),
+}
 
 // What an entry of a service list names.
 pub enum ListNode {
@@ -26,7 +36,7 @@ fn is_found(found: Found) -> bool
 }
 
 // The key version of a node: the system's for FFFF, else a service's, else an area's, else FFFF.
-pub fn key_version(nodes: [Node; 64], count: usize, system: u16, code: u16) -> u16
+fn key_version(nodes: [Node; 64], count: usize, system: u16, code: u16) -> u16
     ensures { λ r. ⌜ r ≡ versionOf (take count nodes) system code ⌝ }
 {
     if code == 0xffff {
@@ -54,7 +64,7 @@ fn area_or_system(nodes: [Node; 64], count: usize, code: u16) -> bool
 }
 
 // Whether an area list is well formed: first an existing area, each later one an area or FFFF.
-pub fn area_list_well_formed(nodes: [Node; 64], count: usize, areas: &[u16]) -> bool
+fn area_list(nodes: [Node; 64], count: usize, areas: &[u16]) -> bool
     ensures { λ r. ⌜ r ≡ areaListOf (take count nodes) (now (areas .entry)) ⌝ }
 {
     if areas.len() == 0 {
@@ -102,7 +112,7 @@ fn list_node(nodes: [Node; 64], count: usize, code: u16) -> ListNode
 }
 
 // Whether a service list is well formed: each resolves, no keyed entry follows a key-free one, at least one is keyed.
-pub fn service_list_well_formed(nodes: [Node; 64], count: usize, services: &[u16]) -> bool
+fn service_list(nodes: [Node; 64], count: usize, services: &[u16]) -> bool
     ensures { λ r. ⌜ r ≡ serviceListOf (take count nodes) (now (services .entry)) ⌝ }
 {
     let mut has_keyed = false;
@@ -126,4 +136,48 @@ pub fn service_list_well_formed(nodes: [Node; 64], count: usize, services: &[u16
         i += 1;
     }
     has_keyed
+}
+
+// The key version of a node.
+pub fn node_key_version(card: Card, code: u16) -> Told
+    ensures { λ r. ⌜ r ≡ versionAnswer card code ⌝ }
+{
+    if !card.is_sound() {
+        return Told::Refused(Refusal::NotBuilt);
+    }
+    let nodes = card.nodes;
+    Told::Number(key_version(nodes, card.count, card.version, code))
+}
+
+// What is said of a list that is well formed, or is not.
+fn said(well_formed: bool) -> Checked
+    ensures { λ r. ⌜ r ≡ checkedBy «well_formed» ⌝ }
+{
+    if well_formed {
+        Checked::WellFormed
+    } else {
+        Checked::Malformed
+    }
+}
+
+// Whether an area list is well formed.
+pub fn area_list_well_formed(card: Card, areas: &[u16]) -> Checked
+    ensures { λ r. ⌜ r ≡ areaListAnswer card (now (areas .entry)) ⌝ }
+{
+    if !card.is_sound() {
+        return Checked::Refused(Refusal::NotBuilt);
+    }
+    let nodes = card.nodes;
+    said(area_list(nodes, card.count, areas))
+}
+
+// Whether a service list is well formed.
+pub fn service_list_well_formed(card: Card, services: &[u16]) -> Checked
+    ensures { λ r. ⌜ r ≡ serviceListAnswer card (now (services .entry)) ⌝ }
+{
+    if !card.is_sound() {
+        return Checked::Refused(Refusal::NotBuilt);
+    }
+    let nodes = card.nodes;
+    said(service_list(nodes, card.count, services))
 }

@@ -10,8 +10,8 @@ use Rattle.nodes.specs.declared.node.Node.{Node}
 use Rattle.nodes.specs.Node.{rootNode}
 use Rattle.nodes.proofs.Scan.{next, over}
 use Rattle.find.proofs.Records.{Records}
-use Rattle.listing.specs.declared.directory.Listing.{Listing}
-use Rattle.listing.specs.declared.directory.Listing.the-variants.{Listed, Refused}
+use Rattle.listing.specs.declared.Listing.{Listing}
+use Rattle.listing.specs.declared.Listing.the-variants.{Listed, Refused}
 use Rattle.listing.specs.Directory.{directoryOf, listedOf, listingOf, outAfter}
 use Rattle.under.proofs.Under.{take-most}
 use Rattle.listing.proofs.Laid.{OfArea}

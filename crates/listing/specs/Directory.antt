@@ -5,13 +5,15 @@ use mathlib.Core.Bool.{cond}
 use lib.Dec.{leb, ltb}
 use lib.ListN.{length}
 use lib.Seq.{sets}
-use Rattle.answers.specs.declared.refusal.Refusal.the-variants.{ShortOutput}
+use Rattle.answers.specs.declared.refusal.Refusal.the-variants.{ShortOutput, NotBuilt}
 use Rattle.nodes.specs.declared.node.Entry.{Entry}
 use Rattle.nodes.specs.declared.node.Entry.the-variants.{Area, Service}
 use Rattle.nodes.specs.declared.node.Node.{Node}
-use Rattle.listing.specs.declared.directory.Listing.{Listing}
-use Rattle.listing.specs.declared.directory.Listing.the-variants.{Listed, Refused}
+use Rattle.listing.specs.declared.Listing.{Listing}
+use Rattle.listing.specs.declared.Listing.the-variants.{Listed, Refused}
 use Rattle.under.specs.Under.{spanUnder}
+use Rattle.structure.specs.declared.card.Card.{Card}
+use Rattle.structure.specs.Card.{nodesOf, isSound}
 
 -- area (code, end), service (code, FFFF)
 abbrev pub secondOf : Entry → ℕ
@@ -41,3 +43,10 @@ listingOf ns room = cond (ltb room (2 * length ns)) (Refused ShortOutput) (Liste
 
 unfoldable pub outAfter : List Node → List ℕ → List ℕ
 outAfter ns out = cond (ltb (length out) (2 * length ns)) out (sets out 0 (directoryOf ns))
+
+-- what a card answers, refusal 8 first
+unfoldable pub directoryAnswer : Card → ℕ → Listing
+directoryAnswer c room = cond (isSound c) (listingOf (nodesOf c) room) (Refused NotBuilt)
+
+unfoldable pub directoryOut : Card → List ℕ → List ℕ
+directoryOut c out = cond (isSound c) (outAfter (nodesOf c) out) out

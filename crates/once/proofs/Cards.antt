@@ -21,21 +21,16 @@ use Rattle.grow.proofs.placed_under as grow·placed-under
 use Rattle.fits.proofs.judge_area as fits·judge-area
 use Rattle.fits.proofs.place_service as fits·place-service
 use Rattle.sound.proofs.sound as sound·sound
-use Rattle.listing.proofs.directory.directory as listing·directory
-use Rattle.totals.proofs.block_total as totals·block-total
-use Rattle.keys.proofs.key_version as keys·key-version
-use Rattle.keys.proofs.area_list_well_formed as keys·area-list-well-formed
-use Rattle.keys.proofs.service_list_well_formed as keys·service-list-well-formed
 use Rattle.structure.proofs.card.Card.add_area as structure·Card·add-area
 use Rattle.structure.proofs.card.Card.add_service as structure·Card·add-service
 use Rattle.structure.proofs.card.Card.set_limit as structure·Card·set-limit
 use Rattle.structure.proofs.card.Card.new as structure·Card·new
 use Rattle.structure.proofs.card.Card.is_sound as structure·Card·is-sound
-use Rattle.query.proofs.directory as query·directory
-use Rattle.query.proofs.block_count_for_node as query·block-count-for-node
-use Rattle.query.proofs.node_key_version as query·node-key-version
-use Rattle.query.proofs.area_list_well_formed as query·area-list-well-formed
-use Rattle.query.proofs.service_list_well_formed as query·service-list-well-formed
+use Rattle.listing.proofs.directory as listing·directory
+use Rattle.totals.proofs.block_count_for_node as totals·block-count-for-node
+use Rattle.keys.proofs.node_key_version as keys·node-key-version
+use Rattle.keys.proofs.area_list_well_formed as keys·area-list-well-formed
+use Rattle.keys.proofs.service_list_well_formed as keys·service-list-well-formed
 
 module _ {M : Type 1} (𝓤 : URA M) (H : Heap 𝓤) (A : Atoms 𝓤) (mem : Memory → SProp 𝓤) (run : Routine → Fun 𝓤) where
   pub nodes·taken-once : OneAnswer 𝓤 nodes·taken.ended (nodes·taken.clauses 𝓤 H A mem run)
@@ -74,21 +69,6 @@ module _ {M : Type 1} (𝓤 : URA M) (H : Heap 𝓤) (A : Atoms 𝓤) (mem : Mem
   pub sound·sound-once : OneAnswer 𝓤 sound·sound.ended (sound·sound.clauses 𝓤 H A mem run)
   sound·sound-once κs a g r r′ ws ws′ = result 𝓤 refl
 
-  pub listing·directory-once : OneAnswer 𝓤 listing·directory.ended (listing·directory.clauses 𝓤 H A mem run)
-  listing·directory-once κs a g r r′ ws ws′ = of-two 𝓤 (λ p p′ q q′. (once p q, λ i. (tt, (tt, (once p′ q′ i, tt)))))
-
-  pub totals·block-total-once : OneAnswer 𝓤 totals·block-total.ended (totals·block-total.clauses 𝓤 H A mem run)
-  totals·block-total-once κs a g r r′ ws ws′ = result 𝓤 refl
-
-  pub keys·key-version-once : OneAnswer 𝓤 keys·key-version.ended (keys·key-version.clauses 𝓤 H A mem run)
-  keys·key-version-once κs a g r r′ ws ws′ = result 𝓤 refl
-
-  pub keys·area-list-well-formed-once : OneAnswer 𝓤 keys·area-list-well-formed.ended (keys·area-list-well-formed.clauses 𝓤 H A mem run)
-  keys·area-list-well-formed-once κs a g r r′ ws ws′ = result 𝓤 refl
-
-  pub keys·service-list-well-formed-once : OneAnswer 𝓤 keys·service-list-well-formed.ended (keys·service-list-well-formed.clauses 𝓤 H A mem run)
-  keys·service-list-well-formed-once κs a g r r′ ws ws′ = result 𝓤 refl
-
   pub structure·Card·add-area-once : OneAnswer 𝓤 structure·Card·add-area.ended (structure·Card·add-area.clauses 𝓤 H A mem run)
   structure·Card·add-area-once κs a g r r′ ws ws′ = result 𝓤 refl
 
@@ -104,17 +84,17 @@ module _ {M : Type 1} (𝓤 : URA M) (H : Heap 𝓤) (A : Atoms 𝓤) (mem : Mem
   pub structure·Card·is-sound-once : OneAnswer 𝓤 structure·Card·is-sound.ended (structure·Card·is-sound.clauses 𝓤 H A mem run)
   structure·Card·is-sound-once κs a g r r′ ws ws′ = result 𝓤 refl
 
-  pub query·directory-once : OneAnswer 𝓤 query·directory.ended (query·directory.clauses 𝓤 H A mem run)
-  query·directory-once κs a g r r′ ws ws′ = of-two 𝓤 (λ p p′ q q′. (once p q, λ i. (tt, (once p′ q′ i, tt))))
+  pub listing·directory-once : OneAnswer 𝓤 listing·directory.ended (listing·directory.clauses 𝓤 H A mem run)
+  listing·directory-once κs a g r r′ ws ws′ = of-two 𝓤 (λ p p′ q q′. (once p q, λ i. (tt, (once p′ q′ i, tt))))
 
-  pub query·block-count-for-node-once : OneAnswer 𝓤 query·block-count-for-node.ended (query·block-count-for-node.clauses 𝓤 H A mem run)
-  query·block-count-for-node-once κs a g r r′ ws ws′ = result 𝓤 refl
+  pub totals·block-count-for-node-once : OneAnswer 𝓤 totals·block-count-for-node.ended (totals·block-count-for-node.clauses 𝓤 H A mem run)
+  totals·block-count-for-node-once κs a g r r′ ws ws′ = result 𝓤 refl
 
-  pub query·node-key-version-once : OneAnswer 𝓤 query·node-key-version.ended (query·node-key-version.clauses 𝓤 H A mem run)
-  query·node-key-version-once κs a g r r′ ws ws′ = result 𝓤 refl
+  pub keys·node-key-version-once : OneAnswer 𝓤 keys·node-key-version.ended (keys·node-key-version.clauses 𝓤 H A mem run)
+  keys·node-key-version-once κs a g r r′ ws ws′ = result 𝓤 refl
 
-  pub query·area-list-well-formed-once : OneAnswer 𝓤 query·area-list-well-formed.ended (query·area-list-well-formed.clauses 𝓤 H A mem run)
-  query·area-list-well-formed-once κs a g r r′ ws ws′ = result 𝓤 refl
+  pub keys·area-list-well-formed-once : OneAnswer 𝓤 keys·area-list-well-formed.ended (keys·area-list-well-formed.clauses 𝓤 H A mem run)
+  keys·area-list-well-formed-once κs a g r r′ ws ws′ = result 𝓤 refl
 
-  pub query·service-list-well-formed-once : OneAnswer 𝓤 query·service-list-well-formed.ended (query·service-list-well-formed.clauses 𝓤 H A mem run)
-  query·service-list-well-formed-once κs a g r r′ ws ws′ = result 𝓤 refl
+  pub keys·service-list-well-formed-once : OneAnswer 𝓤 keys·service-list-well-formed.ended (keys·service-list-well-formed.clauses 𝓤 H A mem run)
+  keys·service-list-well-formed-once κs a g r r′ ws ws′ = result 𝓤 refl

@@ -4,11 +4,16 @@ use mathlib.Core.List.{List, [], _∷_}
 use mathlib.Core.Bool.{cond}
 use lib.Dec.{leb}
 use lib.ListN.{drop, getD}
+use Rattle.answers.specs.declared.refusal.Refusal.the-variants.{NotBuilt}
+use Rattle.answers.specs.declared.refusal.Told.{Told}
+use Rattle.answers.specs.declared.refusal.Told.the-variants.{Number, Refused as NotTold}
 use Rattle.nodes.specs.declared.node.Node.{Node}
 use Rattle.find.specs.declared.Found.{Found}
 use Rattle.find.specs.declared.Found.the-variants.{At, Nothing}
 use Rattle.nodes.specs.Node.{rootNode, blocksOf}
 use Rattle.find.specs.Find.{serviceOf, areaOf}
+use Rattle.structure.specs.declared.card.Card.{Card}
+use Rattle.structure.specs.Card.{nodesOf, isSound}
 
 -- the blocks of the services under an area of depth d, a joined store once for each service
 unfoldable pub sumUnder : ℕ → List Node → ℕ
@@ -30,3 +35,7 @@ totalAt ns code Nothing = areaTotal ns code
 -- for a service code it is that store's count, and an unknown node gives 0
 unfoldable pub totalOf : List Node → ℕ → ℕ
 totalOf ns code = totalAt ns code (serviceOf ns code)
+
+-- what a card answers, refusal 8 first
+unfoldable pub totalAnswer : Card → ℕ → Told
+totalAnswer c code = cond (isSound c) (Number (totalOf (nodesOf c) code)) (NotTold NotBuilt)

@@ -1,13 +1,16 @@
 // Block totals: of an area, its own services and, by the same rule, each child area's total.
+use answers::refusal::Refusal;
+use answers::refusal::Told;
 use find::Found;
 use nodes::node::Entry;
 use nodes::node::Node;
+use structure::card::Card;
 ghost use mathlib.Core.Path.{_≡_};
 ghost use Prim.Native.Nat.{_+_, _-_, _*_, _≤_, _<_, min};
 ghost use lib.ListN.{take, drop, getD};
 ghost use Rattle.nodes.specs.Node.{rootNode, blocksOf};
 ghost use Rattle.under.specs.Under.{spanUnder};
-ghost use Rattle.totals.specs.Total.{sumUnder, areaTotal, totalOf};
+ghost use Rattle.totals.specs.Total.{sumUnder, areaTotal, totalOf, totalAnswer};
 
 // A sum of blocks, and the index past the nodes that it covers.
 pub struct Sum {
@@ -87,8 +90,8 @@ fn area_total(nodes: [Node; 64], count: usize, code: u16) -> u16
     capped(sum.blocks)
 }
 
-// The block total of a node: a service's store, an area's total, or 0 for an unknown one.
-pub fn block_total(nodes: [Node; 64], count: usize, code: u16) -> u16
+// The total of a code: a service's store, an area's total, or 0 for an unknown one.
+fn block_total(nodes: [Node; 64], count: usize, code: u16) -> u16
     ensures { λ r. ⌜ r ≡ totalOf (take count nodes) code ⌝ }
 {
     match find::find_service(nodes, count, code) {
@@ -99,4 +102,15 @@ pub fn block_total(nodes: [Node; 64], count: usize, code: u16) -> u16
         }
         Found::Nothing => area_total(nodes, count, code),
     }
+}
+
+// The block total of a node.
+pub fn block_count_for_node(card: Card, code: u16) -> Told
+    ensures { λ r. ⌜ r ≡ totalAnswer card code ⌝ }
+{
+    if !card.is_sound() {
+        return Told::Refused(Refusal::NotBuilt);
+    }
+    let nodes = card.nodes;
+    Told::Number(block_total(nodes, card.count, code))
 }

@@ -1,8 +1,8 @@
 -- What the check of a list returns, and whether the list is well formed.
 use Prim.Native.Nat.{ℕ}
 use mathlib.Core.Bool.{Bool, true, false}
-use Rattle.query.specs.declared.Checked.{Checked}
-use Rattle.query.specs.declared.Checked.the-variants.{WellFormed, Malformed, Refused}
+use Rattle.keys.specs.declared.Checked.{Checked}
+use Rattle.keys.specs.declared.Checked.the-variants.{WellFormed, Malformed, Refused}
 use Rattle.outcome.specs.Outcome.{refusedAs}
 
 abbrev pub checkedAs : Checked → ℕ

@@ -1,7 +1,7 @@
 // Whether lists for a card in the caller's bytes are well formed: calls for programs in C and Rust.
-use query::Checked;
+use keys::Checked;
 ghost use mathlib.Core.Path.{_≡_};
-ghost use Rattle.query.specs.Query.{areaListAnswer, serviceListAnswer};
+ghost use Rattle.keys.specs.Keys.{areaListAnswer, serviceListAnswer};
 ghost use Rattle.layout.specs.Card.{decodedOf};
 ghost use Rattle.vetting.specs.Checked.{checkedAs, checkedAfter};
 
@@ -30,7 +30,7 @@ pub extern "C" fn uluvoli_area_list(card: &[u8], areas: &[u16], well_formed: &mu
     ensures { λ _. ⌜ now («well_formed» .exit) ≡ checkedAfter (now («well_formed» .entry)) (areaListAnswer (decodedOf (now (card .entry))) (now (areas .entry))) ⌝ }
 {
     let own = decoding::decode(card);
-    checked(query::area_list_well_formed(own, areas), well_formed)
+    checked(keys::area_list_well_formed(own, areas), well_formed)
 }
 
 // Whether a service list is well formed.
@@ -40,5 +40,5 @@ pub extern "C" fn uluvoli_service_list(card: &[u8], services: &[u16], well_forme
     ensures { λ _. ⌜ now («well_formed» .exit) ≡ checkedAfter (now («well_formed» .entry)) (serviceListAnswer (decodedOf (now (card .entry))) (now (services .entry))) ⌝ }
 {
     let own = decoding::decode(card);
-    checked(query::service_list_well_formed(own, services), well_formed)
+    checked(keys::service_list_well_formed(own, services), well_formed)
 }

@@ -1,39 +1,20 @@
--- Whether the list is well formed is whether what is left of it is.
-use mathlib.Core.Path.{sym, _∙_, ap}
-use Prim.Native.Nat.{_-_}
-use native.Mathlib.Omega.{arith}
-use lib.ListN.{length, take}
-use denote.Ref.{now}
+-- Refusal 8, or the list as the tree has it.
+use mathlib.Core.Path.{_≡_, sym, _∙_, ap}
 use borrow.Author.Needs.{needs}
 use borrow.Author.Tests.{not-true, not-false}
-use Rattle.keys.specs.Keys.{isFound, areaListOf, allAreas}
-use Rattle.keys.proofs.Lists.{InList, no-area, first-other, first-area, later-other, later-area, areas-done}
+use Rattle.keys.specs.Keys.{checkedBy, areaListAnswer}
 use Rattle.keys.proofs.area_list_well_formed.Statement.{statement}
 use Rattle.keys.proofs.area_list_well_formed.Tie as tie
 
-abbrev Inv-loop : tie.InvT-loop
-Inv-loop nodes count areas i₀ i = InList areas (areaListOf (take count nodes) areas) (allAreas (take count nodes)) i
+returns : tie.Need-returns
+unfolding areaListAnswer
+returns c = rw (sym (c .before .is-sound .ensures) ∙ not-true _ (c .if1 .taken))
 
-abbrev μ-loop : tie.MeasureT-loop
-μ-loop nodes count areas i₀ i = length areas - i
+returns-2 : tie.Need-returns-2
+unfolding areaListAnswer
+returns-2 c =
+    rw (sym (c .before .before .before .before .is-sound .ensures) ∙ not-false _ (c .before .before .before .if1 .left))
+    (c .said .ensures ∙ ap checkedBy (c .before .area-list .ensures))
 
 pub area-list-well-formed-spec : {M : Type 1} → statement M
-area-list-well-formed-spec =
-    tie.close
-    (tie.spec
-    Inv-loop
-    μ-loop
-    (λ c. no-area _ _ (omega arith))
-    (λ c. omega arith)
-    (λ c κs. search needs)
-    (λ c κs. search needs)
-    (λ c. first-other _ _ (omega arith) (sym (c .before .is-found .ensures ∙ ap isFound (c .before .before .find-area .ensures)) ∙ not-true _ (c .if2 .taken)))
-    (λ c. first-area _ _ (omega arith) (sym (c .before .is-found .ensures ∙ ap isFound (c .before .before .find-area .ensures)) ∙ not-false _ (c .if2 .left)))
-    (λ c. omega arith)
-    (λ c. omega arith)
-    (λ c κs. search needs)
-    (λ c. later-other _ (c .before .before .before .before .loop .inv) (omega arith) (sym (c .before .area-or-system .ensures) ∙ not-true _ (c .if3 .taken)))
-    (λ c. omega arith)
-    (λ c. omega arith)
-    (λ c. later-area _ (c .before .before .before .before .loop .inv) (omega arith) (sym (c .before .area-or-system .ensures) ∙ not-false _ (c .if3 .left)))
-    (λ c. areas-done _ (c .before .loop .inv) (omega arith)))
+area-list-well-formed-spec = tie.close (tie.spec (λ c κs. search needs) returns (λ c κs. search needs) (λ c κs. search needs) returns-2)

@@ -1,54 +1,20 @@
--- Whether the list is well formed is whether what is left of it is, after the entries that were read.
-use mathlib.Core.Path.{sym, _∙_}
-use mathlib.Core.Logic.{⊎-elim}
-use Prim.Native.Nat.{_-_}
-use native.Mathlib.Omega.{arith}
-use lib.ListN.{length, take}
+-- Refusal 8, or the list as the tree has it.
+use mathlib.Core.Path.{_≡_, sym, _∙_, ap}
 use borrow.Author.Needs.{needs}
-use Rattle.nodes.proofs.Scan.{done}
-use Rattle.keys.specs.Keys.{serviceListOf}
-use Rattle.keys.proofs.Lists.{InList, restOf, none-read, last-read, unknown, disorder, keyed-read, free-read}
+use borrow.Author.Tests.{not-true, not-false}
+use Rattle.keys.specs.Keys.{checkedBy, serviceListAnswer}
 use Rattle.keys.proofs.service_list_well_formed.Statement.{statement}
 use Rattle.keys.proofs.service_list_well_formed.Tie as tie
 
-abbrev Inv-loop : tie.InvT-loop
-Inv-loop nodes count services has-keyed₀ seen-free₀ i₀ has-keyed seen-free i =
-    InList services (serviceListOf (take count nodes) services) (restOf (take count nodes) has-keyed seen-free) i
+returns : tie.Need-returns
+unfolding serviceListAnswer
+returns c = rw (sym (c .before .is-sound .ensures) ∙ not-true _ (c .if1 .taken))
 
-abbrev μ-loop : tie.MeasureT-loop
-μ-loop nodes count services has-keyed₀ seen-free₀ i₀ has-keyed seen-free i = length services - i
-
-loop-again : tie.Need-loop-again Inv-loop μ-loop
-loop-again c =
-    let l = c .before .before .before .before .loop in
-    let e = sym (c .before .list-node .ensures) in
-    ⊎-elim
-    (λ w. keyed-read _ (l .has-keyed) (l .seen-free) (l .inv) (omega arith) _ _ (e ∙ w .1 .given .1) (w .2 .left) (w .3) (w .4))
-    (λ w. free-read _ (l .has-keyed) (l .seen-free) (l .inv) (omega arith) _ _ (e ∙ w .1 .given .1) (w .2) (w .3))
-    (c .match .came)
+returns-2 : tie.Need-returns-2
+unfolding serviceListAnswer
+returns-2 c =
+    rw (sym (c .before .before .before .before .is-sound .ensures) ∙ not-false _ (c .before .before .before .if1 .left))
+    (c .said .ensures ∙ ap checkedBy (c .before .service-list .ensures))
 
 pub service-list-well-formed-spec : {M : Type 1} → statement M
-service-list-well-formed-spec =
-    tie.close
-    (tie.spec
-    Inv-loop
-    μ-loop
-    (λ c. none-read _ _)
-    (λ c. omega arith)
-    (λ c. omega arith)
-    (λ c κs. search needs)
-    (λ c. search needs)
-    (λ c.
-    let n = c .before .before .before in
-    let l = n .before .before .before .loop in
-    disorder _ (l .has-keyed) (l .seen-free) (l .inv) (omega arith) (sym (n .list-node .ensures) ∙ c .before .enum-told .given .1) (c .if1 .taken))
-    (λ c. search needs)
-    (λ c. search needs)
-    (λ c.
-    let n = c .before .before in
-    let l = n .before .before .before .loop in
-    unknown _ (l .has-keyed) (l .seen-free) (l .inv) (omega arith) (sym (n .list-node .ensures) ∙ c .enum-told3 .given .1))
-    (λ c. omega arith)
-    (λ c. omega arith)
-    loop-again
-    (λ c. last-read _ (c .before .loop .has-keyed) (c .before .loop .seen-free) ∙ done (c .before .loop .inv) (omega arith)))
+service-list-well-formed-spec = tie.close (tie.spec (λ c κs. search needs) returns (λ c κs. search needs) (λ c κs. search needs) returns-2)

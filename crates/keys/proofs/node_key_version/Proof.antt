@@ -2,9 +2,9 @@
 use mathlib.Core.Path.{_≡_, sym, _∙_}
 use borrow.Author.Needs.{needs}
 use borrow.Author.Tests.{not-true, not-false}
-use Rattle.query.specs.Query.{versionAnswer}
-use Rattle.query.proofs.node_key_version.Statement.{statement}
-use Rattle.query.proofs.node_key_version.Tie as tie
+use Rattle.keys.specs.Keys.{versionAnswer}
+use Rattle.keys.proofs.node_key_version.Statement.{statement}
+use Rattle.keys.proofs.node_key_version.Tie as tie
 
 returns : tie.Need-returns
 unfolding versionAnswer

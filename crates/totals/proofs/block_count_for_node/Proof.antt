@@ -2,9 +2,9 @@
 use mathlib.Core.Path.{_≡_, sym, _∙_}
 use borrow.Author.Needs.{needs}
 use borrow.Author.Tests.{not-true, not-false}
-use Rattle.query.specs.Query.{totalAnswer}
-use Rattle.query.proofs.block_count_for_node.Statement.{statement}
-use Rattle.query.proofs.block_count_for_node.Tie as tie
+use Rattle.totals.specs.Total.{totalAnswer}
+use Rattle.totals.proofs.block_count_for_node.Statement.{statement}
+use Rattle.totals.proofs.block_count_for_node.Tie as tie
 
 returns : tie.Need-returns
 unfolding totalAnswer

@@ -10,15 +10,15 @@ use borrow.Fn.PlainCycle.{Measures, is, falls, and}
 use Rattle.nodes.specs.Node.{rootNode}
 use Rattle.under.proofs.Under.{span-left}
 use Rattle.listing.proofs.Laid.{at-area, at-end, at-other, at-service, at-child}
-use Rattle.listing.proofs.directory.list_area.Reads as list-area
-use Rattle.listing.proofs.directory.list_area.Kinds as list-area-kinds
-use Rattle.listing.proofs.directory.+list_area+list_children.Lts-list_area as list-area-lts
-use Rattle.listing.proofs.directory.list_children.Reads as list-children
-use Rattle.listing.proofs.directory.list_children.Kinds as list-children-kinds
-use Rattle.listing.proofs.directory.+list_area+list_children.Lts-list_children as list-children-lts
-use Rattle.listing.proofs.directory.put_pair.Reads as put-pair-reads
-use Rattle.listing.proofs.directory.+list_area+list_children.{statement}
-use Rattle.listing.proofs.directory.+list_area+list_children.Tie.{close}
+use Rattle.listing.proofs.list_area.Reads as list-area
+use Rattle.listing.proofs.list_area.Kinds as list-area-kinds
+use Rattle.listing.proofs.+list_area+list_children.Lts-list_area as list-area-lts
+use Rattle.listing.proofs.list_children.Reads as list-children
+use Rattle.listing.proofs.list_children.Kinds as list-children-kinds
+use Rattle.listing.proofs.+list_area+list_children.Lts-list_children as list-children-lts
+use Rattle.listing.proofs.put_pair.Reads as put-pair-reads
+use Rattle.listing.proofs.+list_area+list_children.{statement}
+use Rattle.listing.proofs.+list_area+list_children.Tie.{close}
 
 abbrev μ-list-area : Measures 1 list-area-kinds.ps ℕ
 μ-list-area κs a = 2 * (a .1 .0 - a .1 .1 .0)

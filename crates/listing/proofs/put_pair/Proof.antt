@@ -1,8 +1,8 @@
 -- Two stores, one after the other, are the pair.
 use native.Mathlib.Numerals.{add-one}
 use borrow.Author.Needs.{needs}
-use Rattle.listing.proofs.directory.put_pair.Statement.{statement}
-use Rattle.listing.proofs.directory.put_pair.Tie as tie
+use Rattle.listing.proofs.put_pair.Statement.{statement}
+use Rattle.listing.proofs.put_pair.Tie as tie
 
 pub put-pair-spec : {M : Type 1} → statement M
 put-pair-spec =

@@ -4,14 +4,14 @@ use native.Mathlib.Omega.{arith}
 use denote.Ref.{now}
 use Rattle.find.proofs.Records.{Records}
 use Rattle.listing.proofs.Answered.{refused, nothing, listed}
-use Rattle.listing.proofs.directory.directory.Statement.{statement}
-use Rattle.listing.proofs.directory.directory.Tie as tie
+use Rattle.listing.proofs.list_all.Statement.{statement}
+use Rattle.listing.proofs.list_all.Tie as tie
 
 records : (c : tie.Start) → Records (c .args .nodes) (c .args .count)
 records c = record { all = search needs }
 
-pub directory-spec : {M : Type 1} → statement M
-directory-spec =
+pub list-all-spec : {M : Type 1} → statement M
+list-all-spec =
     tie.close
     (tie.spec
     (λ c κs. search needs)

@@ -2,9 +2,9 @@
 use mathlib.Core.Path.{_≡_, refl, sym, _∙_}
 use borrow.Author.Needs.{needs}
 use borrow.Author.Tests.{not-true, not-false}
-use Rattle.query.specs.Query.{directoryAnswer, directoryOut}
-use Rattle.query.proofs.directory.Statement.{statement}
-use Rattle.query.proofs.directory.Tie as tie
+use Rattle.listing.specs.Directory.{directoryAnswer, directoryOut}
+use Rattle.listing.proofs.directory.Statement.{statement}
+use Rattle.listing.proofs.directory.Tie as tie
 
 returns : tie.Need-returns
 unfolding directoryAnswer directoryOut
@@ -12,7 +12,7 @@ returns c = rw (sym (c .before .is-sound .ensures) ∙ not-true _ (c .if1 .taken
 
 returns-2 : tie.Need-returns-2
 unfolding directoryAnswer directoryOut
-returns-2 c = rw (sym (c .before .before .before .before .before .before .is-sound .ensures) ∙ not-false _ (c .before .before .before .before .before .if1 .left)) (c .before .before .directory .ensures)
+returns-2 c = rw (sym (c .before .before .before .before .before .before .is-sound .ensures) ∙ not-false _ (c .before .before .before .before .before .if1 .left)) (c .before .before .list-all .ensures)
 
 pub directory-spec : {M : Type 1} → statement M
 directory-spec =
