@@ -1,4 +1,5 @@
 pub mod Laws
+mod Roots
 mod Kept
 mod Turns
 mod Walk

@@ -24,10 +24,8 @@ fn is_root(node: Node) -> bool
     if node.depth != 0 {
         return false;
     }
-    if node.code != 0 {
-        return false;
-    }
-    if node.version != 0 {
+    // code and version are read as one
+    if node.code as u32 + 65536 * (node.version as u32) != 0 {
         return false;
     }
     let entry = node.entry;
