@@ -36,8 +36,7 @@ fn kept(added: Added, card: &mut [u8]) -> u32
     match answer {
         Answer::Refused(refusal) => outcome::refused(refusal),
         Answer::Done => {
-            let grown = added.card;
-            encoding::encode(grown, card);
+            encoding::encode(added.card, card);
             0
         }
     }

@@ -43,12 +43,10 @@ fn key_version(nodes: [Node; 64], count: usize, system: u16, code: u16) -> u16
         return system;
     }
     if let Found::At(i) = find::find_service(nodes, count, code) {
-        let node = nodes[i];
-        return node.version;
+        return nodes[i].version;
     }
     if let Found::At(i) = find::find_area(nodes, count, code) {
-        let node = nodes[i];
-        return node.version;
+        return nodes[i].version;
     }
     0xffff
 }

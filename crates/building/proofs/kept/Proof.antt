@@ -8,7 +8,7 @@ returns : tie.Need-returns
 returns c = rw (c .before .before .answer .given .1) (c .refused .ensures, refl)
 
 returns-2 : tie.Need-returns-2
-returns-2 c = rw (c .before .before .before .before .before .enum-told .given .1) (refl, c .before .before .encode .ensures)
+returns-2 c = rw (c .before .before .before .before .enum-told .given .1) (refl, c .before .before .encode .ensures)
 
 pub kept-spec : {M : Type 1} → statement M
 kept-spec =

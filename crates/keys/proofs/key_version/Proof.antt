@@ -35,7 +35,7 @@ key-version-spec =
     (λ c. omega (arith, service-in (c .before)))
     (λ c. service-in (c .before))
     (λ c.
-    let i = c .before .before in
+    let i = c .before in
     let f = i .before .before in
     rw (ne-eqb _ _ (f .before .if1 .left))
     (found-version (records (f .before .before)) _ (f .find-service .ensures) (i .i .given .1) _ _))
@@ -45,7 +45,7 @@ key-version-spec =
     (λ c. omega (arith, area-in (c .before)))
     (λ c. area-in (c .before))
     (λ c.
-    let i = c .before .before in
+    let i = c .before in
     let f = i .before .before in
     let s = f .before .before .before in
     rw (ne-eqb _ _ (s .before .if1 .left), sym (s .find-service .ensures) ∙ f .before .enum-told .given .1)
