@@ -1,13 +1,13 @@
 -- What a feed leaves: of a place outside, and of one inside. Assumes nothing.
 use Prim.Native.Nat.{ℕ, zero, suc, _+_, _-_, _≤_, _<_, min}
 use native.Mathlib.Omega.{arith}
-use native.Mathlib.Decide.{decLt, ℕ-discrete}
-use mathlib.Core.Path.{_≡_, refl, sym, ap, _∙_}
+use native.Mathlib.Decide.{decLt}
+use mathlib.Core.Path.{_≡_, sym, _∙_}
 use mathlib.Core.List.{List, [], _∷_}
-use lib.ListN.{length, take, drop, set, length-set, length-drop, drop-of-length-le}
+use lib.ListN.{length, take, drop, set, length-set, drop-of-length-le}
 use lib.Seq.{sets, set-out, take-nil, take-take, take-length}
-use borrow.Author.Tests.{lt-ltb, le-ltb, eq-eqb, ne-eqb}
-use Rattle.bytes.specs.Bytes.{indexOf, indexAfter, slice}
+use borrow.Author.Tests.{lt-ltb, le-ltb}
+use Rattle.bytes.specs.Bytes.{indexOf, slice}
 use Rattle.spans.specs.Part.{put}
 use Rattle.feed.specs.declared.Place.{Place}
 use Rattle.feed.specs.Feed.{uptoLf, placePast, placeAfter, lineAfter}
@@ -86,47 +86,20 @@ module _ (p : Place) (chunk line : List ℕ) where
         let a : length chunk ≤ p .at + uptoLf chunk (p .at) = omega arith in
         (rw (le-ltb _ _ k, le-ltb _ _ h, le-ltb _ _ a, ← kept, ← g), copied)
 
--- A byte is found at the end at the latest.
-index-bound : (s : List ℕ) → indexOf 10 s ≤ length s
-unfolding indexOf indexAfter
-index-bound [] = omega arith
-index-bound (x ∷ s) =
-    let h = index-bound s in
-    elim (ℕ-discrete x 10) [ yes e ↦ rw (eq-eqb x 10 e) (omega arith) | no e ↦ rw (ne-eqb x 10 e) (omega arith) ]
-
--- So are the bytes up to a LF.
-upto-bound : (chunk : List ℕ) (at : ℕ) → uptoLf chunk at ≤ length chunk - at
-unfolding uptoLf
-upto-bound chunk at = let h = index-bound (drop at chunk) in let e = length-drop at chunk in omega arith
-
--- A feed moves on past the LF that it took, and stays in the chunk; the line is then within its room.
-pub record Fed (p r : Place) (chunk : List ℕ) (room : ℕ) : Type 0 where
-  pub moved : p .at + r .whole ≤ r .at
-  pub inside : p .at ≤ length chunk → r .at ≤ length chunk
-  pub fits : 0 < r .whole → r .len ≤ room
-
-after-fed : (p : Place) (chunk : List ℕ) (room : ℕ) → p .whole ≡ 0 → Fed p (placeAfter p chunk room) chunk room
+-- After a feed the line is within its room.
+stays : (p : Place) (chunk : List ℕ) (room : ℕ) → p .len ≤ room → placeAfter p chunk room .len ≤ room
 unfolding placeAfter placePast
-after-fed p chunk room z =
+stays p chunk room h =
     elim (decLt (length chunk) (p .at)) [
-      | yes h ↦ rw (lt-ltb _ _ h) (record { moved = omega arith; inside = λ k. k; fits = λ w. absurd (omega arith) })
-      | no h ↦
-          elim (decLt room (p .len)) [
-            | yes k ↦
-                rw (le-ltb (length chunk) (p .at) (omega arith), lt-ltb _ _ k)
-                (record { moved = omega arith; inside = λ k. k; fits = λ w. absurd (omega arith) })
-            | no k ↦
-                elim (decLt (p .at + uptoLf chunk (p .at)) (length chunk)) [
-                  | yes l ↦
-                      rw (le-ltb (length chunk) (p .at) (omega arith), le-ltb room (p .len) (omega arith), lt-ltb _ _ l)
-                      (record { moved = omega arith; inside = λ g. omega arith; fits = λ w. omega arith })
-                  | no l ↦
-                      rw (le-ltb (length chunk) (p .at) (omega arith), le-ltb room (p .len) (omega arith), le-ltb (p .at + uptoLf chunk (p .at)) (length chunk) (omega arith))
-                      (record { moved = omega arith; inside = λ g. let u = upto-bound chunk (p .at) in omega arith; fits = λ w. absurd (omega arith) })
-                ]
+      | yes k ↦ rw (lt-ltb _ _ k) h
+      | no k ↦
+          elim (decLt (p .at + uptoLf chunk (p .at)) (length chunk)) [
+            | yes l ↦ rw (le-ltb (length chunk) (p .at) (omega arith), le-ltb room (p .len) h, lt-ltb _ _ l) (omega arith)
+            | no l ↦
+                rw (le-ltb (length chunk) (p .at) (omega arith), le-ltb room (p .len) h, le-ltb (p .at + uptoLf chunk (p .at)) (length chunk) (omega arith))
+                (omega arith)
           ]
     ]
 
-pub fed
-    : (p r : Place) (chunk : List ℕ) (room : ℕ) → r ≡ placeAfter p chunk room → p .whole ≡ 0 → Fed p r chunk room
-fed p r chunk room e z = rw e (after-fed p chunk room z)
+pub fits : (p r : Place) (chunk : List ℕ) (room : ℕ) → r ≡ placeAfter p chunk room → p .len ≤ room → r .len ≤ room
+fits p r chunk room e h = rw e (stays p chunk room h)
