@@ -3,13 +3,20 @@ use grow::Answer;
 use phases::Phase;
 use phases::Replay;
 use phases::Turn;
-use phases::one_more;
 use phases::put_refusal;
 use requests::Printed;
 ghost use mathlib.Core.Path.{_≡_};
 ghost use Prim.Native.Nat.{_≤_};
 ghost use lib.ListN.{length};
+ghost use Rattle.phases.specs.Phases.{oneMore};
 ghost use Rattle.lines.specs.Lines.{imageCame, askedCame, takenAs, lineCame};
+
+// One more; a count that 64 bits cannot hold stays.
+fn one_more(n: u64) -> u64
+    ensures { λ r. ⌜ r ≡ oneMore n ⌝ }
+{
+    if n < u64::MAX { n + 1 } else { n }
+}
 
 // An image line, the first or a later one.
 fn image_line(replay: Replay, first: bool, arena: &mut [u8], out: &mut [u8], line: &[u8]) -> Turn
@@ -18,10 +25,8 @@ fn image_line(replay: Replay, first: bool, arena: &mut [u8], out: &mut [u8], lin
     ensures { λ _. ⌜ now (arena .exit) ≡ imageCame first replay (now (arena .entry)) (now (out .entry)) (now (line .entry)) .arena ⌝ }
     ensures { λ _. ⌜ now (out .exit) ≡ imageCame first replay (now (arena .entry)) (now (out .entry)) (now (line .entry)) .out ⌝ }
 {
-    let before = replay.card;
     let lines = one_more(replay.lines);
-    let asked = replay.asked;
-    let added = image::image_line(before, first, arena, line);
+    let added = image::image_line(replay.card, first, arena, line);
     let card = added.card;
     let answer = added.answer;
     match answer {
@@ -30,7 +35,7 @@ fn image_line(replay: Replay, first: bool, arena: &mut [u8], out: &mut [u8], lin
                 card,
                 phase: Phase::Image,
                 lines,
-                asked,
+                asked: replay.asked,
             },
             printed: Printed::Bytes(0),
         },
@@ -39,7 +44,7 @@ fn image_line(replay: Replay, first: bool, arena: &mut [u8], out: &mut [u8], lin
                 card,
                 phase: Phase::Ended,
                 lines,
-                asked,
+                asked: replay.asked,
             },
             printed: Printed::Bytes(put_refusal(lines, refusal, out)),
         },
@@ -62,14 +67,13 @@ fn request_line(
     ensures { λ _. ⌜ now (out .exit) ≡ askedCame replay (now (arena .entry)) (now (work .entry)) (now (bytes .entry)) (now (out .entry)) (now (line .entry)) .out ⌝ }
 {
     let card = replay.card;
-    let lines = replay.lines;
     let asked = one_more(replay.asked);
     let printed = requests::request_line(card, arena, work, bytes, out, line, asked);
     Turn {
         replay: Replay {
             card,
             phase: Phase::Requests,
-            lines,
+            lines: replay.lines,
             asked,
         },
         printed,

@@ -8,18 +8,15 @@ use prog.Wp.{Heap}
 use ghost.Atoms.{Atoms}
 use contract.Monad.{Fun}
 use Rattle.once.specs.One.{OneAnswer}
-use Rattle.once.proofs.Law.{once, of-two, of-three, of-four, of-five, result}
+use Rattle.once.proofs.Law.{once, of-two, of-five, result}
 use Rattle.says.proofs.read_line as says·read-line
 use Rattle.image.proofs.image_line as image·image-line
 use Rattle.asks.proofs.is_request as asks·is-request
 use Rattle.asks.proofs.ask_of as asks·ask-of
 use Rattle.replies.proofs.put_number as replies·put-number
 use Rattle.replies.proofs.put_answer as replies·put-answer
-use Rattle.served.proofs.read_asked as served·read-asked
-use Rattle.served.proofs.write_asked as served·write-asked
 use Rattle.requests.proofs.request_line as requests·request-line
 use Rattle.phases.proofs.start as phases·start
-use Rattle.phases.proofs.one_more as phases·one-more
 use Rattle.phases.proofs.put_refusal as phases·put-refusal
 use Rattle.phases.proofs.finish as phases·finish
 use Rattle.lines.proofs.line as lines·line
@@ -44,20 +41,11 @@ module _ {M : Type 1} (𝓤 : URA M) (H : Heap 𝓤) (A : Atoms 𝓤) (mem : Mem
   pub replies·put-answer-once : OneAnswer 𝓤 replies·put-answer.ended (replies·put-answer.clauses 𝓤 H A mem run)
   replies·put-answer-once κs a g r r′ ws ws′ = of-two 𝓤 (λ p p′ q q′. (once p q, λ i. (tt, (tt, (tt, (once p′ q′ i, tt))))))
 
-  pub served·read-asked-once : OneAnswer 𝓤 served·read-asked.ended (served·read-asked.clauses 𝓤 H A mem run)
-  served·read-asked-once κs a g r r′ ws ws′ = of-three 𝓤 (λ p p′ p″ q q′ q″. (once p q, λ i. (tt, (tt, (once p′ q′ i, (once p″ q″ i, (tt, (tt, (tt, tt)))))))))
-
-  pub served·write-asked-once : OneAnswer 𝓤 served·write-asked.ended (served·write-asked.clauses 𝓤 H A mem run)
-  served·write-asked-once κs a g r r′ ws ws′ = of-four 𝓤 (λ e arena work bytes. (e, λ i. (tt, (arena i, (work i, (bytes i, (tt, (tt, (tt, tt)))))))))
-
   pub requests·request-line-once : OneAnswer 𝓤 requests·request-line.ended (requests·request-line.clauses 𝓤 H A mem run)
   requests·request-line-once κs a g r r′ ws ws′ = of-five 𝓤 (λ e arena work bytes out. (e, λ i. (tt, (arena i, (work i, (bytes i, (out i, (tt, (tt, tt)))))))))
 
   pub phases·start-once : OneAnswer 𝓤 phases·start.ended (phases·start.clauses 𝓤 H A mem run)
   phases·start-once κs a g r r′ ws ws′ = result 𝓤 refl
-
-  pub phases·one-more-once : OneAnswer 𝓤 phases·one-more.ended (phases·one-more.clauses 𝓤 H A mem run)
-  phases·one-more-once κs a g r r′ ws ws′ = result 𝓤 refl
 
   pub phases·put-refusal-once : OneAnswer 𝓤 phases·put-refusal.ended (phases·put-refusal.clauses 𝓤 H A mem run)
   phases·put-refusal-once κs a g r r′ ws ws′ = of-two 𝓤 (λ p p′ q q′. (once p q, λ i. (tt, (tt, (once p′ q′ i, tt)))))

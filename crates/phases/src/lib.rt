@@ -1,4 +1,4 @@
-// A replay: where it is between two lines, how it starts, counts and ends.
+// A replay: where it is between two lines, how it starts and ends.
 use answers::refusal::Refusal;
 use requests::Printed;
 use structure::card::Card;
@@ -6,7 +6,7 @@ ghost use mathlib.Core.Path.{_≡_};
 ghost use Prim.Native.Nat.{_≤_};
 ghost use lib.ListN.{length};
 ghost use Rattle.spans.specs.Part.{put};
-ghost use Rattle.phases.specs.Phases.{startOf, oneMore, refusalText, finished, finishOut};
+ghost use Rattle.phases.specs.Phases.{startOf, refusalText, finished, finishOut};
 
 // Where a replay is: ahead of its first line, in the image, among the requests, or ended by a refused image line.
 pub enum Phase {
@@ -40,13 +40,6 @@ pub fn start() -> Replay
         lines: 0,
         asked: 0,
     }
-}
-
-// One more; a count that 64 bits cannot hold stays.
-pub fn one_more(n: u64) -> u64
-    ensures { λ r. ⌜ r ≡ oneMore n ⌝ }
-{
-    if n < u64::MAX { n + 1 } else { n }
 }
 
 // Puts the line of a refused image line, and answers its length.

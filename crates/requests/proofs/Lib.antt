@@ -1,2 +1,4 @@
--- What callers cite.
-pub mod Rooms
+-- What this crate's proofs share.
+mod Rooms
+mod Lines
+mod Parts

@@ -9,7 +9,7 @@ use Rattle.spans.specs.Part.{put}
 use Rattle.structure.specs.declared.card.Card.{Card}
 use Rattle.plan.specs.declared.Reply.{Reply}
 use Rattle.replies.specs.Answer.{answerText}
-use Rattle.served.specs.Line.{lineServed, workAfter, bytesAfter}
+use Rattle.requests.specs.Line.{lineServed, workAfter, bytesAfter}
 use Rattle.requests.specs.declared.Printed.the-variants.{Bytes, NoRoom}
 use Rattle.requests.specs.Answered.{lineText, roomy, answeredLine}
 

@@ -7,7 +7,7 @@ use lib.ListN.{length}
 use Rattle.spans.specs.Part.{put}
 use Rattle.structure.specs.declared.card.Card.{Card}
 use Rattle.replies.specs.Answer.{answerText}
-use Rattle.served.specs.Line.{lineServed, workAfter, bytesAfter}
+use Rattle.requests.specs.Line.{lineServed, workAfter, bytesAfter}
 use Rattle.requests.specs.declared.Printed.{Printed}
 use Rattle.requests.specs.declared.Printed.the-variants.{Bytes, NoRoom}
 

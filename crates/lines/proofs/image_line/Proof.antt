@@ -11,7 +11,7 @@ returns : tie.Need-returns
 unfolding imageCame
 returns c =
     let k = c .before .before .before .before .before in
-    let a = k .before .before .before .before .before .before .before .args in
+    let a = k .before .before .before .before .before .before .args in
     image-done (a .replay) (now (a .out)) (imageTurn (a .first) (a .replay .card) (now (a .arena)) (now (a .line)))
     (k .image-line .ensures .0) (k .image-line .ensures .1) (k .before .before .one-more .ensures) (c .enum-told .given .1)
 
@@ -19,7 +19,7 @@ returns-2 : tie.Need-returns-2
 unfolding imageCame
 returns-2 c =
     let k = c .before .before .before .before .before .before .before .before .before .before in
-    let a = k .before .before .before .before .before .before .before .args in
+    let a = k .before .before .before .before .before .before .args in
     let o = c .before .before .put-refusal .ensures in
     image-refused (a .replay) (now (a .out)) (imageTurn (a .first) (a .replay .card) (now (a .arena)) (now (a .line)))
     (k .image-line .ensures .0) (k .image-line .ensures .1) (k .before .before .one-more .ensures) (c .before .before .before .before .before .answer .given .1) (o .0) (o .1)

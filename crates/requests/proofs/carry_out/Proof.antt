@@ -3,7 +3,7 @@ use borrow.Author.Needs.{needs}
 use mathlib.Core.Path.{_≡_, sym, _∙_}
 use lib.ListN.{length, length-map}
 use denote.Ref.{now}
-use Rattle.served.proofs.Lines.{malformed, read-kept}
+use Rattle.requests.proofs.Lines.{malformed, read-kept}
 use Rattle.requests.proofs.carry_out.Statement.{statement}
 use Rattle.requests.proofs.carry_out.Tie as tie
 

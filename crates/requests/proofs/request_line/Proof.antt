@@ -5,8 +5,8 @@ use native.Mathlib.Omega.{arith}
 use mathlib.Core.Path.{_≡_, ap, _∙_}
 use lib.ListN.{length, take, drop, length-map}
 use denote.Ref.{now}
-use Rattle.served.specs.Line.{lineServed, workAfter}
-use Rattle.served.proofs.Lines.{Shown, shown, read-count, read-part}
+use Rattle.requests.specs.Line.{lineServed, workAfter}
+use Rattle.requests.proofs.Lines.{Shown, shown, read-count, read-part}
 use Rattle.requests.proofs.Rooms.{short-bytes, short-out, enough, unchanged, answered}
 use Rattle.requests.proofs.request_line.Statement.{statement}
 use Rattle.requests.proofs.request_line.Tie as tie

@@ -1,9 +1,9 @@
--- `phases::one_more` meets its contract, below the greatest number and at it. Assumes nothing.
+-- `lines::one_more` meets its contract, below the greatest number and at it. Assumes nothing.
 use borrow.Author.Needs.{needs}
 use borrow.Author.Tests.{lt-ltb, le-ltb}
 use Rattle.phases.specs.Phases.{oneMore}
-use Rattle.phases.proofs.one_more.Statement.{statement}
-use Rattle.phases.proofs.one_more.Tie as tie
+use Rattle.lines.proofs.one_more.Statement.{statement}
+use Rattle.lines.proofs.one_more.Tie as tie
 
 returns : tie.Need-returns
 unfolding oneMore

@@ -1,11 +1,11 @@
--- `served::read_codes` meets its contract: the codes are those of the third field. Assumes nothing.
+-- `requests::read_codes` meets its contract: the codes are those of the third field. Assumes nothing.
 use borrow.Author.Needs.{needs}
 use denote.Ref.{now}
 use Rattle.fours.specs.Codes.{codesOf}
 use Rattle.asks.specs.Ask.{fieldIn}
-use Rattle.served.proofs.Parts.{as-many}
-use Rattle.served.proofs.read_codes.Statement.{statement}
-use Rattle.served.proofs.read_codes.Tie as tie
+use Rattle.requests.proofs.Parts.{as-many}
+use Rattle.requests.proofs.read_codes.Statement.{statement}
+use Rattle.requests.proofs.read_codes.Tie as tie
 
 returns : tie.Need-returns
 returns c =

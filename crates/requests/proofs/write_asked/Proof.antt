@@ -1,4 +1,4 @@
--- `served::write_asked` meets its contract: codes, list and data are the line's. Assumes nothing.
+-- `requests::write_asked` meets its contract: codes, list and data are the line's. Assumes nothing.
 use borrow.Author.Needs.{needs}
 use Prim.Native.Nat.{_+_, _≤_}
 use native.Mathlib.Omega.{arith}
@@ -9,10 +9,10 @@ use denote.Ref.{now}
 use Rattle.hex.specs.Hex.{hexField}
 use Rattle.asks.specs.Ask.{fieldIn}
 use Rattle.asks.proofs.Asking.{Fields, write-fields}
-use Rattle.served.specs.Line.{listIn, dataIn}
-use Rattle.served.proofs.Lines.{list-room, data-room, write-line}
-use Rattle.served.proofs.write_asked.Statement.{statement}
-use Rattle.served.proofs.write_asked.Tie as tie
+use Rattle.requests.specs.Line.{listIn, dataIn}
+use Rattle.requests.proofs.Lines.{list-room, data-room, write-line}
+use Rattle.requests.proofs.write_asked.Statement.{statement}
+use Rattle.requests.proofs.write_asked.Tie as tie
 
 -- the line's fields
 fields : (c : tie.Start) → Fields (now (c .args .line)) × (hexField (fieldIn (now (c .args .line)) 5) ≡ true)

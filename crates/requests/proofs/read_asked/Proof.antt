@@ -1,14 +1,14 @@
--- `served::read_asked` meets its contract: codes and list are the line's. Assumes nothing.
+-- `requests::read_asked` meets its contract: codes and list are the line's. Assumes nothing.
 use borrow.Author.Needs.{needs}
 use Prim.Native.Nat.{_+_, _≤_}
 use native.Mathlib.Omega.{arith}
 use lib.ListN.{length}
 use denote.Ref.{now}
 use Rattle.asks.proofs.Asking.{Fields, read-fields}
-use Rattle.served.specs.Line.{listIn}
-use Rattle.served.proofs.Lines.{list-room, read-line}
-use Rattle.served.proofs.read_asked.Statement.{statement}
-use Rattle.served.proofs.read_asked.Tie as tie
+use Rattle.requests.specs.Line.{listIn}
+use Rattle.requests.proofs.Lines.{list-room, read-line}
+use Rattle.requests.proofs.read_asked.Statement.{statement}
+use Rattle.requests.proofs.read_asked.Tie as tie
 
 -- the line's fields
 fields : (c : tie.Start) → Fields (now (c .args .line))

@@ -22,8 +22,8 @@ use Rattle.asks.specs.declared.Ask.{Ask}
 use Rattle.asks.specs.declared.Ask.the-variants.{Malformed, Read, Write}
 use Rattle.asks.specs.Ask.{fieldIn, askOf}
 use Rattle.asks.proofs.Asking.{Fields}
-use Rattle.served.specs.Line.{codesIn, listIn, dataIn, bytesRead, askServed, lineServed, workBy, workAfter, spelledBy, bytesAfter}
-use Rattle.served.proofs.Parts.{front-put, both, first, second}
+use Rattle.requests.specs.Line.{codesIn, listIn, dataIn, bytesRead, askServed, lineServed, workBy, workAfter, spelledBy, bytesAfter}
+use Rattle.requests.proofs.Parts.{front-put, both, first, second}
 
 module _ {line : List ℕ} (f : Fields line) {room : ℕ} (h : 16384 ≤ room) where
   -- There is room for a list.

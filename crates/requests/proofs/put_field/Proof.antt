@@ -1,12 +1,12 @@
--- `served::put_field` meets its contract: the bytes of a field are those that it spells. Assumes nothing.
+-- `requests::put_field` meets its contract: the bytes of a field are those that it spells. Assumes nothing.
 use borrow.Author.Needs.{needs}
 use native.Mathlib.Omega.{arith}
 use denote.Ref.{now}
 use Rattle.hex.proofs.HexLaws.{length-unhex}
 use Rattle.asks.specs.Ask.{fieldIn}
-use Rattle.served.proofs.Parts.{spelled}
-use Rattle.served.proofs.put_field.Statement.{statement}
-use Rattle.served.proofs.put_field.Tie as tie
+use Rattle.requests.proofs.Parts.{spelled}
+use Rattle.requests.proofs.put_field.Statement.{statement}
+use Rattle.requests.proofs.put_field.Tie as tie
 
 put-bytes-requires : tie.Need-put-bytes-requires
 put-bytes-requires c κs =

@@ -1,3 +1,0 @@
--- What callers cite, and what this crate's proofs share.
-pub mod Lines
-mod Parts
