@@ -20,12 +20,6 @@ struct Tally {
     wrong: u64,
 }
 
-// What is kept from line to line.
-struct Kept {
-    grown: Grown,
-    tally: Tally,
-}
-
 // One more, up to a number that no list reaches.
 fn more(n: u64) -> u64 {
     if n < 1_000_000_000 { n + 1 } else { n }
@@ -80,27 +74,6 @@ fn asked(
     }
 }
 
-// Counts a line that makes a card, adds to it, or sets the arena's length.
-fn step(kept: Kept, kind: u8, b: &[u8], arena: &mut [u8]) -> Kept {
-    let before = kept.grown;
-    let tally = kept.tally;
-    let grown = add::line(before, kind, b, arena);
-    Kept {
-        grown,
-        tally: counted(tally, kind, grown.agrees),
-    }
-}
-
-// Counts a line that leaves the card as it is.
-fn question(kept: Kept, kind: u8, agrees: bool) -> Kept {
-    let grown = kept.grown;
-    let tally = kept.tally;
-    Kept {
-        grown,
-        tally: counted(tally, kind, agrees),
-    }
-}
-
 // Whether a line makes a card, adds to it, or sets the arena's length.
 fn is_step(kind: u8) -> bool {
     match kind {
@@ -109,44 +82,55 @@ fn is_step(kind: u8) -> bool {
     }
 }
 
-// Counts a line.
-fn one_line(kept: Kept, line: &[u8], arena: &mut [u8], room: &mut [u8], copy: &mut [u8]) -> Kept {
+// The card after a line, and whether the line agreed.
+fn after(
+    grown: Grown,
+    kind: u8,
+    line: &[u8],
+    arena: &mut [u8],
+    room: &mut [u8],
+    copy: &mut [u8],
+) -> Grown {
     let mut bytes = [0u8; 1024];
     let n = stored::bytes_of(line, &mut bytes);
-    let kind = if 0 < line.len() { line[0] } else { 0 };
     if is_step(kind) {
-        return step(kept, kind, &bytes[0..n], arena);
+        return add::line(grown, kind, &bytes[0..n], arena);
     }
-    let grown = kept.grown;
-    let agrees = asked(grown, kind, line, &bytes[0..n], arena, room, copy);
-    question(kept, kind, agrees)
+    let mut next = grown;
+    next.agrees = asked(grown, kind, line, &bytes[0..n], arena, room, copy);
+    next
 }
 
-// Counts every line of a text.
-fn lines(kept: Kept, text: &[u8], arena: &mut [u8], room: &mut [u8], copy: &mut [u8]) -> Kept {
-    let mut k = kept;
+// The kind of a line: its first byte.
+fn kind_of(line: &[u8]) -> u8 {
+    if 0 < line.len() { line[0] } else { 0 }
+}
+
+// Counts every line of a text, which begins with a card.
+fn lines(tally: Tally, text: &[u8], arena: &mut [u8], room: &mut [u8], copy: &mut [u8]) -> Tally {
+    let mut t = tally;
+    let mut grown = add::start(0, 0, 0);
     let mut from = 0;
     while from < text.len() {
         let start = from;
         let end = stored::end_of(text, start, b'\n');
         from = end + 1;
-        k = one_line(k, &text[start..end], arena, room, copy);
+        let kind = kind_of(&text[start..end]);
+        grown = after(grown, kind, &text[start..end], arena, room, copy);
+        t = counted(t, kind, grown.agrees);
     }
-    k
+    t
 }
 
 // Counts every line of every file.
 fn files(arena: &mut [u8], room: &mut [u8], copy: &mut [u8]) -> Tally {
-    let mut k = Kept {
-        grown: add::start(0, 0, 0),
-        tally: Tally {
-            cards: 0,
-            additions: 0,
-            questions: 0,
-            blocks: 0,
-            requests: 0,
-            wrong: 0,
-        },
+    let mut t = Tally {
+        cards: 0,
+        additions: 0,
+        questions: 0,
+        blocks: 0,
+        requests: 0,
+        wrong: 0,
     };
     let mut text = io::large_buffer();
     let mut n = 1u32;
@@ -155,10 +139,9 @@ fn files(arena: &mut [u8], room: &mut [u8], copy: &mut [u8]) -> Tally {
         if got == 0 {
             break;
         }
-        k = lines(k, &text[0..got], arena, room, copy);
+        t = lines(t, &text[0..got], arena, room, copy);
         n += 1;
     }
-    let t = k.tally;
     t
 }
 

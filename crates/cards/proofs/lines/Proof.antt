@@ -6,10 +6,10 @@ use Rattle.cards.proofs.lines.Statement.{statement}
 use Rattle.cards.proofs.lines.Tie as tie
 
 abbrev Inv-loop : tie.InvT-loop
-Inv-loop text arena₀ room₀ copy₀ k₀ from₀ arena room copy k from = (from ≤ length text + 1) × (length arena ≡ length arena₀) × (length room ≡ length room₀) × (length copy ≡ length copy₀)
+Inv-loop text arena₀ room₀ copy₀ t₀ grown₀ from₀ arena room copy t grown from = (from ≤ length text + 1) × (length arena ≡ length arena₀) × (length room ≡ length room₀) × (length copy ≡ length copy₀)
 
 abbrev μ-loop : tie.MeasureT-loop
-μ-loop text arena₀ room₀ copy₀ k₀ from₀ arena room copy k from = length text + 1 - from
+μ-loop text arena₀ room₀ copy₀ t₀ grown₀ from₀ arena room copy t grown from = length text + 1 - from
 
 pub lines-spec : {M : Type 1} → statement M
 lines-spec =
@@ -17,13 +17,19 @@ lines-spec =
     (tie.spec
     Inv-loop
     μ-loop
+    (λ c. search needs)  -- start-requires
     (λ c. search needs)  -- loop-holds
     (λ c. search needs)  -- end-of-requires
     (λ c. search needs)  -- add-from
-    (λ c. search needs)  -- sub-one-line
-    (λ c. search needs)  -- part-one-line-start
-    (λ c. search needs)  -- part-one-line-end
-    (λ c. search needs)  -- one-line-requires
+    (λ c. search needs)  -- sub-kind-of
+    (λ c. search needs)  -- part-kind-of-start
+    (λ c. search needs)  -- part-kind-of-end
+    (λ c. search needs)  -- kind-of-requires
+    (λ c. search needs)  -- sub-after
+    (λ c. search needs)  -- part-after-start
+    (λ c. search needs)  -- part-after-end
+    (λ c. search needs)  -- after-requires
+    (λ c. search needs)  -- counted-requires
     (λ c. search needs)  -- loop-less
     (λ c. search needs)  -- loop-again
     (λ c. search needs)  -- same-length
