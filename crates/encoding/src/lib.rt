@@ -11,14 +11,14 @@ mod half;
 mod node;
 
 // Writes the header of a card.
-fn write_head(count: usize, used: usize, system: u16, version: u16, bytes: &mut [u8])
+fn write_head(card: Card, bytes: &mut [u8])
     requires { ⌜ 8 ≤ length (now bytes) ⌝ }
-    ensures { λ _. ⌜ now (bytes .exit) ≡ put (now (bytes .entry)) 0 8 (headBytes count used system version) ⌝ }
+    ensures { λ _. ⌜ now (bytes .exit) ≡ put (now (bytes .entry)) 0 8 (headBytes (card .count) (card .used) (card .system) (card .version)) ⌝ }
 {
-    half::put_half(bytes, 0, count);
-    half::put_half(bytes, 2, used);
-    half::put_half(bytes, 4, system as usize);
-    half::put_half(bytes, 6, version as usize);
+    half::put_half(bytes, 0, card.count);
+    half::put_half(bytes, 2, card.used);
+    half::put_half(bytes, 4, card.system as usize);
+    half::put_half(bytes, 6, card.version as usize);
 }
 
 // Writes a card to its bytes. Bytes of another length stay as they were.
@@ -28,12 +28,11 @@ pub fn encode(card: Card, bytes: &mut [u8])
     if bytes.len() != SIZE {
         return;
     }
-    write_head(card.count, card.used, card.system, card.version, bytes);
+    write_head(card, bytes);
     let mut i = 0;
     while i < 64 {
-        let node = card.nodes[i];
         let at = 8 + 20 * i;
-        node::write(node, &mut bytes[at..at + 20]);
+        node::write(card.nodes[i], &mut bytes[at..at + 20]);
         i += 1;
     }
 }

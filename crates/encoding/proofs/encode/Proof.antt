@@ -20,7 +20,7 @@ records : (c : tie.Start Inv-loop μ-loop) → length (c .args .t1 .nodes) ≡ 6
 records c = simp length-map at (c .good .0 .1 .1 .0 .1 .0 .1)
 
 loop-holds : tie.Need-loop-holds Inv-loop μ-loop
-loop-holds c = let h = c .before .before .write-head .kept .1 .1 .1 .1 .0 in started _ _ (omega arith)
+loop-holds c = let h = c .before .before .write-head .kept .1 .0 in started _ _ (omega arith)
 
 write-requires : tie.Need-write-requires Inv-loop μ-loop
 write-requires c κs = own-long _ (c .before .before .before .loop .i) (c .before .before .before .loop .inv .long) (omega arith)

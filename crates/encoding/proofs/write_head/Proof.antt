@@ -6,8 +6,9 @@ use Rattle.encoding.proofs.write_head.Tie as tie
 
 returns : tie.Need-returns
 returns c =
-    let second = c .before .before .before .before .before .before .before .before .before .before in
-    head-put _ _ _ _ _ _ _ _ _ (second .before .before .before .before .put-half .ensures) (second .put-half2 .ensures) (c .before .before .before .before .before .before .put-half3 .ensures) (c .before .before .put-half4 .ensures)
+    let third = c .before .before .before .before .before .before .before in
+    let second = third .before .before .before .before .before in
+    head-put _ _ _ _ _ _ _ _ _ (second .before .before .before .before .put-half .ensures) (second .put-half2 .ensures) (third .put-half3 .ensures) (c .before .before .put-half4 .ensures)
 
 pub write-head-spec : {M : Type 1} → statement M
 write-head-spec =
@@ -15,7 +16,9 @@ write-head-spec =
     (tie.spec
     (λ c κs. search needs)
     (λ c κs. search needs)
+    (λ c. search needs)
     (λ c κs. search needs)
+    (λ c. search needs)
     (λ c κs. search needs)
     (λ c. search needs)
     returns)
