@@ -2,6 +2,8 @@
 // there is much of it.
 use feed::Place;
 use phases::Phase;
+use phases::Replay;
+use phases::Turn;
 use requests::Printed;
 ghost use Prim.Native.Nat.{_≤_};
 ghost use lib.ListN.{length};
@@ -83,9 +85,10 @@ fn hold(out: &[u8], held: usize, printed: Printed) -> usize
 }
 
 // How much of a chunk is wanted: none of it once a refused image line has ended the replay.
-fn wanted(phase: Phase, filled: usize) -> usize
+fn wanted(replay: Replay, filled: usize) -> usize
     ensures { λ r. ⌜ r ≤ filled ⌝ }
 {
+    let phase = replay.phase;
     match phase {
         Phase::First => filled,
         Phase::Image => filled,
@@ -109,19 +112,33 @@ fn lines_from(
     requires { ⌜ (first .filled ≤ length (now chunk)) × (first .len ≤ length (now line)) × (begun ≤ length (now out)) ⌝ }
     ensures { λ r. ⌜ r ≤ length (now (out .entry)) ⌝ }
 {
-    let mut replay = phases::start();
+    let mut turn = Turn {
+        replay: phases::start(),
+        printed: Printed::Bytes(0),
+    };
     let mut source = first;
     let mut held = begun;
     let mut turns = u64::MAX;
     while turns > 0 && source.there > 0 {
         turns -= 1;
         let len = source.len;
-        let turn = lines::line(replay, arena, work, bytes, &mut out[held..], &line[0..len]);
-        replay = turn.replay;
+        turn = lines::line(
+            turn.replay,
+            arena,
+            work,
+            bytes,
+            &mut out[held..],
+            &line[0..len],
+        );
         let printed = turn.printed;
         held = hold(out, held, printed);
-        let phase = replay.phase;
-        source = next_line(fd, wanted(phase, source.filled), source.at, chunk, line);
+        source = next_line(
+            fd,
+            wanted(turn.replay, source.filled),
+            source.at,
+            chunk,
+            line,
+        );
     }
     held
 }
