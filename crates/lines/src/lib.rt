@@ -4,7 +4,7 @@ use phases::Phase;
 use phases::Replay;
 use phases::Turn;
 use phases::put_refusal;
-use requests::Printed;
+use replies::Printed;
 ghost use mathlib.Core.Path.{_≡_};
 ghost use Prim.Native.Nat.{_≤_};
 ghost use lib.ListN.{length};

@@ -11,8 +11,8 @@ use Rattle.answers.specs.Refusal.{refusalNumber}
 use Rattle.decimals.specs.Decimal.{decText}
 use Rattle.structure.specs.Card.{newCard}
 use Rattle.replies.specs.Answer.{ended}
-use Rattle.requests.specs.declared.Printed.{Printed}
-use Rattle.requests.specs.declared.Printed.the-variants.{Bytes, NoRoom}
+use Rattle.replies.specs.declared.Printed.{Printed}
+use Rattle.replies.specs.declared.Printed.the-variants.{Bytes, NoRoom}
 use Rattle.phases.specs.declared.Phase.{Phase}
 use Rattle.phases.specs.declared.Phase.the-variants.{First, Image, Requests, Ended}
 use Rattle.phases.specs.declared.Replay.{Replay}

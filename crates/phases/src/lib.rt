@@ -1,6 +1,6 @@
 // A replay: where it is between two lines, how it starts and ends.
 use answers::refusal::Refusal;
-use requests::Printed;
+use replies::Printed;
 use structure::card::Card;
 ghost use mathlib.Core.Path.{_≡_};
 ghost use Prim.Native.Nat.{_≤_};

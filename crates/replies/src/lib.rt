@@ -9,6 +9,14 @@ ghost use Rattle.decimals.specs.Decimal.{decText};
 ghost use Rattle.hex.specs.Hex.{hexText};
 ghost use Rattle.replies.specs.Answer.{ended, whereText, statusText, refusalText, answerText};
 
+// What was printed of a line.
+pub enum Printed {
+    // So many bytes, at the front of the output.
+    Bytes(usize),
+    // Nothing: less room was lent than a line may need.
+    NoRoom,
+}
+
 // Puts one byte and the byte that ends its field into `out` from `at` on, and answers the place after them.
 fn put_mark(mark: u8, end: u8, out: &mut [u8], at: usize) -> usize
     requires { ⌜ at + 2 ≤ length (now out) ⌝ }

@@ -10,7 +10,7 @@ use Rattle.structure.specs.declared.card.Card.{Card}
 use Rattle.plan.specs.declared.Reply.{Reply}
 use Rattle.replies.specs.Answer.{answerText}
 use Rattle.requests.specs.Line.{lineServed, workAfter, bytesAfter}
-use Rattle.requests.specs.declared.Printed.the-variants.{Bytes, NoRoom}
+use Rattle.replies.specs.declared.Printed.the-variants.{Bytes, NoRoom}
 use Rattle.requests.specs.Answered.{lineText, roomy, answeredLine}
 
 module _ (bytes out : List ℕ) where

@@ -8,8 +8,8 @@ use Rattle.spans.specs.Part.{put}
 use Rattle.structure.specs.declared.card.Card.{Card}
 use Rattle.replies.specs.Answer.{answerText}
 use Rattle.requests.specs.Line.{lineServed, workAfter, bytesAfter}
-use Rattle.requests.specs.declared.Printed.{Printed}
-use Rattle.requests.specs.declared.Printed.the-variants.{Bytes, NoRoom}
+use Rattle.replies.specs.declared.Printed.{Printed}
+use Rattle.replies.specs.declared.Printed.the-variants.{Bytes, NoRoom}
 
 -- the answer line
 unfoldable pub lineText : Card → List ℕ → ℕ → List ℕ → ℕ → List ℕ

@@ -2,6 +2,7 @@
 use answers::refusal::Refusal;
 use asks::Ask;
 use plan::Reply;
+use replies::Printed;
 use structure::card::Card;
 ghost use mathlib.Core.Path.{_≡_};
 ghost use mathlib.Core.Bool.{true};
@@ -15,14 +16,6 @@ ghost use Rattle.asks.specs.declared.Ask.the-variants.{Read, Write};
 ghost use Rattle.asks.specs.Ask.{fieldIn, askOf};
 ghost use Rattle.requests.specs.Line.{codesIn, bytesRead, lineServed, workAfter, bytesAfter};
 ghost use Rattle.requests.specs.Answered.{answeredLine};
-
-// What was printed of a line.
-pub enum Printed {
-    // So many bytes, at the front of the output.
-    Bytes(usize),
-    // Nothing: less room was lent than a line may need.
-    NoRoom,
-}
 
 // Puts the codes of a line to the front of `codes`, as many as it holds, and answers how many.
 fn read_codes(line: &[u8], codes: &mut [u16]) -> usize

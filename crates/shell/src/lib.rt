@@ -4,7 +4,7 @@ use feed::Place;
 use phases::Phase;
 use phases::Replay;
 use phases::Turn;
-use requests::Printed;
+use replies::Printed;
 ghost use Prim.Native.Nat.{_≤_};
 ghost use lib.ListN.{length};
 

@@ -6,7 +6,7 @@ use mathlib.Core.List.{[]}
 use lib.ListN.{length}
 use denote.Ref.{now}
 use Rattle.spans.proofs.Part.{put-zero}
-use Rattle.requests.specs.declared.Printed.the-variants.{Bytes}
+use Rattle.replies.specs.declared.Printed.the-variants.{Bytes}
 use Rattle.phases.specs.Phases.{finished, finishOut}
 use Rattle.phases.proofs.finish.Statement.{statement}
 use Rattle.phases.proofs.finish.Tie as tie
