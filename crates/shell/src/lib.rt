@@ -97,7 +97,7 @@ fn wanted(replay: Replay, filled: usize) -> usize
     }
 }
 
-// Replays every line from the first on; answers how much is held then.
+// Replays every line from the first on, with so much held as is begun; answers how much is held then.
 fn lines_from(
     fd: i32,
     first: Source,
@@ -132,13 +132,8 @@ fn lines_from(
         );
         let printed = turn.printed;
         held = hold(out, held, printed);
-        source = next_line(
-            fd,
-            wanted(turn.replay, source.filled),
-            source.at,
-            chunk,
-            line,
-        );
+        let filled = wanted(turn.replay, source.filled);
+        source = next_line(fd, filled, source.at, chunk, line);
     }
     held
 }
