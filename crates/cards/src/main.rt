@@ -53,15 +53,7 @@ fn counted(t: Tally, kind: u8, agrees: bool) -> Tally {
 }
 
 // Whether a line that leaves the card as it is agrees, with as much of the arena as is lent.
-fn asked(
-    grown: Grown,
-    kind: u8,
-    line: &[u8],
-    b: &[u8],
-    arena: &mut [u8],
-    room: &mut [u8],
-    copy: &mut [u8],
-) -> bool {
+fn asked(grown: Grown, kind: u8, line: &[u8], b: &[u8], arena: &mut [u8]) -> bool {
     let card = grown.card;
     let long = grown.long;
     if arena.len() < long {
@@ -69,7 +61,7 @@ fn asked(
     }
     match kind {
         b'b' => request::set(card, &mut arena[0..long], b),
-        b'R' | b'W' => request::request(card, &mut arena[0..long], line, room, copy),
+        b'R' | b'W' => request::request(card, &mut arena[0..long], line),
         _ => ask::agrees(card, kind, b),
     }
 }
@@ -83,21 +75,14 @@ fn is_step(kind: u8) -> bool {
 }
 
 // The card after a line, and whether the line agreed.
-fn after(
-    grown: Grown,
-    kind: u8,
-    line: &[u8],
-    arena: &mut [u8],
-    room: &mut [u8],
-    copy: &mut [u8],
-) -> Grown {
+fn after(grown: Grown, kind: u8, line: &[u8], arena: &mut [u8]) -> Grown {
     let mut bytes = [0u8; 1024];
     let n = stored::bytes_of(line, &mut bytes);
     if is_step(kind) {
         return add::line(grown, kind, &bytes[0..n], arena);
     }
     let mut next = grown;
-    next.agrees = asked(grown, kind, line, &bytes[0..n], arena, room, copy);
+    next.agrees = asked(grown, kind, line, &bytes[0..n], arena);
     next
 }
 
@@ -107,7 +92,7 @@ fn kind_of(line: &[u8]) -> u8 {
 }
 
 // Counts every line of a text, which begins with a card.
-fn lines(tally: Tally, text: &[u8], arena: &mut [u8], room: &mut [u8], copy: &mut [u8]) -> Tally {
+fn lines(tally: Tally, text: &[u8], arena: &mut [u8]) -> Tally {
     let mut t = tally;
     let mut grown = add::start(0, 0, 0);
     let mut from = 0;
@@ -116,14 +101,14 @@ fn lines(tally: Tally, text: &[u8], arena: &mut [u8], room: &mut [u8], copy: &mu
         let end = stored::end_of(text, start, b'\n');
         from = end + 1;
         let kind = kind_of(&text[start..end]);
-        grown = after(grown, kind, &text[start..end], arena, room, copy);
+        grown = after(grown, kind, &text[start..end], arena);
         t = counted(t, kind, grown.agrees);
     }
     t
 }
 
 // Counts every line of every file.
-fn files(arena: &mut [u8], room: &mut [u8], copy: &mut [u8]) -> Tally {
+fn files(arena: &mut [u8]) -> Tally {
     let mut t = Tally {
         cards: 0,
         additions: 0,
@@ -139,7 +124,7 @@ fn files(arena: &mut [u8], room: &mut [u8], copy: &mut [u8]) -> Tally {
         if got == 0 {
             break;
         }
-        t = lines(t, &text[0..got], arena, room, copy);
+        t = lines(t, &text[0..got], arena);
         n += 1;
     }
     t
@@ -147,9 +132,7 @@ fn files(arena: &mut [u8], room: &mut [u8], copy: &mut [u8]) -> Tally {
 
 fn main() {
     let mut arena = [0u8; 70000];
-    let mut room = [0u8; 70000];
-    let mut copy = [0u8; 70000];
-    let t = files(&mut arena, &mut room, &mut copy);
+    let t = files(&mut arena);
     stored::report(b"cards", t.cards);
     stored::report(b"additions", t.additions);
     stored::report(b"questions", t.questions);

@@ -120,14 +120,14 @@ fn write_agrees(
     codes: &[u16],
     list: &[u8],
     staging: &mut [u8],
-    copy: &mut [u8],
 ) -> bool {
-    fill(staging, 0xa5);
     let long = arena.len();
-    if copy.len() != long {
+    if 70000 < long {
         return false;
     }
-    spans::copy(copy, 0, arena, 0, long);
+    let mut copy = [0u8; 70000];
+    spans::copy(&mut copy, 0, arena, 0, long);
+    fill(staging, 0xa5);
     let keyless = spelt::first(line, 1) == b'O';
     let mut sent = [0u8; 16384];
     let n = spelt::bytes(line, 5, &mut sent);
@@ -142,7 +142,7 @@ fn write_agrees(
         list,
         &sent[0..n],
     );
-    written_right(card, line, reply, arena, staging, copy)
+    written_right(card, line, reply, arena, staging, &mut copy[0..long])
 }
 
 // Whether a write's reply, arena and staging are those of the line.
@@ -187,35 +187,25 @@ fn served(
     codes: &[u16],
     list: &[u8],
     room: &mut [u8],
-    copy: &mut [u8],
 ) -> bool {
     if spelt::first(line, 0) == b'R' {
         read_agrees(card, arena, line, codes, list, room)
     } else {
-        write_agrees(card, arena, line, codes, list, room, copy)
+        write_agrees(card, arena, line, codes, list, room)
     }
 }
 
 // A line `R` or `W`.
-pub(crate) fn request(
-    card: Card,
-    arena: &mut [u8],
-    line: &[u8],
-    room: &mut [u8],
-    copy: &mut [u8],
-) -> bool {
+pub(crate) fn request(card: Card, arena: &mut [u8], line: &[u8]) -> bool {
     let mut names = [0u16; 64];
     let n = named(line, &mut names);
     let mut list = [0u8; 2048];
     let m = spelt::bytes(line, 4, &mut list);
     let size = spelt::number(line, 6) as usize;
-    if room.len() < size {
+    if 70000 < size {
         return false;
     }
-    let long = arena.len();
-    if copy.len() < long {
-        return false;
-    }
+    let mut room = [0u8; 70000];
     served(
         card,
         arena,
@@ -223,7 +213,6 @@ pub(crate) fn request(
         &names[0..n],
         &list[0..m],
         &mut room[0..size],
-        &mut copy[0..long],
     )
 }
 

@@ -1,11 +1,11 @@
-// Which node is found: the first of a code, the first of a service number, the parent of a new one.
+// Which node is found: the first of a code, the first of a service number.
 use nodes::node::Entry;
 use nodes::node::Node;
 use types::code::ServiceCode;
 ghost use mathlib.Core.Path.{_≡_};
 ghost use lib.ListN.{take};
 ghost use Rattle.nodes.specs.Node.{isArea, isService};
-ghost use Rattle.find.specs.Find.{isServiceOf, isSought, firstFrom, serviceOf, areaOf, sharedOf, parentOf, openAt};
+ghost use Rattle.find.specs.Find.{isServiceOf, isSought, firstFrom, serviceOf, areaOf, sharedOf};
 
 // The index of a node, or that there is none.
 pub enum Found {
@@ -105,39 +105,4 @@ pub fn find_shared(nodes: [Node; 64], count: usize, code: u16) -> Found
     ensures { λ r. ⌜ r ≡ sharedOf (take count nodes) code ⌝ }
 {
     find_first(nodes, count, Sought::ServiceNumber, code)
-}
-
-// The area under which a new node of a depth comes.
-pub fn find_parent(nodes: [Node; 64], count: usize, depth: u8) -> Found
-    ensures { λ r. ⌜ r ≡ parentOf (take count nodes) depth ⌝ }
-{
-    let n = nodes::taken(count);
-    let mut found = Found::Nothing;
-    let mut i = 0;
-    while i < n {
-        let node = nodes[i];
-        if node.depth < depth {
-            found = open_at(node, depth, i);
-        }
-        i += 1;
-    }
-    found
-}
-
-// A node that is shallower than a new one: its parent if it is an area one level up, and no parent if not.
-fn open_at(node: Node, depth: u8, i: usize) -> Found
-    ensures { λ r. ⌜ r ≡ openAt node depth i ⌝ }
-{
-    if node.depth as u32 + 1 != depth as u32 {
-        return Found::Nothing;
-    }
-    let entry = node.entry;
-    match entry {
-        Entry::Area { end: _ } => Found::At(i),
-        Entry::Service {
-            start: _,
-            blocks: _,
-            limit: _,
-        } => Found::Nothing,
-    }
 }

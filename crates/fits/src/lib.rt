@@ -4,11 +4,47 @@ use find::Found;
 use grow::Answer;
 use grow::First;
 use grow::Placed;
+use nodes::node::Entry;
 use nodes::node::Node;
 ghost use mathlib.Core.Path.{_≡_};
 ghost use lib.ListN.{take};
-ghost use Rattle.find.specs.Find.{sharedOf};
+ghost use Rattle.find.specs.Find.{sharedOf, parentOf, openAt};
 ghost use Rattle.grow.specs.Grow.{parentAt, areaJudged, firstIn, placedOf};
+
+// The area under which a new node of a depth comes.
+fn find_parent(nodes: [Node; 64], count: usize, depth: u8) -> Found
+    ensures { λ r. ⌜ r ≡ parentOf (take count nodes) depth ⌝ }
+{
+    let n = nodes::taken(count);
+    let mut found = Found::Nothing;
+    let mut i = 0;
+    while i < n {
+        let node = nodes[i];
+        if node.depth < depth {
+            found = open_at(node, depth, i);
+        }
+        i += 1;
+    }
+    found
+}
+
+// A node that is shallower than a new one: its parent if it is an area one level up, and no parent if not.
+fn open_at(node: Node, depth: u8, i: usize) -> Found
+    ensures { λ r. ⌜ r ≡ openAt node depth i ⌝ }
+{
+    if node.depth as u32 + 1 != depth as u32 {
+        return Found::Nothing;
+    }
+    let entry = node.entry;
+    match entry {
+        Entry::Area { end: _ } => Found::At(i),
+        Entry::Service {
+            start: _,
+            blocks: _,
+            limit: _,
+        } => Found::Nothing,
+    }
+}
 
 // The parent of a new node at a depth from 1 to 8.
 fn parent_at(nodes: [Node; 64], count: usize, depth: u32) -> Found
@@ -20,7 +56,7 @@ fn parent_at(nodes: [Node; 64], count: usize, depth: u32) -> Found
     if 8 < depth {
         return Found::Nothing;
     }
-    find::find_parent(nodes, count, depth as u8)
+    find_parent(nodes, count, depth as u8)
 }
 
 // The refusal of an area that comes after the nodes that are there.

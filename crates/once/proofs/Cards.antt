@@ -14,7 +14,6 @@ use Rattle.find.proofs.is_service_of as find·is-service-of
 use Rattle.find.proofs.find_service as find·find-service
 use Rattle.find.proofs.find_area as find·find-area
 use Rattle.find.proofs.find_shared as find·find-shared
-use Rattle.find.proofs.find_parent as find·find-parent
 use Rattle.nodes.proofs.node.Node.root as nodes·Node·root
 use Rattle.grow.proofs.area_under as grow·area-under
 use Rattle.grow.proofs.placed_under as grow·placed-under
@@ -47,9 +46,6 @@ module _ {M : Type 1} (𝓤 : URA M) (H : Heap 𝓤) (A : Atoms 𝓤) (mem : Mem
 
   pub find·find-shared-once : OneAnswer 𝓤 find·find-shared.ended (find·find-shared.clauses 𝓤 H A mem run)
   find·find-shared-once κs a g r r′ ws ws′ = result 𝓤 refl
-
-  pub find·find-parent-once : OneAnswer 𝓤 find·find-parent.ended (find·find-parent.clauses 𝓤 H A mem run)
-  find·find-parent-once κs a g r r′ ws ws′ = result 𝓤 refl
 
   pub nodes·Node·root-once : OneAnswer 𝓤 nodes·Node·root.ended (nodes·Node·root.clauses 𝓤 H A mem run)
   nodes·Node·root-once κs a g r r′ ws ws′ = result 𝓤 refl

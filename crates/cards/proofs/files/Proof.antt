@@ -6,10 +6,10 @@ use Rattle.cards.proofs.files.Statement.{statement}
 use Rattle.cards.proofs.files.Tie as tie
 
 abbrev Inv-loop : tie.InvT-loop
-Inv-loop arena₀ room₀ copy₀ t₀ text₀ n₀ arena room copy t text n = (1 ≤ n) × (n ≤ 10000) × (length text ≡ 65536) × (length arena ≡ length arena₀) × (length room ≡ length room₀) × (length copy ≡ length copy₀)
+Inv-loop arena₀ t₀ text₀ n₀ arena t text n = (1 ≤ n) × (n ≤ 10000) × (length text ≡ 65536) × (length arena ≡ length arena₀)
 
 abbrev μ-loop : tie.MeasureT-loop
-μ-loop arena₀ room₀ copy₀ t₀ text₀ n₀ arena room copy t text n = 10000 - n
+μ-loop arena₀ t₀ text₀ n₀ arena t text n = 10000 - n
 
 pub files-spec : {M : Type 1} → statement M
 files-spec =
@@ -29,10 +29,6 @@ files-spec =
     (λ c. search needs)  -- loop-less
     (λ c. search needs)  -- loop-again
     (λ c. search needs)  -- same-length
-    (λ c. search needs)  -- same-length-2
-    (λ c. search needs)  -- same-length-3
     (λ c. search needs)  -- returns
-    (λ c. search needs)  -- same-length-4
-    (λ c. search needs)  -- same-length-5
-    (λ c. search needs)  -- same-length-6
+    (λ c. search needs)  -- same-length-2
     (λ c. search needs))  -- returns-2

@@ -6,10 +6,10 @@ use Rattle.cards.proofs.lines.Statement.{statement}
 use Rattle.cards.proofs.lines.Tie as tie
 
 abbrev Inv-loop : tie.InvT-loop
-Inv-loop text arena₀ room₀ copy₀ t₀ grown₀ from₀ arena room copy t grown from = (from ≤ length text + 1) × (length arena ≡ length arena₀) × (length room ≡ length room₀) × (length copy ≡ length copy₀)
+Inv-loop text arena₀ t₀ grown₀ from₀ arena t grown from = (from ≤ length text + 1) × (length arena ≡ length arena₀)
 
 abbrev μ-loop : tie.MeasureT-loop
-μ-loop text arena₀ room₀ copy₀ t₀ grown₀ from₀ arena room copy t grown from = length text + 1 - from
+μ-loop text arena₀ t₀ grown₀ from₀ arena t grown from = length text + 1 - from
 
 pub lines-spec : {M : Type 1} → statement M
 lines-spec =
@@ -33,6 +33,4 @@ lines-spec =
     (λ c. search needs)  -- loop-less
     (λ c. search needs)  -- loop-again
     (λ c. search needs)  -- same-length
-    (λ c. search needs)  -- same-length-2
-    (λ c. search needs)  -- same-length-3
     (λ c. search needs))  -- returns

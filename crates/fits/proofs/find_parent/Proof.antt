@@ -5,11 +5,11 @@ use Prim.Native.Nat.{_-_}
 use native.Mathlib.Omega.{arith}
 use lib.ListN.{take}
 use borrow.Author.Needs.{needs}
 use Rattle.find.specs.Find.{parentOf, parentFrom}
 use Rattle.nodes.proofs.Scan.{Left, done}
 use Rattle.find.proofs.Turns.{decides, leaves}
-use Rattle.find.proofs.find_parent.Statement.{statement}
-use Rattle.find.proofs.find_parent.Tie as tie
+use Rattle.fits.proofs.find_parent.Statement.{statement}
+use Rattle.fits.proofs.find_parent.Tie as tie
 
 abbrev Inv-loop : tie.InvT-loop
 Inv-loop count depth nodes n found₀ i₀ found i =

@@ -1,9 +1,9 @@
 -- An area one level up is the parent; any other node that is shallower leaves none.
 use borrow.Author.Needs.{needs}
 use Rattle.find.specs.Find.{openAt}
 use Rattle.spans.proofs.Tests.{tests}
-use Rattle.find.proofs.open_at.Statement.{statement}
-use Rattle.find.proofs.open_at.Tie as tie
+use Rattle.fits.proofs.open_at.Statement.{statement}
+use Rattle.fits.proofs.open_at.Tie as tie
 
 pub open-at-spec : {M : Type 1} → statement M
 unfolding openAt
