@@ -43,6 +43,12 @@ pub enum Refusal {
     MalformedImage,
 }
 
+// How a call ended.
+pub enum Answer {
+    Done,
+    Refused(Refusal),
+}
+
 // A number of 16 bits, or why there is none.
 pub enum Told {
     Number(u16),

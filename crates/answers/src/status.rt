@@ -70,3 +70,9 @@ pub fn list_error_index(index: usize) -> u8
 {
     if index < 254 { index as u8 + 1 } else { 255 }
 }
+
+// How a rule ended: the bytes lent to it are those to store, or it failed and they are as they were.
+pub enum Written {
+    Done,
+    Failed(Fault),
+}

@@ -1,7 +1,9 @@
 // A race's card: the marshal writes lane 1 through a read/write service, the finish tower reads it through a read-only
 // service of the same number. A late redraw in between is what the tower then reads.
-use plan::Reply;
-use structure::card::Card;
+use card_build::card::Card;
+use request_plan::Reply;
+use request_serve::reading;
+use request_serve::writing;
 
 // The card: two lanes of number 41h, written by 1049 and read by 104B, both open.
 fn race(arena: &mut [u8]) -> Card {

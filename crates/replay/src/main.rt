@@ -1,4 +1,4 @@
 // Replays standard input.
 fn main() {
-    shell::replay(0);
+    replay_shell::replay(0);
 }

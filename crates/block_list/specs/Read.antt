@@ -1,0 +1,30 @@
+-- A reader holds a list's bytes and a place in them; all before the place is taken.
+use Prim.Native.Nat.{ℕ}
+use mathlib.Core.Bool.{Bool}
+use mathlib.Core.List.{List}
+use lib.ListN.{length}
+use lib.Dec.{eqb}
+use denote.Ref.{RefT, now}
+use Rattle.block_list.specs.declared.element.Unpacked.{Unpacked}
+use Rattle.block_list.specs.Element.{afterElement, unpackAt}
+use Rattle.block_list.specs.declared.reader.Reader.{Reader}
+
+-- at first nothing is taken
+abbrev pub atStart : RefT (List ℕ) → Reader
+atStart list = record { list = list; at = 0 }
+
+-- the element that stands at the reader's place, or too few bytes for one
+abbrev pub nextOf : Reader → Unpacked
+nextOf r = unpackAt (now (r .list)) (r .at)
+
+-- the place past an element; where there is none, the same place
+abbrev pub placePast : Unpacked → ℕ → ℕ
+placePast u at = afterElement at (λ e next. next) u
+
+-- the same list, with the next element taken
+abbrev pub movedOn : Reader → Reader
+movedOn r = record { list = r .list; at = placePast (nextOf r) (r .at) }
+
+-- all bytes are taken
+abbrev pub finished : Reader → Bool
+finished r = eqb (r .at) (length (now (r .list)))

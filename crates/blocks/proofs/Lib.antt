@@ -1,3 +1,0 @@
--- The rule in each of its cases.
-mod Range
-mod Rule

@@ -1,2 +1,0 @@
-pub mod Outcome
-pub mod Purse

@@ -1,0 +1,4 @@
+mod Judged
+-- What the calls' proofs cite.
+mod Accepted
+mod Answers

@@ -1,0 +1,84 @@
+-- The code tests in the definition's order; an accepted service finds a record and its blocks free, and its depth fits.
+use mathlib.Core.Path.{_≡_, refl, sym, _∙_}
+use mathlib.Core.Bool.{true}
+use Prim.Native.Nat.{_/_, _≤_}
+use native.Mathlib.Omega.{arith}
+use lib.ListN.{length, length-map}
+use borrow.Author.Needs.{needs}
+use borrow.Author.Tests.{not-true, not-false}
+use Rattle.card_admit.specs.declared.Placed.{Placed}
+use Rattle.card_admit.specs.Grow.{placedOf}
+use Rattle.card_build.specs.Card.{nodesOf, isSound}
+use Rattle.card_build.proofs.Accepted.{Fits, service-accepted}
+use Rattle.card_build.proofs.Answers.{service-unsound, service-short, service-refused, service-stored, arena-after, arena-kept}
+use Rattle.card_build.proofs.card.Card.add_service.Statement.{statement}
+use Rattle.card_build.proofs.card.Card.add_service.Tie as tie
+
+-- the card is sound
+sound : (c : tie.Else1) → isSound (c .before .before .before .args .self) ≡ true
+sound c = sym (c .before .is-sound .ensures) ∙ not-false _ (c .if1 .left)
+
+-- the card has 64 records
+records : (c : tie.Start) → length (c .args .self .nodes) ≡ 64
+records c = simp length-map at (c .good .0 .1 .1 .0 .1 .0 .1)
+
+-- where the service was placed
+placed : (c : tie.After-place-service) {p : Placed} → c .place-service .result ≡ p →
+    let a = c .before .before .before .before .before .before .args in
+    placedOf (nodesOf (a .self)) (a .self .used) (length (a .arena .now)) (a .depth) (a .code) (a .blocks) ≡ p
+placed c e = sym (c .place-service .ensures) ∙ e
+
+-- a record and its blocks are free, and the depth fits
+fits : (c : tie.After-start) →
+    let a = c .before .before .before .before .before .before .before .before .args in
+    Fits (a .self .count) (a .depth) (a .self .used) (length (a .arena .now)) (c .start .given .0 .1 .1 .0)
+fits c =
+    let p = c .before .before in
+    service-accepted _ _ _ _ (records (p .before .before .before .before .before .before)) _ _ _ (placed p (c .start .given .1)) (p .before .if2 .left)
+
+returns : tie.Need-returns
+returns c =
+    let e = service-unsound _ _ _ _ _ _ (sym (c .before .before .is-sound .ensures) ∙ not-true _ (c .before .if1 .taken)) in
+    (c .refuse .ensures ∙ e, arena-kept _ _ e refl)
+
+returns-2 : tie.Need-returns-2
+returns-2 c =
+    let e = service-short _ _ _ _ _ _ (sound (c .before .before .before)) (c .before .if2 .taken) in
+    (c .refuse2 .ensures ∙ e, arena-kept _ _ e refl)
+
+returns-3 : tie.Need-returns-3
+returns-3 c =
+    let p = c .before .before .before .before in
+    let e = service-refused _ _ _ _ _ _ (sound (p .before .before .before)) (p .before .if2 .left) (placed p (c .before .before .refusal .given .1)) in
+    (c .refuse3 .ensures ∙ e, arena-kept _ _ e refl)
+
+returns-4 : tie.Need-returns-4
+returns-4 c =
+    let z = c .before .before .before in
+    let s = z .before .before .before in
+    let p = s .before .before in
+    let e = service-stored _ _ _ _ _ _ (sound (p .before .before .before)) (p .before .if2 .left) (placed p (s .start .given .1)) in
+    (c .grow .ensures ∙ e, z .zero .ensures ∙ arena-after _ _ e)
+
+pub add-service-spec : {M : Type 1} → statement M
+add-service-spec =
+    tie.close
+    (tie.spec
+    (λ c κs. search needs)
+    (λ c κs. search needs)
+    returns
+    (λ c κs. search needs)
+    returns-2
+    (λ c κs. search needs)
+    (λ c. search needs)
+    (λ c κs. search needs)
+    (λ c. search needs)
+    (λ c. search needs)
+    (λ c. omega (arith, fits (c .before .before)))
+    (λ c. omega (arith, fits (c .before .before)))
+    (λ c κs. omega (arith, fits (c .before .before)))
+    (λ c. omega (arith, fits (c .before .before .before .before .before)))
+    (λ c κs. fits (c .before .before .before .before .before) .free)
+    returns-3
+    (λ c. search needs)
+    returns-4)

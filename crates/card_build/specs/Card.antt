@@ -1,0 +1,35 @@
+-- A card's value.
+use Prim.Native.Nat.{ℕ, _+_}
+use mathlib.Core.List.{List}
+use mathlib.Core.Bool.{Bool}
+use lib.ListN.{take, set, replicate}
+use Rattle.answers.specs.declared.refusal.Refusal.{Refusal}
+use Rattle.card_nodes.specs.declared.node.Node.{Node}
+use Rattle.answers.specs.declared.refusal.Answer.the-variants.{Done, Refused}
+use Rattle.card_nodes.specs.Node.{rootNode}
+use Rattle.card_sound.specs.Sound.{soundOf}
+use Rattle.card_build.specs.declared.card.Card.{Card}
+use Rattle.card_build.specs.declared.card.Added.{Added}
+
+-- the root alone; unused records read the same
+abbrev pub newCard : ℕ → ℕ → Card
+newCard system version = record { nodes = replicate 64 rootNode; count = 1; used = 0; system = system; version = version }
+
+-- the nodes of the card's system, in tree order
+abbrev pub nodesOf : Card → List Node
+nodesOf c = take (c .count) (c .nodes)
+
+-- the test of refusal 8
+abbrev pub isSound : Card → Bool
+isSound c = soundOf (c .nodes) (c .count) (c .used)
+
+-- the card with one record more
+abbrev pub grown : Card → Node → ℕ → Card
+grown c n used = record { nodes = set (c .nodes) (c .count) n; count = c .count + 1; used = used; system = c .system; version = c .version }
+
+abbrev pub accepted : Card → Added
+accepted c = record { card = c; answer = Done }
+
+-- a refusal changes no node
+abbrev pub refused : Card → Refusal → Added
+refused c r = record { card = c; answer = Refused r }

@@ -1,0 +1,59 @@
+-- The additions and the limit, on a card that is sound.
+use Prim.Native.Nat.{ℕ, _+_, _-_, _*_}
+use mathlib.Core.Bool.{cond}
+use lib.Dec.{ltb}
+use lib.IntN.{ℤ}
+use lib.ListN.{getD, set}
+use Rattle.answers.specs.declared.refusal.Refusal.the-variants.{ShortArena, NotAService}
+use Rattle.service_code.specs.declared.limit.Limit.{Limit}
+use Rattle.service_code.specs.declared.limit.Limit.the-variants.{Unlimited, Limited}
+use Rattle.card_nodes.specs.declared.node.Entry.{Entry}
+use Rattle.card_nodes.specs.declared.node.Entry.the-variants.{Area, Service}
+use Rattle.card_nodes.specs.declared.node.Node.{Node}
+use Rattle.answers.specs.declared.refusal.Answer.{Answer}
+use Rattle.answers.specs.declared.refusal.Answer.the-variants.{Done, Refused}
+use Rattle.card_admit.specs.declared.Placed.{Placed}
+use Rattle.card_admit.specs.declared.Placed.the-variants.{Store, Refused as NotPlaced}
+use Rattle.card_nodes.specs.Node.{rootNode}
+use Rattle.card_admit.specs.Grow.{areaJudged, placedOf}
+use Rattle.card_build.specs.declared.card.Card.{Card}
+use Rattle.card_build.specs.declared.card.Added.{Added}
+use Rattle.card_build.specs.Card.{nodesOf, grown, accepted, refused}
+
+abbrev pub nodeAs : ℕ → ℕ → ℕ → Entry → Node
+nodeAs depth code version entry = record { depth = depth; code = code; version = version; entry = entry }
+
+abbrev pub areaBy : Card → Node → Answer → Added
+areaBy c n Done = accepted (grown c n (c .used))
+areaBy c n (Refused r) = refused c r
+
+unfoldable pub addArea : Card → ℕ → ℕ → ℕ → ℕ → Added
+addArea c depth code end version = areaBy c (nodeAs depth code version (Area end)) (areaJudged (nodesOf c) depth code end)
+
+abbrev pub serviceBy : Card → ℕ → ℕ → ℕ → Placed → Added
+serviceBy c depth code version (Store s b used) = accepted (grown c (nodeAs depth code version (Service s b Unlimited)) used)
+serviceBy c depth code version (NotPlaced r) = refused c r
+
+-- 7 ahead of the others, for an arena of `long` bytes
+unfoldable pub addService : Card → ℕ → ℕ → ℕ → ℕ → ℕ → Added
+addService c long depth code blocks version =
+    cond (ltb long (16 * c .used)) (refused c ShortArena)
+    (serviceBy c depth code version (placedOf (nodesOf c) (c .used) long depth code blocks))
+
+-- the node added last
+abbrev pub lastOf : Card → Node
+lastOf c = getD (c .nodes) (c .count - 1) rootNode
+
+abbrev pub limitBy : Card → Limit → Entry → Added
+limitBy c l (Area e) = refused c NotAService
+limitBy c l (Service s b old) = accepted (record {
+  nodes = set (c .nodes) (c .count - 1) (nodeAs (lastOf c .depth) (lastOf c .code) (lastOf c .version) (Service s b l));
+  count = c .count;
+  used = c .used;
+  system = c .system;
+  version = c .version;
+})
+
+-- a limit goes to the node added last and replaces an earlier one; any two bounds are accepted
+unfoldable pub setLimit : Card → ℤ → ℤ → ℕ → Added
+setLimit c upper lower generation = limitBy c (Limited upper lower generation) (lastOf c .entry)

@@ -1,0 +1,44 @@
+// A card's value.
+use answers::refusal::Answer;
+use card_nodes::node::Node;
+ghost use mathlib.Core.Path.{_≡_};
+ghost use Rattle.card_build.specs.Card.{newCard, isSound};
+
+// A card: 64 records of which `count` are taken, root first, and how many blocks of the arena are in use.
+pub struct Card {
+    pub nodes: [Node; 64],
+    pub count: usize,
+    pub used: usize,
+    pub system: u16,
+    pub version: u16,
+}
+
+// A card handed back, and how the call on it ended.
+pub struct Added {
+    pub card: Card,
+    pub answer: Answer,
+}
+
+impl Card {
+    // A card with nothing but its root.
+    pub fn new(system: u16, version: u16) -> Self
+        ensures { λ r. ⌜ r ≡ newCard system version ⌝ }
+    {
+        let root = Node::root();
+        Self {
+            nodes: [root; 64],
+            count: 1,
+            used: 0,
+            system,
+            version,
+        }
+    }
+
+    // Whether accepted additions and limits produce this card; if not, every call is refused with 8.
+    pub fn is_sound(self) -> bool
+        ensures { λ r. ⌜ r ≡ isSound self ⌝ }
+    {
+        let nodes = self.nodes;
+        card_sound::sound(nodes, self.count, self.used)
+    }
+}

@@ -1,0 +1,104 @@
+-- What is known of a node by the tests that it passed: its depth, and a service's attribute and kind.
+use mathlib.Core.Path.{_≡_, refl, sym, _∙_, ap}
+use mathlib.Core.Bool.{Bool, true, false, cond}
+use mathlib.Core.List.{List}
+use mathlib.Core.Logic.{_≢_}
+use Prim.Native.Nat.{ℕ, _≤_}
+use native.Mathlib.Omega.{arith}
+use lib.Dec.{eqb, ltb, leb}
+use lib.ListN.{length, getD}
+use borrow.Author.Tests.{eqb-true, eqb-false, ltb-false}
+use Rattle.answers.specs.declared.refusal.Refusal.the-variants.{NodeCodeOutOfRange, UndefinedServiceAttribute, TableFull}
+use Rattle.service_code.specs.declared.code.ServiceAttribute.{ServiceAttribute}
+use Rattle.service_code.specs.declared.code.ServiceKind.the-variants.{Random, Cyclic, Purse}
+use Rattle.service_code.specs.declared.code.Decoded.{Decoded}
+use Rattle.service_code.specs.declared.code.Decoded.the-variants.{Defined, Undefined}
+use Rattle.service_code.specs.declared.code.DecodedKind.{DecodedKind}
+use Rattle.service_code.specs.declared.code.DecodedKind.the-variants.{Defined as OfKind, Undefined as NoKind}
+use Rattle.service_code.specs.Code.{attributeOf, codeKindOf}
+use Rattle.card_nodes.specs.declared.node.Node.{Node}
+use Rattle.card_nodes.specs.declared.find.Found.{Found}
+use Rattle.card_nodes.specs.declared.find.Found.the-variants.{At, Nothing}
+use Rattle.answers.specs.declared.refusal.Answer.{Answer}
+use Rattle.answers.specs.declared.refusal.Answer.the-variants.{Done, Refused}
+use Rattle.card_admit.specs.declared.Placed.{Placed}
+use Rattle.card_admit.specs.declared.Placed.the-variants.{Store, Refused as NotPlaced}
+use Rattle.card_nodes.specs.Node.{rootNode}
+use Rattle.card_admit.specs.Grow.{parentAt, areaFound, areaJudged, ifDefined, serviceUnder, kindNumber, sameKind, ifDone, serviceFound, placedOf}
+
+-- a depth that a node other than the root has
+pub record Deep (depth : ℕ) : Type 0 where
+  pub low : 1 ≤ depth
+  pub high : depth ≤ 8
+
+-- a node with a parent is at such a depth
+parent-deep : (ns : List Node) (depth : ℕ) {p : ℕ} → parentAt ns depth ≡ At p → Deep depth
+unfolding parentAt
+parent-deep ns depth {p = p} e =
+    let a = passed (eqb depth 0) e in
+    let b = passed (ltb 8 depth) (a .1) in
+    let z : depth ≢ 0 = eqb-false depth 0 (a .0) in
+    record { low = omega arith; high = ltb-false 8 depth (b .0) }
+  where
+    passed : (b : Bool) {f : Found} → cond b Nothing f ≡ At p → (b ≡ false) × (f ≡ At p)
+    passed true k = absurd (let z : _≡_ {A = ℕ} 0 1 = cc in (omega arith))
+    passed false k = (refl, k)
+
+-- an area that is accepted
+pub area-deep : (ns : List Node) (depth code end : ℕ) → areaJudged ns depth code end ≡ Done → Deep depth
+unfolding areaJudged
+area-deep ns depth code end e = under (leb 64 (length ns)) (parentAt ns depth) refl e
+  where
+    under : (full : Bool) (f : Found) → parentAt ns depth ≡ f → cond full (Refused TableFull) (areaFound ns code end f) ≡ Done → Deep depth
+    under true f q k = absurd (let z : _≡_ {A = ℕ} 0 1 = cc in (omega arith))
+    under false Nothing q k = absurd (let z : _≡_ {A = ℕ} 0 1 = cc in (omega arith))
+    under false (At p) q k = parent-deep ns depth q
+
+-- an attribute that is defined
+abbrev pub Known : ℕ → Type 0
+Known code = (a : ServiceAttribute) × (attributeOf code ≡ Defined a)
+
+under-known : (above : Node) (code : ℕ) → serviceUnder above code ≡ Done → Known code
+unfolding serviceUnder
+under-known above code e = known _ (ltb 0xfffe code) (attributeOf code) refl e
+  where
+    known : (x : Answer) (b : Bool) (d : Decoded) → attributeOf code ≡ d →
+        cond b (Refused NodeCodeOutOfRange) (ifDefined d x (Refused UndefinedServiceAttribute)) ≡ Done → Known code
+    known x true d q k = absurd (let z : _≡_ {A = ℕ} 0 1 = cc in (omega arith))
+    known x false (Defined a) q k = (a, q)
+    known x false Undefined q k = absurd (let z : _≡_ {A = ℕ} 0 1 = cc in (omega arith))
+
+-- a service that got a store
+pub service-known : (ns : List Node) (used long depth code blocks : ℕ) {s b u : ℕ} → placedOf ns used long depth code blocks ≡ Store s b u →
+    Deep depth × Known code
+unfolding placedOf
+service-known ns used long depth code blocks {s = s} {b = b} {u = u} e = under (leb 64 (length ns)) (parentAt ns depth) refl e
+  where
+    done : (p : Placed) (a : Answer) → ifDone a p ≡ Store s b u → a ≡ Done
+    done p Done k = refl
+    done p (Refused r) k = absurd (let z : _≡_ {A = ℕ} 0 1 = cc in (omega arith))
+
+    under : (full : Bool) (f : Found) → parentAt ns depth ≡ f →
+        cond full (NotPlaced TableFull) (serviceFound ns used long code blocks f) ≡ Store s b u → Deep depth × Known code
+    under true f q k = absurd (let z : _≡_ {A = ℕ} 0 1 = cc in (omega arith))
+    under false Nothing q k = absurd (let z : _≡_ {A = ℕ} 0 1 = cc in (omega arith))
+    under false (At p) q k =
+        let above = getD ns p rootNode in
+        (parent-deep ns depth q, under-known above code (done _ (serviceUnder above code) k))
+
+-- the kind of a number
+kindAt : ℕ → DecodedKind
+kindAt n = cond (eqb n 1) (OfKind Random) (cond (eqb n 2) (OfKind Cyclic) (cond (eqb n 3) (OfKind Purse) NoKind))
+
+kind-at : (k : DecodedKind) → kindAt (kindNumber k) ≡ k
+unfolding kindAt
+kind-at NoKind = refl
+kind-at (OfKind Random) = refl
+kind-at (OfKind Cyclic) = refl
+kind-at (OfKind Purse) = refl
+
+-- codes that pass the test of refusal 19 are of one kind
+pub same-kind : (a b : ℕ) → sameKind a b ≡ true → codeKindOf a ≡ codeKindOf b
+unfolding sameKind
+same-kind a b e =
+    sym (kind-at (codeKindOf a)) ∙ ap kindAt (eqb-true (kindNumber (codeKindOf a)) (kindNumber (codeKindOf b)) e) ∙ kind-at (codeKindOf b)

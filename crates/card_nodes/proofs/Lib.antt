@@ -1,0 +1,4 @@
+pub mod Scan
+pub mod Turns
+pub mod Searches
+pub mod Records

@@ -1,0 +1,15 @@
+-- The definition of a total says what docs/RULES.md words by the children of an area.
+use mathlib.Core.Path.{_≡_, sym}
+use mathlib.Core.List.{List}
+use Prim.Native.Nat.{ℕ, _≤_}
+use native.Mathlib.Nat.{zero-add}
+use lib.ListN.{length}
+use Rattle.card_nodes.specs.declared.node.Node.{Node}
+use Rattle.card_questions.proofs.Worded.{worded}
+use Rattle.card_questions.specs.Total.{sumUnder}
+use Rattle.card_questions.specs.TotalsWorded.{totalWorded}
+use Rattle.card_questions.proofs.Summing.{sums}
+
+-- An area's block total is its own services plus, by the same rule, each child area's total.
+pub total-worded : (k d : ℕ) (ns : List Node) → length ns ≤ k → totalWorded k d ns ≡ sumUnder d ns
+total-worded = worded sums _ (λ n e q x. rw q (sym (zero-add x))) (λ n s b l q x y. rw q)

@@ -1,0 +1,47 @@
+-- The code tests in the definition's order.
+use mathlib.Core.Path.{_≡_, sym, _∙_, ap}
+use mathlib.Core.Bool.{Bool, cond}
+use lib.ListN.{take}
+use borrow.Author.Needs.{needs}
+use Rattle.card_nodes.specs.Find.{serviceOf, areaOf}
+use Rattle.byte_parts.proofs.Tests.{tests}
+use Rattle.card_questions.specs.declared.keys.ListNode.the-variants.{Keyed, KeyFree}
+use Rattle.card_questions.specs.Keys.{isFound, listNodeOf}
+use Rattle.card_questions.proofs.keys.list_node.Statement.{statement}
+use Rattle.card_questions.proofs.keys.list_node.Tie as tie
+
+-- a service of the code is found, or none
+service : (c : tie.After-is-found) {b : Bool} → c .is-found .result ≡ b →
+    let a = c .before .before .before .before .args in
+    isFound (serviceOf (take (a .count) (a .nodes)) (a .code)) ≡ b
+service c e = sym (c .is-found .ensures ∙ ap isFound (c .before .find-service .ensures)) ∙ e
+
+-- an area of the code is found, or none
+area : (c : tie.After-is-found2) {b : Bool} → c .is-found2 .result ≡ b →
+    let a = c .before .before .before .before .before .before .before .args in
+    isFound (areaOf (take (a .count) (a .nodes)) (a .code)) ≡ b
+area c e = sym (c .is-found2 .ensures ∙ ap isFound (c .before .find-area .ensures)) ∙ e
+
+pub list-node-spec : {M : Type 1} → statement M
+unfolding listNodeOf
+list-node-spec =
+    tie.close
+    (tie.spec
+    (λ c. search tests)
+    (λ c κs. search needs)
+    (λ c κs. search needs)
+    (λ c κs. search needs)
+    (λ c κs. search needs)
+    (λ c.
+    let i = c .before in
+    c .listed .ensures
+    ∙ ap (λ (k : Bool). cond k Keyed KeyFree) (i .before .before .before .requires-key .ensures)
+    ∙ search (tests, service (i .before) (i .if2 .taken)))
+    (λ c κs. search needs)
+    (λ c κs. search needs)
+    (λ c κs. search needs)
+    (λ c.
+    let j = c .before in
+    let i = j .before .before .before in
+    c .listed2 .ensures ∙ search (tests, service (i .before) (i .if2 .left), area (j .before) (j .if3 .taken)))
+    (λ c. let i = c .before .before .before in search (tests, service (i .before) (i .if2 .left), area (c .before) (c .if3 .left))))

@@ -1,0 +1,7 @@
+pub mod Under
+pub mod Worded
+pub mod Directory
+pub mod ListingWorded
+pub mod Total
+pub mod TotalsWorded
+pub mod Keys

@@ -1,0 +1,41 @@
+-- Block totals.
+use Prim.Native.Nat.{ℕ, _+_, min}
+use mathlib.Core.List.{List, [], _∷_}
+use mathlib.Core.Bool.{cond}
+use lib.Dec.{leb}
+use lib.ListN.{drop, getD}
+use Rattle.answers.specs.declared.refusal.Refusal.the-variants.{NotBuilt}
+use Rattle.answers.specs.declared.refusal.Told.{Told}
+use Rattle.answers.specs.declared.refusal.Told.the-variants.{Number, Refused as NotTold}
+use Rattle.card_nodes.specs.declared.node.Node.{Node}
+use Rattle.card_nodes.specs.declared.find.Found.{Found}
+use Rattle.card_nodes.specs.declared.find.Found.the-variants.{At, Nothing}
+use Rattle.card_nodes.specs.Node.{rootNode, blocksOf}
+use Rattle.card_nodes.specs.Find.{serviceOf, areaOf}
+use Rattle.card_build.specs.declared.card.Card.{Card}
+use Rattle.card_build.specs.Card.{nodesOf, isSound}
+
+-- the blocks of the services under an area of depth d, a joined store once for each service
+unfoldable pub sumUnder : ℕ → List Node → ℕ
+sumUnder d [] = 0
+sumUnder d (n ∷ ns) = cond (leb (n .depth) d) 0 (blocksOf (n .entry) + sumUnder d ns)
+
+-- an area's total stops at 65,535, which is made at the answer
+abbrev pub areaTotalAt : List Node → Found → ℕ
+areaTotalAt ns (At i) = min (sumUnder (getD ns i rootNode .depth) (drop (i + 1) ns)) 65535
+areaTotalAt ns Nothing = 0
+
+abbrev pub areaTotal : List Node → ℕ → ℕ
+areaTotal ns code = areaTotalAt ns (areaOf ns code)
+
+abbrev pub totalAt : List Node → ℕ → Found → ℕ
+totalAt ns code (At i) = min (blocksOf (getD ns i rootNode .entry)) 65535
+totalAt ns code Nothing = areaTotal ns code
+
+-- for a service code it is that store's count, and an unknown node gives 0
+unfoldable pub totalOf : List Node → ℕ → ℕ
+totalOf ns code = totalAt ns code (serviceOf ns code)
+
+-- what a card answers, refusal 8 first
+unfoldable pub totalAnswer : Card → ℕ → Told
+totalAnswer c code = cond (isSound c) (Number (totalOf (nodesOf c) code)) (NotTold NotBuilt)

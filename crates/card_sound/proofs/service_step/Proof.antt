@@ -1,0 +1,16 @@
+-- The record's start, then its count, is the one that the building gives.
+use borrow.Author.Needs.{needs}
+use Rattle.byte_parts.proofs.Tests.{tests}
+use Rattle.card_sound.proofs.service_step.Statement.{statement}
+use Rattle.card_sound.proofs.service_step.Tie as tie
+
+pub service-step-spec : {M : Type 1} → statement M
+service-step-spec =
+    tie.close
+    (tie.spec
+    (λ c. search needs)
+    (λ c. search (tests, c .before .before .placed .given .1))
+    (λ c. search (tests, c .before .before .before .placed .given .1))
+    (λ c. search needs)
+    (λ c. search (tests, c .before .before .before .placed .given .1))
+    (λ c. search needs))

@@ -1,4 +1,0 @@
--- The laws of the definitions: what the functions' proofs cite, and what callers may.
-mod Cases
-mod Steps
-pub mod Laws

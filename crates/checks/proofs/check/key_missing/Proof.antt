@@ -1,8 +1,0 @@
--- Only a request without a key asks.
-use borrow.Author.Needs.{needs}
-use Rattle.checks.proofs.check.key_missing.Statement.{statement}
-use Rattle.checks.proofs.check.key_missing.Tie as tie
-
-pub key-missing-spec : {M : Type 1} → statement M
-key-missing-spec =
-    tie.close (tie.spec (λ c κs. search needs) (λ c. search (c .before .if1 .taken, c .requires-key .ensures)) (λ c. search needs))

@@ -1,2 +1,0 @@
-// Whether each element of a request may pass.
-pub mod check;

@@ -1,2 +1,0 @@
--- How the loop goes over the records.
-mod Turns

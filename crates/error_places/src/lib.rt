@@ -1,0 +1,45 @@
+// The places of a list that the set bits of a status flag 1 can denote, as `types.rs` of the Rust has them.
+ghost use mathlib.Core.Path.{_≡_};
+ghost use Prim.Native.Nat.{_+_, _≤_, _<_};
+ghost use lib.Count.{ones};
+ghost use lib.ListN.{length};
+ghost use lib.Seq.{sets};
+ghost use Rattle.error_places.specs.Bitmap.{placesFrom, bitmapOf};
+
+// The places of a list that an error byte can denote, in ascending order, and how many they are.
+pub struct Positions {
+    pub places: [u8; 15],
+    pub count: usize,
+}
+
+// The places that the set bits of an error byte denote.
+pub fn bitmap_positions(value: u8) -> Positions
+    ensures { λ r. ⌜ r ≡ bitmapOf value ⌝ }
+{
+    let mut places = [0u8; 15];
+    let low = u8::count_ones(value) as usize;
+    let high = u8::count_ones(value % 128) as usize;
+    places_from(&mut places, 0, value, 1);
+    places_from(&mut places, low, value % 128, 9);
+    Positions {
+        places: places,
+        count: low + high,
+    }
+}
+
+// Writes the places of the set bits from index `at` on, `place` being the lowest bit's.
+fn places_from(places: &mut [u8], at: usize, bits: u8, place: u8)
+    requires { ⌜ (at + ones bits ≤ length (now places)) × (place < 248) ⌝ }
+    ensures { λ r. ⌜ now (places .exit) ≡ sets (now (places .entry)) at (placesFrom 8 place bits) ⌝ }
+{
+    let mut rest = bits;
+    let mut next = place;
+    let mut i = at;
+    while rest != 0 {
+        let zeros = u8::trailing_zeros(rest) as u8;
+        places[i] = next + zeros;
+        i += 1;
+        next = next + zeros + 1;
+        rest = (rest >> zeros) / 2;
+    }
+}

@@ -1,7 +1,0 @@
--- The first area of the code.
-use borrow.Author.Needs.{needs}
-use Rattle.find.proofs.find_area.Statement.{statement}
-use Rattle.find.proofs.find_area.Tie as tie
-
-pub find-area-spec : {M : Type 1} → statement M
-find-area-spec = tie.close (tie.spec (λ c κs. search needs) (λ c. c .find-first .ensures))

@@ -1,7 +1,0 @@
--- The first service of the code.
-use borrow.Author.Needs.{needs}
-use Rattle.find.proofs.find_service.Statement.{statement}
-use Rattle.find.proofs.find_service.Tie as tie
-
-pub find-service-spec : {M : Type 1} → statement M
-find-service-spec = tie.close (tie.spec (λ c κs. search needs) (λ c. c .find-first .ensures))

@@ -1,7 +1,0 @@
--- The first service of the code's number.
-use borrow.Author.Needs.{needs}
-use Rattle.find.proofs.find_shared.Statement.{statement}
-use Rattle.find.proofs.find_shared.Tie as tie
-
-pub find-shared-spec : {M : Type 1} → statement M
-find-shared-spec = tie.close (tie.spec (λ c κs. search needs) (λ c. c .find-first .ensures))

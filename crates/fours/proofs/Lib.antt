@@ -1,3 +1,0 @@
--- What callers cite.
-pub mod CodeLaws
-pub mod Rows

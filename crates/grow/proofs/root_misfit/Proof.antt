@@ -1,9 +1,0 @@
--- Each arm is its own case of the definition.
-use Rattle.grow.specs.Grow.{rootMisfit}
-use Rattle.spans.proofs.Tests.{tests}
-use Rattle.grow.proofs.root_misfit.Statement.{statement}
-use Rattle.grow.proofs.root_misfit.Tie as tie
-
-pub root-misfit-spec : {M : Type 1} → statement M
-unfolding rootMisfit
-root-misfit-spec = tie.close (tie.spec (λ c. search tests) (λ c. search tests))

@@ -1,0 +1,6 @@
+pub mod Outcome
+pub mod Kept
+pub mod Told
+pub mod Checked
+pub mod Reply
+pub mod Block

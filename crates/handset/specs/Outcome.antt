@@ -1,0 +1,14 @@
+-- What a call of the library returns, as one number: 0 where it was done, a status pair as SF1 * 256 + SF2, a refusal as its
+-- number * 65536. Whatever else it answers stands behind a reference, which a refusal leaves as it was.
+use Prim.Native.Nat.{ℕ, _*_}
+use Rattle.answers.specs.declared.refusal.Refusal.{Refusal}
+use Rattle.answers.specs.Refusal.{refusalNumber}
+use Rattle.answers.specs.declared.refusal.Answer.{Answer}
+use Rattle.answers.specs.declared.refusal.Answer.the-variants.{Done, Refused}
+
+abbrev pub refusedAs : Refusal → ℕ
+refusedAs r = 65536 * refusalNumber r
+
+abbrev pub answerAs : Answer → ℕ
+answerAs Done = 0
+answerAs (Refused r) = refusedAs r

@@ -1,0 +1,87 @@
+// Stored blocks of a card in the caller's bytes, one by one: calls for programs in C and Rust.
+use crate::outcome;
+use answers::refusal::Answer;
+use answers::refusal::Refusal;
+use byte_parts::spans;
+use handset_bytes::decoding;
+use request_check::table;
+ghost use mathlib.Core.Path.{_≡_};
+ghost use lib.ListN.{length};
+ghost use Rattle.request_block.specs.Block.{blockJudged};
+ghost use Rattle.handset_bytes.specs.Card.{decodedOf};
+ghost use Rattle.handset.specs.Outcome.{answerAs};
+ghost use Rattle.handset.specs.Block.{unfitAfter, setAnswer, setAfter, placeAfter};
+
+// How a call ended.
+fn answered(answer: Answer) -> u32
+    ensures { λ r. ⌜ r ≡ answerAs answer ⌝ }
+{
+    match answer {
+        Answer::Done => 0,
+        Answer::Refused(refusal) => outcome::refused(refusal),
+    }
+}
+
+// How a call ended to which a block of another length than sixteen was lent: its own refusals come first.
+fn unfit(answer: Answer) -> u32
+    ensures { λ r. ⌜ r ≡ answerAs (unfitAfter answer) ⌝ }
+{
+    match answer {
+        Answer::Done => outcome::refused(Refusal::MalformedImage),
+        Answer::Refused(refusal) => outcome::refused(refusal),
+    }
+}
+
+// Sixteen bytes as an array.
+fn sixteen(block: &[u8]) -> [u8; 16]
+    requires { ⌜ length (now block) ≡ 16 ⌝ }
+    ensures { λ r. ⌜ r ≡ now (block .entry) ⌝ }
+{
+    let mut own = [0u8; 16];
+    spans::copy(&mut own, 0, block, 0, 16);
+    own
+}
+
+// Sets a stored block to sixteen bytes.
+#[no_mangle]
+pub extern "C" fn uluvoli_set_block(
+    card: &[u8],
+    arena: &mut [u8],
+    code: u16,
+    number: u32,
+    block: &[u8],
+) -> u32
+    ensures { λ r. ⌜ r ≡ answerAs (setAnswer (decodedOf (now (card .entry))) (length (now (arena .entry))) code number (now (block .entry))) ⌝ }
+    ensures { λ _. ⌜ now (arena .exit) ≡ setAfter (decodedOf (now (card .entry))) (now (arena .entry)) code number (now (block .entry)) ⌝ }
+{
+    let own = decoding::decode(card);
+    if block.len() != 16 {
+        return unfit(request_block::judge_block(own, arena.len(), code, number));
+    }
+    let bytes = sixteen(block);
+    answered(request_block::set_block(own, arena, code, number, bytes))
+}
+
+// Where a stored block lies in the arena.
+#[no_mangle]
+pub extern "C" fn uluvoli_stored_block(
+    card: &[u8],
+    arena: &[u8],
+    code: u16,
+    number: u32,
+    offset: &mut usize,
+) -> u32
+    ensures { λ r. ⌜ r ≡ answerAs (blockJudged (decodedOf (now (card .entry))) (length (now (arena .entry))) code number) ⌝ }
+    ensures { λ _. ⌜ now (offset .exit) ≡ placeAfter (now (offset .entry)) (decodedOf (now (card .entry))) (length (now (arena .entry))) code number ⌝ }
+{
+    let own = decoding::decode(card);
+    match request_block::judge_block(own, arena.len(), code, number) {
+        Answer::Refused(refusal) => outcome::refused(refusal),
+        Answer::Done => {
+            let nodes = own.nodes;
+            let found = table::row_of(nodes, own.count, code);
+            *offset = 16 * (found.start as usize + number as usize);
+            0
+        }
+    }
+}

@@ -1,0 +1,91 @@
+// Building a card in the caller's bytes: calls for programs in C and Rust.
+use crate::outcome;
+use answers::refusal::Answer;
+use answers::refusal::Refusal;
+use card_build::card::Added;
+use card_build::card::Card;
+use handset_bytes::decoding;
+use handset_bytes::encoding;
+use handset_bytes::layout;
+ghost use mathlib.Core.Path.{_≡_};
+ghost use mathlib.Core.Bool.{cond};
+ghost use lib.Dec.{eqb};
+ghost use lib.ListN.{length};
+ghost use Rattle.answers.specs.declared.refusal.Refusal.the-variants.{NotBuilt};
+ghost use Rattle.card_build.specs.Card.{newCard};
+ghost use Rattle.card_build.specs.Build.{areaAdded, serviceAdded, arenaAdded, limitAdded};
+ghost use Rattle.handset_bytes.specs.Card.{cardSize, cardPut, decodedOf};
+ghost use Rattle.handset.specs.Outcome.{refusedAs, answerAs};
+ghost use Rattle.handset.specs.Kept.{cardAfter};
+
+// Writes a card with nothing but its root. Bytes of another length than a card's are refusal 8.
+#[no_mangle]
+pub extern "C" fn uluvoli_new(card: &mut [u8], system: u16, version: u16) -> u32
+    ensures { λ r. ⌜ r ≡ cond (eqb (length (now (card .entry))) cardSize) 0 (refusedAs NotBuilt) ⌝ }
+    ensures { λ _. ⌜ now (card .exit) ≡ cardPut (newCard system version) (now (card .entry)) ⌝ }
+{
+    if card.len() != layout::SIZE {
+        return outcome::refused(Refusal::NotBuilt);
+    }
+    encoding::encode(Card::new(system, version), card);
+    0
+}
+
+// An addition: the card's bytes are written anew where it was accepted.
+fn kept(added: Added, card: &mut [u8]) -> u32
+    ensures { λ r. ⌜ r ≡ answerAs (added .answer) ⌝ }
+    ensures { λ _. ⌜ now (card .exit) ≡ cardAfter (now (card .entry)) added ⌝ }
+{
+    let answer = added.answer;
+    match answer {
+        Answer::Refused(refusal) => outcome::refused(refusal),
+        Answer::Done => {
+            encoding::encode(added.card, card);
+            0
+        }
+    }
+}
+
+// Adds an area.
+#[no_mangle]
+pub extern "C" fn uluvoli_add_area(
+    card: &mut [u8],
+    depth: u32,
+    code: u16,
+    end: u16,
+    version: u16,
+) -> u32
+    ensures { λ r. ⌜ r ≡ answerAs (areaAdded (decodedOf (now (card .entry))) depth code end version .answer) ⌝ }
+    ensures { λ _. ⌜ now (card .exit) ≡ cardAfter (now (card .entry)) (areaAdded (decodedOf (now (card .entry))) depth code end version) ⌝ }
+{
+    let own = decoding::decode(card);
+    kept(own.add_area(depth, code, end, version), card)
+}
+
+// Adds a service. The first of its number makes a zeroed store in the arena.
+#[no_mangle]
+pub extern "C" fn uluvoli_add_service(
+    card: &mut [u8],
+    arena: &mut [u8],
+    depth: u32,
+    code: u16,
+    blocks: u32,
+    version: u16,
+) -> u32
+    ensures { λ r. ⌜ r ≡ answerAs (serviceAdded (decodedOf (now (card .entry))) (length (now (arena .entry))) depth code blocks version .answer) ⌝ }
+    ensures { λ _. ⌜ now (card .exit) ≡ cardAfter (now (card .entry)) (serviceAdded (decodedOf (now (card .entry))) (length (now (arena .entry))) depth code blocks version) ⌝ }
+    ensures { λ _. ⌜ now (arena .exit) ≡ arenaAdded (decodedOf (now (card .entry))) (serviceAdded (decodedOf (now (card .entry))) (length (now (arena .entry))) depth code blocks version) (now (arena .entry)) ⌝ }
+{
+    let own = decoding::decode(card);
+    kept(own.add_service(arena, depth, code, blocks, version), card)
+}
+
+// Sets the limits of the node added last, which must be a service.
+#[no_mangle]
+pub extern "C" fn uluvoli_set_limit(card: &mut [u8], upper: i32, lower: i32, generation: u8) -> u32
+    ensures { λ r. ⌜ r ≡ answerAs (limitAdded (decodedOf (now (card .entry))) upper lower generation .answer) ⌝ }
+    ensures { λ _. ⌜ now (card .exit) ≡ cardAfter (now (card .entry)) (limitAdded (decodedOf (now (card .entry))) upper lower generation) ⌝ }
+{
+    let own = decoding::decode(card);
+    kept(own.set_limit(upper, lower, generation), card)
+}

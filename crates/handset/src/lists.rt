@@ -1,0 +1,47 @@
+// Whether lists for a card in the caller's bytes are well formed: calls for programs in C and Rust.
+use crate::outcome;
+use card_questions::keys;
+use card_questions::keys::Checked;
+use handset_bytes::decoding;
+ghost use mathlib.Core.Path.{_≡_};
+ghost use Rattle.card_questions.specs.Keys.{areaListAnswer, serviceListAnswer};
+ghost use Rattle.handset_bytes.specs.Card.{decodedOf};
+ghost use Rattle.handset.specs.Checked.{checkedAs, checkedAfter};
+
+// Whether a list is well formed.
+fn checked(answer: Checked, out: &mut bool) -> u32
+    ensures { λ r. ⌜ r ≡ checkedAs answer ⌝ }
+    ensures { λ _. ⌜ now (out .exit) ≡ checkedAfter (now (out .entry)) answer ⌝ }
+{
+    match answer {
+        Checked::Refused(refusal) => outcome::refused(refusal),
+        Checked::WellFormed => {
+            *out = true;
+            0
+        }
+        Checked::Malformed => {
+            *out = false;
+            0
+        }
+    }
+}
+
+// Whether an area list is well formed.
+#[no_mangle]
+pub extern "C" fn uluvoli_area_list(card: &[u8], areas: &[u16], well_formed: &mut bool) -> u32
+    ensures { λ r. ⌜ r ≡ checkedAs (areaListAnswer (decodedOf (now (card .entry))) (now (areas .entry))) ⌝ }
+    ensures { λ _. ⌜ now («well_formed» .exit) ≡ checkedAfter (now («well_formed» .entry)) (areaListAnswer (decodedOf (now (card .entry))) (now (areas .entry))) ⌝ }
+{
+    let own = decoding::decode(card);
+    checked(keys::area_list_well_formed(own, areas), well_formed)
+}
+
+// Whether a service list is well formed.
+#[no_mangle]
+pub extern "C" fn uluvoli_service_list(card: &[u8], services: &[u16], well_formed: &mut bool) -> u32
+    ensures { λ r. ⌜ r ≡ checkedAs (serviceListAnswer (decodedOf (now (card .entry))) (now (services .entry))) ⌝ }
+    ensures { λ _. ⌜ now («well_formed» .exit) ≡ checkedAfter (now («well_formed» .entry)) (serviceListAnswer (decodedOf (now (card .entry))) (now (services .entry))) ⌝ }
+{
+    let own = decoding::decode(card);
+    checked(keys::service_list_well_formed(own, services), well_formed)
+}

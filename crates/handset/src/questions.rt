@@ -1,0 +1,74 @@
+// What can be asked of the tree of a card in the caller's bytes: calls for programs in C and Rust.
+use crate::outcome;
+use answers::refusal::Told;
+use card_questions::keys;
+use card_questions::listing;
+use card_questions::listing::Listing;
+use card_questions::totals;
+use handset_bytes::decoding;
+ghost use mathlib.Core.Path.{_≡_};
+ghost use lib.ListN.{length};
+ghost use Rattle.card_questions.specs.Directory.{directoryAnswer, directoryOut};
+ghost use Rattle.card_questions.specs.Total.{totalAnswer};
+ghost use Rattle.card_questions.specs.Keys.{versionAnswer};
+ghost use Rattle.handset_bytes.specs.Card.{decodedOf};
+ghost use Rattle.handset.specs.Told.{toldAs, toldAfter, listedAs, listedAfter};
+
+// How many nodes a directory lists.
+fn listed(answer: Listing, out: &mut usize) -> u32
+    ensures { λ r. ⌜ r ≡ listedAs answer ⌝ }
+    ensures { λ _. ⌜ now (out .exit) ≡ listedAfter (now (out .entry)) answer ⌝ }
+{
+    match answer {
+        Listing::Refused(refusal) => outcome::refused(refusal),
+        Listing::Listed(many) => {
+            *out = many;
+            0
+        }
+    }
+}
+
+// Writes the directory as pairs of 16-bit numbers, and how many nodes it lists.
+#[no_mangle]
+pub extern "C" fn uluvoli_directory(card: &[u8], out: &mut [u16], nodes: &mut usize) -> u32
+    ensures { λ r. ⌜ r ≡ listedAs (directoryAnswer (decodedOf (now (card .entry))) (length (now (out .entry)))) ⌝ }
+    ensures { λ _. ⌜ now (out .exit) ≡ directoryOut (decodedOf (now (card .entry))) (now (out .entry)) ⌝ }
+    ensures { λ _. ⌜ now (nodes .exit) ≡ listedAfter (now (nodes .entry)) (directoryAnswer (decodedOf (now (card .entry))) (length (now (out .entry)))) ⌝ }
+{
+    let own = decoding::decode(card);
+    listed(listing::directory(own, out), nodes)
+}
+
+// A number of 16 bits, or why there is none.
+fn told(answer: Told, out: &mut u16) -> u32
+    ensures { λ r. ⌜ r ≡ toldAs answer ⌝ }
+    ensures { λ _. ⌜ now (out .exit) ≡ toldAfter (now (out .entry)) answer ⌝ }
+{
+    match answer {
+        Told::Refused(refusal) => outcome::refused(refusal),
+        Told::Number(n) => {
+            *out = n;
+            0
+        }
+    }
+}
+
+// The block total of a node.
+#[no_mangle]
+pub extern "C" fn uluvoli_total(card: &[u8], code: u16, blocks: &mut u16) -> u32
+    ensures { λ r. ⌜ r ≡ toldAs (totalAnswer (decodedOf (now (card .entry))) code) ⌝ }
+    ensures { λ _. ⌜ now (blocks .exit) ≡ toldAfter (now (blocks .entry)) (totalAnswer (decodedOf (now (card .entry))) code) ⌝ }
+{
+    let own = decoding::decode(card);
+    told(totals::block_count_for_node(own, code), blocks)
+}
+
+// The key version of a node.
+#[no_mangle]
+pub extern "C" fn uluvoli_key_version(card: &[u8], code: u16, version: &mut u16) -> u32
+    ensures { λ r. ⌜ r ≡ toldAs (versionAnswer (decodedOf (now (card .entry))) code) ⌝ }
+    ensures { λ _. ⌜ now (version .exit) ≡ toldAfter (now (version .entry)) (versionAnswer (decodedOf (now (card .entry))) code) ⌝ }
+{
+    let own = decoding::decode(card);
+    told(keys::node_key_version(own, code), version)
+}

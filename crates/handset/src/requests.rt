@@ -1,0 +1,66 @@
+// Whole requests to a card in the caller's bytes: calls for programs in C and Rust.
+use crate::outcome;
+use answers::status;
+use handset_bytes::decoding;
+use request_plan::Reply;
+use request_serve::reading;
+use request_serve::writing;
+ghost use mathlib.Core.Path.{_≡_};
+ghost use Prim.Native.Nat.{_*_};
+ghost use lib.ListN.{length};
+ghost use Rattle.request_plan.specs.Request.{readRequest, writeRequest};
+ghost use Rattle.request_plan.specs.Serve.{serve, outputAfter, stagingBy};
+ghost use Rattle.handset_bytes.specs.Card.{decodedOf};
+ghost use Rattle.handset.specs.Reply.{replyAs};
+
+// The reply to a request.
+fn replied(reply: Reply) -> u32
+    ensures { λ r. ⌜ r ≡ replyAs reply ⌝ }
+{
+    match reply {
+        Reply::Refused(refusal) => outcome::refused(refusal),
+        Reply::Done => 0,
+        Reply::ShortData => 0xffac,
+        Reply::Failed { index, fault } => {
+            256 * (status::list_error_index(index) as u32) + fault.status_flag2() as u32
+        }
+    }
+}
+
+// A whole read.
+#[no_mangle]
+pub extern "C" fn uluvoli_read(
+    card: &[u8],
+    arena: &[u8],
+    out: &mut [u8],
+    open: bool,
+    codes: &[u16],
+    count: u32,
+    list: &[u8],
+) -> u32
+    ensures { λ r. ⌜ r ≡ replyAs (serve (decodedOf (now (card .entry))) (now (arena .entry)) (readRequest «open» (now (codes .entry)) count (now (list .entry)) (length (now (out .entry)))) .reply) ⌝ }
+    ensures { λ _. ⌜ now (out .exit) ≡ outputAfter (now (out .entry)) (serve (decodedOf (now (card .entry))) (now (arena .entry)) (readRequest «open» (now (codes .entry)) count (now (list .entry)) (length (now (out .entry))))) ⌝ }
+{
+    let own = decoding::decode(card);
+    replied(reading::read(own, arena, out, open, codes, count, list))
+}
+
+// A whole write.
+#[no_mangle]
+pub extern "C" fn uluvoli_write(
+    card: &[u8],
+    arena: &mut [u8],
+    staging: &mut [u8],
+    open: bool,
+    codes: &[u16],
+    count: u32,
+    list: &[u8],
+    data: &[u8],
+) -> u32
+    ensures { λ r. ⌜ r ≡ replyAs (serve (decodedOf (now (card .entry))) (now (arena .entry)) (writeRequest «open» (now (codes .entry)) count (now (list .entry)) (now («data» .entry)) (length (now (staging .entry)))) .reply) ⌝ }
+    ensures { λ _. ⌜ now (arena .exit) ≡ serve (decodedOf (now (card .entry))) (now (arena .entry)) (writeRequest «open» (now (codes .entry)) count (now (list .entry)) (now («data» .entry)) (length (now (staging .entry)))) .arena ⌝ }
+    ensures { λ _. ⌜ now (staging .exit) ≡ stagingBy (serve (decodedOf (now (card .entry))) (now (arena .entry)) (writeRequest «open» (now (codes .entry)) count (now (list .entry)) (now («data» .entry)) (length (now (staging .entry)))) .reply) (16 * decodedOf (now (card .entry)) .used) (now (staging .entry)) ⌝ }
+{
+    let own = decoding::decode(card);
+    replied(writing::write(own, arena, staging, open, codes, count, list, data))
+}

@@ -1,0 +1,77 @@
+-- The loop over a card's records: what it knows on its way.
+use mathlib.Core.Path.{_≡_, refl, sym, ap, _∙_}
+use mathlib.Core.Bool.{true, false}
+use mathlib.Core.List.{List, [], _∷_, _++_, append-assoc, append-nil}
+use Prim.Native.Nat.{ℕ, suc, _+_, _-_, _≤_, _<_}
+use native.Mathlib.Numerals.{add-one}
+use native.Mathlib.Omega.{arith}
+use lib.ListN.{length, set, take, drop, length-set}
+use lib.Seq.{drop-drop, take-all, take-suc-set}
+use borrow.Author.Tests.{eq-eqb, ne-eqb}
+use Rattle.card_nodes.specs.declared.node.Node.{Node}
+use Rattle.card_build.specs.declared.card.Card.{Card}
+use Rattle.handset_bytes.specs.Node.{halfAt, nodeIn, isRecord}
+use Rattle.handset_bytes.specs.Card.{nodesIn, areRecords, isCard, noCard, decodedOf}
+use Rattle.handset_bytes.proofs.Long.{at, ownOf, twenty}
+
+-- after i records that were read: what is left decides the rest
+pub record Reading (s : List ℕ) (nodes : List Node) (i : ℕ) : Type 0 where
+  pub most : i ≤ 64
+  pub size : length s ≡ 1288
+  pub long : length nodes ≡ 64
+  pub whole : areRecords 64 (drop 8 s) ≡ areRecords (64 - i) (drop (at i) s)
+  pub same : nodesIn 64 (drop 8 s) ≡ take i nodes ++ nodesIn (64 - i) (drop (at i) s)
+
+-- before the first
+pub begun : (s : List ℕ) (nodes : List Node) → length s ≡ 1288 → length nodes ≡ 64 → Reading s nodes 0
+begun s nodes h k = record { most = omega arith; size = h; long = k; whole = refl; same = refl }
+
+-- bytes of another length
+pub misfit : (s : List ℕ) → (length s ≡ 1288 → ⊥) → decodedOf s ≡ noCard
+unfolding decodedOf isCard
+misfit s h = rw (ne-eqb (length s) 1288 h)
+
+module _ {s : List ℕ} {nodes : List Node} {i : ℕ} (k : Reading s nodes i) where
+  module _ (h : i < 64) where
+    own : take 20 (drop (at i) s) ≡ ownOf s i
+    own = rw (twenty s i)
+
+    -- of the records left it is the first
+    left : 64 - i ≡ suc (64 - (i + 1))
+    left = omega arith
+
+    next : drop 20 (drop (at i) s) ≡ drop (at (i + 1)) s
+    next = let a : at i + 20 ≡ at (i + 1) = omega arith in drop-drop 20 (at i) s ∙ rw a
+
+    -- it is no record
+    pub bad : isRecord (ownOf s i) ≡ false → decodedOf s ≡ noCard
+    unfolding decodedOf isCard areRecords
+    bad r = rw (eq-eqb (length s) 1288 (k .size), k .whole, left, own, r)
+
+    -- it is one, and read
+    pub turn : {n : Node} → isRecord (ownOf s i) ≡ true → n ≡ nodeIn (ownOf s i) → Reading s (set nodes i n) (i + 1)
+    unfolding areRecords nodesIn
+    turn {n = n} r m =
+        let inside : i < length nodes = omega (arith, k .long) in
+        let rest = nodesIn (64 - (i + 1)) (drop (at (i + 1)) s) in
+        let front : take i nodes ++ (n ∷ []) ≡ take (i + 1) (set nodes i n) = rw add-one (sym (take-suc-set nodes i n inside)) in
+        let whole = rw (left, own, r, next) at (k .whole) in
+        let same : nodesIn 64 (drop 8 s) ≡ take i nodes ++ (n ∷ rest) = k .same ∙ rw (left, own, ← m, next) in
+        record {
+          most = omega arith;
+          size = k .size;
+          long = length-set nodes i n ∙ k .long;
+          whole = whole;
+          same = same ∙ (sym (append-assoc (take i nodes) (n ∷ []) rest) ∙ ap (λ (l : List Node). l ++ rest) front);
+        }
+
+  -- all were read
+  pub read-all : {a b c d : ℕ} → 64 ≤ i → a ≡ halfAt s 0 → b ≡ halfAt s 2 → c ≡ halfAt s 4 → d ≡ halfAt s 6 →
+      _≡_ {A = Card} (record { nodes = nodes; count = a; used = b; system = c; version = d }) (decodedOf s)
+  unfolding decodedOf isCard areRecords nodesIn
+  read-all h x y z w =
+      let none : 64 - i ≡ 0 = omega arith in
+      let ok : areRecords 64 (drop 8 s) ≡ true = k .whole ∙ rw none in
+      let same : nodesIn 64 (drop 8 s) ≡ nodes =
+      k .same ∙ rw none (append-nil (take i nodes) ∙ take-all i nodes (omega (arith, k .long))) in
+      rw (eq-eqb (length s) 1288 (k .size), ok, same, x, y, z, w)

@@ -1,0 +1,38 @@
+-- The cards whose numbers their fields hold, and lists of bytes.
+use Prim.Native.Nat.{ℕ, _<_, _^_}
+use mathlib.Core.Path.{_≡_}
+use mathlib.Core.List.{List}
+use lib.ListN.{length, getD}
+use lib.Signed.{mag}
+use Rattle.service_code.specs.declared.limit.Limit.{Limit}
+use Rattle.service_code.specs.declared.limit.Limit.the-variants.{Unlimited, Limited}
+use Rattle.card_nodes.specs.declared.node.Entry.{Entry}
+use Rattle.card_nodes.specs.declared.node.Entry.the-variants.{Area, Service}
+use Rattle.card_nodes.specs.declared.node.Node.{Node}
+use Rattle.card_nodes.specs.Node.{rootNode}
+use Rattle.card_build.specs.declared.card.Card.{Card}
+
+abbrev pub LimitFits : Limit → Type 0
+LimitFits Unlimited = Unit
+LimitFits (Limited upper lower generation) = (mag upper < 2 ^ 31) × (mag lower < 2 ^ 31) × (generation < 2 ^ 8)
+
+abbrev pub EntryFits : Entry → Type 0
+EntryFits (Area end) = end < 2 ^ 16
+EntryFits (Service start blocks limit) = (start < 2 ^ 16) × (blocks < 2 ^ 16) × LimitFits limit
+
+pub record NodeFits (n : Node) : Type 0 where
+  pub depth : n .depth < 2 ^ 8
+  pub code : n .code < 2 ^ 16
+  pub version : n .version < 2 ^ 16
+  pub entry : EntryFits (n .entry)
+
+pub record Fits (c : Card) : Type 0 where
+  pub nodes : (i : ℕ) → NodeFits (getD (c .nodes) i rootNode)
+  pub long : length (c .nodes) ≡ 64
+  pub count : c .count < 2 ^ 16
+  pub used : c .used < 2 ^ 16
+  pub system : c .system < 2 ^ 16
+  pub version : c .version < 2 ^ 16
+
+abbrev pub Bytes : List ℕ → Type 0
+Bytes s = (i : ℕ) → getD s i 0 < 2 ^ 8

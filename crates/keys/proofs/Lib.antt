@@ -1,2 +1,0 @@
-mod Version
-mod Lists

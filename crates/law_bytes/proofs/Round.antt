@@ -1,0 +1,106 @@
+-- A card's bytes: what is written is read back, and what reads as a card is what is written of it.
+use mathlib.Core.Path.{_≡_, refl, ap, _∙_}
+use mathlib.Core.Bool.{true, false, and-eq-true-iff}
+use mathlib.Core.List.{List, [], _∷_, _++_}
+use Prim.Native.Nat.{ℕ, zero, suc, _+_, _-_, _*_}
+use native.Mathlib.Omega.{arith}
+use lib.ListN.{length, getD, take, drop, length-append, length-drop, take-append-drop}
+use lib.Seq.{take-at, drop-at, length-take-le}
+use borrow.Author.Tests.{eq-eqb, eqb-true}
+use Rattle.card_nodes.specs.declared.node.Node.{Node}
+use Rattle.card_nodes.specs.Node.{rootNode}
+use Rattle.card_sound.specs.Sound.{soundOf}
+use Rattle.card_build.specs.declared.card.Card.{Card}
+use Rattle.card_build.specs.Card.{isSound}
+use Rattle.handset_bytes.specs.Node.{halfBytes, halfAt, nodeBytes}
+use Rattle.handset_bytes.specs.Card.{nodesBytes, cardBytes, nodesIn, areRecords, cardIn, isCard, decodedOf}
+use Rattle.handset_bytes.specs.Fits.{NodeFits, Fits, Bytes}
+use Rattle.law_bytes.proofs.Bytes.{bytes-take, bytes-drop}
+use Rattle.handset_bytes.proofs.Long.{node-long}
+use Rattle.law_bytes.proofs.Records.{half-back, node-record, node-back, spread, spread-is, half-says, node-says}
+
+-- records are twenty bytes each
+pub nodes-long : (ns : List Node) → length (nodesBytes ns) ≡ 20 * length ns
+unfolding nodesBytes
+nodes-long [] = refl
+nodes-long (n ∷ ns) = simp length-append (omega (arith, node-long n, nodes-long ns))
+
+module _ (n : Node) (rest : List ℕ) where
+  -- the first of them
+  first-record : take 20 (nodeBytes n ++ rest) ≡ nodeBytes n
+  first-record = take-at (nodeBytes n) rest 20 (node-long n)
+
+  -- those after it
+  later-records : drop 20 (nodeBytes n ++ rest) ≡ rest
+  later-records = drop-at (nodeBytes n) rest 20 (node-long n)
+
+-- what is written of nodes are records
+nodes-record : (ns : List Node) → areRecords (length ns) (nodesBytes ns) ≡ true
+unfolding nodesBytes areRecords
+nodes-record [] = refl
+nodes-record (n ∷ ns) = rw (first-record n (nodesBytes ns), later-records n (nodesBytes ns), node-record n) (nodes-record ns)
+
+-- and they read as those nodes
+nodes-back : (ns : List Node) → ((i : ℕ) → NodeFits (getD ns i rootNode)) → nodesIn (length ns) (nodesBytes ns) ≡ ns
+unfolding nodesBytes nodesIn
+nodes-back [] f = refl
+nodes-back (n ∷ ns) f =
+    rw (first-record n (nodesBytes ns), later-records n (nodesBytes ns), node-back n (f 0))
+    (ap (λ (l : List Node). n ∷ l) (nodes-back ns (λ i. f (suc i))))
+
+-- a card has 1,288 bytes
+pub card-long : (c : Card) → length (c .nodes) ≡ 64 → length (cardBytes c) ≡ 1288
+unfolding cardBytes halfBytes
+card-long c h = omega (arith, nodes-long (c .nodes))
+
+-- what is written of a card is a card's bytes
+pub written-is : (c : Card) → Fits c → isCard (cardBytes c) ≡ true
+unfolding cardBytes halfBytes isCard
+written-is c f =
+    let ok : areRecords 64 (nodesBytes (c .nodes)) ≡ true = rw (f .long) at (nodes-record (c .nodes)) in
+    rw (eq-eqb _ 1288 (card-long c (f .long)), ok)
+
+-- and is read back
+pub read-back : (c : Card) → Fits c → decodedOf (cardBytes c) ≡ c
+unfolding cardBytes halfBytes halfAt decodedOf
+read-back c f =
+    let same : nodesIn 64 (nodesBytes (c .nodes)) ≡ c .nodes = rw (f .long) at (nodes-back (c .nodes) (f .nodes)) in
+    rw (written-is c f)
+    (rw (same, half-back (c .count) (f .count), half-back (c .used) (f .used), half-back (c .system) (f .system), half-back (c .version) (f .version)))
+
+-- records are what is written of the nodes that they read as
+nodes-say : (n : ℕ) (s : List ℕ) → Bytes s → length s ≡ 20 * n → areRecords n s ≡ true → nodesBytes (nodesIn n s) ≡ s
+unfolding nodesBytes nodesIn areRecords
+nodes-say zero [] b h e = refl
+nodes-say zero (x ∷ s) b h e = absurd (omega arith)
+nodes-say (suc n) s b h e =
+    let t = and-eq-true-iff _ _ .0 e in
+    let first = node-says (take 20 s) (bytes-take 20 s b) (length-take-le 20 s (omega arith)) (t .0) in
+    let later = nodes-say n (drop 20 s) (bytes-drop 20 s b) (simp length-drop (omega arith)) (t .1) in
+    rw (first, later) (take-append-drop 20 s)
+
+-- so are the bytes of a card
+pub card-says : (s : List ℕ) → Bytes s → isCard s ≡ true → cardBytes (cardIn s) ≡ s
+unfolding isCard cardBytes
+card-says s b e =
+    let t = and-eq-true-iff _ _ .0 e in
+    let long : length s ≡ 1288 = eqb-true _ _ (t .0) in
+    let head : spread 8 s 0 ≡ take 8 s = spread-is 8 s 0 (omega arith) in
+    let rest = nodes-say 64 (drop 8 s) (bytes-drop 8 s b) (simp length-drop (omega arith)) (t .1) in
+    rw (half-says s 0 b, half-says s 2 b, half-says s 4 b, half-says s 6 b, rest)
+    (ap (λ (l : List ℕ). l ++ drop 8 s) head ∙ take-append-drop 8 s)
+
+-- they are 1,288
+pub valid-long : (s : List ℕ) → isCard s ≡ true → length s ≡ 1288
+unfolding isCard
+valid-long s e = eqb-true _ _ (and-eq-true-iff _ _ .0 e .0)
+
+-- bytes that encode a card are what is written of it
+pub says : (s : List ℕ) → Bytes s → isCard s ≡ true → cardBytes (decodedOf s) ≡ s
+unfolding decodedOf
+says s b e = rw e (card-says s b e)
+
+-- what stands for the card of other bytes is refused with 8
+pub unsound : (s : List ℕ) → isCard s ≡ false → isSound (decodedOf s) ≡ false
+unfolding decodedOf soundOf
+unsound s e = rw e

@@ -1,0 +1,251 @@
+-- The theorems are not empty: a card, an order with writes on both sides and its answers, computed; and an order of requests that
+-- name one number, where the answers differ. Assumes nothing.
+use Prim.Native.Nat.{ℕ, _≤_}
+use native.Mathlib.Omega.{arith}
+use mathlib.Core.Path.{_≡_, refl, subst}
+use mathlib.Core.Logic.{inl, inr}
+use mathlib.Core.Bool.{true, false≢true}
+use mathlib.Core.List.{List, [], _∷_, _++_}
+use lib.ListN.{replicate}
+use Rattle.answers.specs.declared.status.Fault.{Fault}
+use Rattle.answers.specs.declared.status.Fault.the-variants.{BlockNumber, OutsideWord}
+use Rattle.answers.specs.declared.refusal.Refusal.{Refusal}
+use Rattle.answers.specs.declared.refusal.Refusal.the-variants.{ListLength}
+use Rattle.service_code.specs.Code.{numberOf, attributesOf, tableOf, decodedOf, attributeOf, codeKindOf, requiresKey}
+use Rattle.block_list.specs.Element.{unpackAt, endsFrom, endsAfter, elementsFrom}
+use Rattle.byte_parts.specs.Part.{part, put, sameBytes}
+use Rattle.byte_parts.specs.Word.{wordAt, wordBytes, signedOf, wordOf}
+use Rattle.rule_purse.specs.Purse.{valueOf, insideOf, outsideOf, sumOf, storedOf, purseRule}
+use Rattle.rule_cyclic.specs.Cyclic.{cyclicOf}
+use Rattle.rule_purse.specs.Bytes.{purseDataOf, blockOf, purseOf}
+use Rattle.card_nodes.specs.Find.{firstFrom, openAt, parentFrom}
+use Rattle.card_admit.specs.Grow.{parentAt, outside, serviceUnder, sameKind, joinedTo, usable, newStore, placedOf}
+use Rattle.card_sound.specs.Sound.{isRoot, allRoots, stepOf, stepsFrom, stepsOf, soundOf}
+use Rattle.card_build.specs.declared.card.Card.{Card}
+use Rattle.card_build.specs.Card.{newCard}
+use Rattle.card_build.specs.Grow.{addService}
+use Rattle.card_laws.specs.Built.{Built, new, service}
+use Rattle.request_check.specs.Row.{rowOf}
+use Rattle.request_check.specs.Check.{modeAllowed, attributeCheck, rowCheck, elementCheck, checkedFrom}
+use Rattle.request_rules.specs.Lens.{back, within}
+use Rattle.request_rules.specs.Rules.{cashbackIn, elementBy, endBy, onStore}
+use Rattle.request_runs.specs.Runs.{then, push, runsOf, scan, walk}
+use Rattle.request_runs.specs.Staged.{staged}
+use Rattle.request_plan.specs.declared.Reply.the-variants.{Refused, Done, Failed}
+use Rattle.request_plan.specs.Request.{Request, readRequest, writeRequest}
+use Rattle.request_plan.specs.Plan.{lentJudged, judgedWith, planOf}
+use Rattle.request_plan.specs.Serve.{blocksRead, committed, carried, serve, outputAfter}
+use Rattle.law_terminals.specs.Orders.{Sent, by, one, two, only, all, after, answers, told, Undisturbed}
+use Rattle.law_terminals.specs.Two.{Answer, answerOf, arenaAfter, Any, Names, NoneShared}
+use Rattle.law_terminals.specs.Last.{arenaThen, Redrawn}
+use Rattle.law_terminals.proofs.Generic.{All}
+use Rattle.law_terminals.proofs.Two.{two-terminals}
+use Rattle.law_terminals.proofs.Last.{tower-reads}
+
+-- lanes, a random store of two blocks, number 41h
+abbrev lanes : Card
+lanes = addService (newCard 1 0) 80 1 0x1049 2 0 .card
+
+-- with a read-only service that joins it
+abbrev towers : Card
+towers = addService lanes 80 1 0x104b 9 0 .card
+
+-- a purse of one block, number 42h
+abbrev credit : Card
+credit = addService towers 80 1 0x1095 1 0 .card
+
+-- a ring of two, number 43h
+abbrev card : Card
+card = addService credit 80 1 0x10cd 2 0 .card
+
+card-built : Built card
+unfolding addService placedOf parentAt parentFrom openAt firstFrom serviceUnder outside sameKind joinedTo usable newStore numberOf attributesOf tableOf decodedOf attributeOf codeKindOf
+card-built =
+    service {c = credit} 80 1 0x10cd 2 0
+    (service {c = towers} 80 1 0x1095 1 0
+    (service {c = lanes} 80 1 0x104b 9 0
+    (service {c = newCard 1 0} 80 1 0x1049 2 0 (new 1 0) refl) refl) refl) refl
+
+-- 80 bytes: empty lanes, a credit of 100, two blocks of 7
+abbrev arena : List ℕ
+arena = replicate 32 0 ++ (100 ∷ replicate 15 0) ++ replicate 32 7
+
+-- an open read of one element, of two list bytes: block `number` of the code
+abbrev reading : ℕ → ℕ → Request
+reading code number = readRequest true (code ∷ []) 1 (0x80 ∷ number ∷ []) 16
+
+-- the same with one list byte, which is refused
+abbrev cut : ℕ → Request
+cut code = readRequest true (code ∷ []) 1 (0x80 ∷ []) 16
+
+-- an open write of one element
+abbrev writing : ℕ → ℕ → List ℕ → Request
+writing code number block = writeRequest true (code ∷ []) 1 (0x80 ∷ number ∷ []) block 80
+
+-- an amount paid, by an execution id
+abbrev paying : ℕ → ℕ → Request
+paying amount id = writing 0x1095 0 (amount ∷ replicate 11 0 ++ (id ∷ 0 ∷ 0 ∷ 0 ∷ []))
+
+abbrev done : List ℕ → Answer
+done bytes = record { reply = Done; read = bytes }
+
+abbrev fails : Fault → Answer
+fails f = record { reply = Failed 0 f; read = [] }
+
+abbrev refused : Refusal → Answer
+refused x = record { reply = Refused x; read = [] }
+
+-- one writes a lane, reads it through the other service, asks for a lane that is not there, and sends a request cut short;
+-- two pays twice from a credit of 100, the second time too much, writes to its ring, and pays the rest
+abbrev order : List (Sent Request)
+order =
+    by two (paying 60 1)
+    ∷ by one (writing 0x1049 1 (replicate 16 9))
+    ∷ by two (paying 60 2)
+    ∷ by one (reading 0x104b 1)
+    ∷ by two (writing 0x10cd 0 (replicate 16 5))
+    ∷ by one (reading 0x1049 2)
+    ∷ by one (cut 0x104b)
+    ∷ by two (paying 40 3)
+    ∷ []
+
+-- what an order is told at this card
+abbrev toldAll : List (Sent Request) → List (Sent Answer)
+toldAll zs = told (answerOf card) (arenaAfter card) arena zs
+
+-- what a list is told alone
+abbrev toldAlone : List Request → List Answer
+toldAlone rs = answers (answerOf card) (arenaAfter card) arena rs
+
+-- the arena that a list leaves
+abbrev leaves : List Request → List ℕ
+leaves rs = after (answerOf card) (arenaAfter card) arena rs
+
+-- the answers in that order
+abbrev Told : Type 0
+Told =
+    toldAll order
+    ≡ by two (done [])
+    ∷ by one (done [])
+    ∷ by two (fails OutsideWord)
+    ∷ by one (done (replicate 16 9))
+    ∷ by two (done [])
+    ∷ by one (fails BlockNumber)
+    ∷ by one (refused ListLength)
+    ∷ by two (done [])
+    ∷ []
+
+-- the answers of one alone, and of two alone
+abbrev Alone : Type 0
+Alone =
+    (toldAlone (only one order) ≡ done [] ∷ done (replicate 16 9) ∷ fails BlockNumber ∷ refused ListLength ∷ [])
+    × (toldAlone (only two order) ≡ done [] ∷ fails OutsideWord ∷ done [] ∷ done [] ∷ [])
+
+-- the arena after it: the lane written, all credit paid (40 by id 3), the ring turned
+abbrev Ends : Type 0
+Ends =
+    leaves (all order)
+    ≡ replicate 16 0 ++ replicate 16 9 ++ (0 ∷ 0 ∷ 0 ∷ 0 ∷ 40 ∷ replicate 7 0) ++ (3 ∷ 0 ∷ 0 ∷ 0 ∷ []) ++ replicate 16 5 ++ replicate 16 7
+
+-- both pay from the one credit: in turn two is told 01, alone it is told 00
+abbrev both : List (Sent Request)
+both = by one (paying 60 1) ∷ by two (paying 60 2) ∷ []
+
+abbrev Disturbed : Type 0
+Disturbed = (only two (toldAll both) ≡ fails OutsideWord ∷ []) × (toldAlone (only two both) ≡ done [] ∷ [])
+
+-- The marshal writes lane 1 twice in one request, and lane 0 between; the tower reads lane 1 through the read-only service.
+abbrev redraw : Request
+redraw =
+    writeRequest true (0x1049 ∷ []) 3 (0x80 ∷ 1 ∷ 0x80 ∷ 0 ∷ 0x80 ∷ 1 ∷ []) (replicate 16 1 ++ replicate 16 2 ++ replicate 16 3) 80
+
+-- in between: a write to lane 1 by the read-only service fails, one cut short is refused, a payment and a read are accepted
+abbrev between : List Request
+between =
+    writing 0x104b 1 (replicate 16 4)
+    ∷ writeRequest true (0x1049 ∷ []) 1 (0x80 ∷ []) (replicate 16 5) 80
+    ∷ paying 60 1
+    ∷ reading 0x1049 1
+    ∷ []
+
+-- what the tower is told after requests that follow the write
+abbrev towerTold : List Request → Answer
+towerTold rs = answerOf card (arenaThen card arena redraw rs) (reading 0x104b 1)
+
+-- the last bytes written; and if an accepted write follows, those of that one
+abbrev Redraws : Type 0
+Redraws =
+    (towerTold between ≡ done (replicate 16 3))
+    × (towerTold (between ++ (writing 0x1049 1 (replicate 16 4) ∷ [])) ≡ done (replicate 16 4))
+
+-- what holds of the number of each code holds of each number that is named
+module _ (Q : ℕ → Type 0) where
+  of-codes : (codes : List ℕ) → All (λ code. Q (numberOf code)) codes → (k : ℕ) → Any (λ code. numberOf code ≡ k) codes → Q k
+  of-codes [] f k h = absurd h
+  of-codes (code ∷ codes) f k (inl h) = subst Q h (f .0)
+  of-codes (code ∷ codes) f k (inr h) = of-codes codes (f .1) k h
+
+  of-requests : (rs : List Request) → All (λ r. All (λ code. Q (numberOf code)) (r .codes)) rs → (k : ℕ) → Any (Names k) rs → Q k
+  of-requests [] f k h = absurd h
+  of-requests (r ∷ rs) f k (inl h) = of-codes (r .codes) (f .0) k h
+  of-requests (r ∷ rs) f k (inr h) = of-requests rs (f .1) k h
+
+-- the order is one of the theorem: one names 41h only, two 42h and 43h
+order-apart : NoneShared (only one order) (only two order)
+unfolding only numberOf
+order-apart k p q =
+    let x : k ≤ 0x41 =
+    of-requests (λ n. n ≤ 0x41) (only one order)
+    ((omega arith, tt), ((omega arith, tt), ((omega arith, tt), ((omega arith, tt), tt)))) k p in
+    let y : 0x42 ≤ k =
+    of-requests (λ n. 0x42 ≤ n) (only two order)
+    ((omega arith, tt), ((omega arith, tt), ((omega arith, tt), ((omega arith, tt), tt)))) k q in
+    omega arith
+
+order-undisturbed : Undisturbed (answerOf card) (arenaAfter card) arena order
+order-undisturbed = two-terminals card-built arena order order-apart
+
+-- a payment names no lane
+unnamed : Names 0x41 (paying 60 1) → ⊥
+unfolding numberOf
+unnamed (inl h) = omega arith
+unnamed (inr h) = h
+
+-- these are requests of the theorem
+abbrev IsRedrawn : Type 0
+IsRedrawn = Redrawn card 0x41 1 (replicate 16 3) arena redraw between (reading 0x104b 1)
+
+-- all of it, computed by the definitions
+computed : Told × Alone × Ends × Disturbed × Redraws × IsRedrawn
+unfolding addService placedOf parentAt parentFrom openAt firstFrom serviceUnder outside sameKind joinedTo usable newStore numberOf attributesOf tableOf decodedOf attributeOf codeKindOf requiresKey unpackAt endsFrom endsAfter elementsFrom part put sameBytes wordAt wordBytes signedOf wordOf cyclicOf valueOf insideOf outsideOf sumOf storedOf purseRule purseDataOf blockOf purseOf isRoot allRoots stepOf stepsFrom stepsOf soundOf rowOf modeAllowed attributeCheck rowCheck elementCheck checkedFrom then push runsOf scan walk back within cashbackIn elementBy endBy onStore staged lentJudged judgedWith planOf blocksRead committed carried serve only all after answers told
+computed = (
+  refl,
+  (refl, refl),
+  refl,
+  (refl, refl),
+  (refl, refl),
+  record {
+    write = refl;
+    written = refl;
+    brings = record {
+      place = 2;
+      names = record { listed = omega arith; number = refl; block = refl };
+      last = λ j l m. let h = m .listed in omega arith;
+      random = refl;
+      bytes = refl;
+    };
+    quiet = (
+      λ t e n. let z : _≡_ {A = ℕ} 0 1 = cc in omega arith,
+      (λ t e n. let z : _≡_ {A = ℕ} 0 1 = cc in omega arith, (λ t e n. unnamed n, (λ t e n. absurd (false≢true t), tt))),
+    );
+    read = refl;
+    answered = refl;
+  },
+)
+
+-- so by the theorem the tower reads what the last element brought
+tower-told : part (outputAfter (replicate 16 0) (serve card (arenaThen card arena redraw between) (reading 0x104b 1))) 0 16 ≡ replicate 16 3
+unfolding numberOf unpackAt elementsFrom
+tower-told =
+    tower-reads card-built 0x41 1 (replicate 16 3) arena redraw between (reading 0x104b 1) (computed .5) 0
+    (record { listed = omega arith; number = refl; block = refl }) (replicate 16 0) refl

@@ -1,2 +1,0 @@
--- How long a record is, and where it lies.
-pub mod Long

@@ -1,0 +1,28 @@
+-- `replies::put_where` meets its contract: `-` for 00, or else the number. Assumes nothing.
+use borrow.Author.Needs.{needs}
+use native.Mathlib.Omega.{arith}
+use Rattle.line_answer.proofs.Writing.{nowhere, somewhere}
+use Rattle.line_answer.proofs.put_where.Statement.{statement}
+use Rattle.line_answer.proofs.put_where.Tie as tie
+
+returns : tie.Need-returns
+returns c =
+    let p = c .before .before in
+    let e = p .put-mark .ensures in
+    rw (nowhere _ (p .before .before .if1 .taken)) ((e .0, omega arith), e .1)
+
+returns-2 : tie.Need-returns-2
+returns-2 c =
+    let p = c .before .before in
+    rw (somewhere _ (p .before .before .if1 .left)) (p .put-number .ensures)
+
+pub put-where-spec : {M : Type 1} → statement M
+put-where-spec =
+    tie.close
+    (tie.spec
+    (λ c κs. search needs)
+    (λ c. search needs)
+    returns
+    (λ c κs. search needs)
+    (λ c. search needs)
+    returns-2)

@@ -1,0 +1,39 @@
+-- The line that answers a request: five fields, parted by tabs (9) and ended by LF (10).
+use Prim.Native.Nat.{ℕ}
+use mathlib.Core.Bool.{cond}
+use mathlib.Core.List.{List, [], _∷_, _++_}
+use lib.Dec.{eqb}
+use Rattle.answers.specs.Refusal.{refusalNumber}
+use Rattle.text_numbers.specs.Decimal.{decText}
+use Rattle.text_numbers.specs.Hex.{hexText}
+use Rattle.request_plan.specs.declared.Reply.{Reply}
+use Rattle.request_plan.specs.declared.Reply.the-variants.{Refused, Done, ShortData, Failed}
+use Rattle.request_plan.specs.Request.{flag1, flag2}
+
+-- a field and the byte that ends it
+abbrev pub ended : ℕ → List ℕ → List ℕ
+ended end t = t ++ (end ∷ [])
+
+-- five fields as a line
+abbrev pub fiveFields : List ℕ → List ℕ → List ℕ → List ℕ → List ℕ → List ℕ
+fiveFields a b c d e = ended 9 a ++ ended 9 b ++ ended 9 c ++ ended 9 d ++ ended 10 e
+
+-- where: status flag 1 in decimal, or `-` (45) for 00
+unfoldable pub whereText : ℕ → List ℕ
+whereText flag = cond (eqb flag 0) (45 ∷ []) (decText flag)
+
+-- ordinal, status flags in hex, where, data read
+unfoldable pub statusText : ℕ → ℕ → ℕ → List ℕ → List ℕ
+statusText ordinal flag1 flag2 read =
+    fiveFields (decText ordinal) (hexText (flag1 ∷ [])) (hexText (flag2 ∷ [])) (whereText flag1) (hexText read)
+
+-- ordinal, `!` (33), the refusal's number, `-`, `-`
+unfoldable pub refusalText : ℕ → ℕ → List ℕ
+refusalText ordinal number = fiveFields (decText ordinal) (33 ∷ []) (decText number) (45 ∷ []) (45 ∷ [])
+
+-- a refused request is told by its number, any other by its status flags
+abbrev pub answerText : ℕ → Reply → List ℕ → List ℕ
+answerText ordinal (Refused r) read = refusalText ordinal (refusalNumber r)
+answerText ordinal Done read = statusText ordinal (flag1 Done) (flag2 Done) read
+answerText ordinal ShortData read = statusText ordinal (flag1 ShortData) (flag2 ShortData) read
+answerText ordinal (Failed i f) read = statusText ordinal (flag1 (Failed i f)) (flag2 (Failed i f)) read

@@ -1,0 +1,4 @@
+-- What callers cite, and worked lines.
+pub mod Lines
+pub mod Rows
+mod Digits

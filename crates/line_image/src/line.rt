@@ -1,0 +1,222 @@
+// What an image line says.
+use byte_parts::spans;
+use text_numbers::codes::Code;
+use text_numbers::codes::read_hex16;
+use text_numbers::decimals::Number;
+use text_numbers::decimals::Signed;
+use text_numbers::decimals::read_dec;
+use text_numbers::decimals::read_signed;
+use text_numbers::hex::is_hex_field;
+ghost use mathlib.Core.Path.{_≡_};
+ghost use Rattle.text_fields.specs.Field.{split};
+ghost use Rattle.line_image.specs.Line.{codeAt, numberAt, boundAt, hex32, form, cardLine, areaLine, serviceLine, limitLine, blockLine, firstLine, laterLine, imageLine};
+
+// What an image line says, or that it is malformed. A block's bytes stay in the line's last field.
+pub enum Line {
+    Malformed,
+    Card {
+        system: u16,
+        version: u16,
+    },
+    Area {
+        depth: u32,
+        code: u16,
+        end: u16,
+        version: u16,
+    },
+    Service {
+        depth: u32,
+        code: u16,
+        blocks: u32,
+        version: u16,
+    },
+    Limit {
+        upper: i32,
+        lower: i32,
+        generation: u8,
+    },
+    Block {
+        code: u16,
+        number: u32,
+    },
+}
+
+// Field k as a code or a version.
+fn code_at(line: &[u8], k: usize) -> Code
+    ensures { λ r. ⌜ r ≡ codeAt (split 9 (now (line .entry))) k ⌝ }
+{
+    read_hex16(text_fields::field(line, k, b'\t'))
+}
+
+// Field k as a decimal that is at most `most`.
+fn number_at(line: &[u8], k: usize, most: u32) -> Number
+    ensures { λ r. ⌜ r ≡ numberAt (split 9 (now (line .entry))) k most ⌝ }
+{
+    read_dec(text_fields::field(line, k, b'\t'), most)
+}
+
+// Field k as a bound.
+fn bound_at(line: &[u8], k: usize) -> Signed
+    ensures { λ r. ⌜ r ≡ boundAt (split 9 (now (line .entry))) k ⌝ }
+{
+    read_signed(text_fields::field(line, k, b'\t'))
+}
+
+// A line `card`: system, version.
+fn card_line(line: &[u8]) -> Line
+    ensures { λ r. ⌜ r ≡ cardLine (split 9 (now (line .entry))) ⌝ }
+{
+    let Code::Is(system) = code_at(line, 1) else {
+        return Line::Malformed;
+    };
+    let Code::Is(version) = code_at(line, 2) else {
+        return Line::Malformed;
+    };
+    Line::Card { system, version }
+}
+
+// A line `area`: depth, code, end, version.
+fn area_line(line: &[u8]) -> Line
+    ensures { λ r. ⌜ r ≡ areaLine (split 9 (now (line .entry))) ⌝ }
+{
+    let Number::Is(depth) = number_at(line, 1, u32::MAX) else {
+        return Line::Malformed;
+    };
+    let Code::Is(code) = code_at(line, 2) else {
+        return Line::Malformed;
+    };
+    let Code::Is(end) = code_at(line, 3) else {
+        return Line::Malformed;
+    };
+    let Code::Is(version) = code_at(line, 4) else {
+        return Line::Malformed;
+    };
+    Line::Area {
+        depth,
+        code,
+        end,
+        version,
+    }
+}
+
+// A line `svc`: depth, code, blocks, version.
+fn service_line(line: &[u8]) -> Line
+    ensures { λ r. ⌜ r ≡ serviceLine (split 9 (now (line .entry))) ⌝ }
+{
+    let Number::Is(depth) = number_at(line, 1, u32::MAX) else {
+        return Line::Malformed;
+    };
+    let Code::Is(code) = code_at(line, 2) else {
+        return Line::Malformed;
+    };
+    let Number::Is(blocks) = number_at(line, 3, u32::MAX) else {
+        return Line::Malformed;
+    };
+    let Code::Is(version) = code_at(line, 4) else {
+        return Line::Malformed;
+    };
+    Line::Service {
+        depth,
+        code,
+        blocks,
+        version,
+    }
+}
+
+// A line `lim`: upper, lower, generation.
+fn limit_line(line: &[u8]) -> Line
+    ensures { λ r. ⌜ r ≡ limitLine (split 9 (now (line .entry))) ⌝ }
+{
+    let Signed::Is(upper) = bound_at(line, 1) else {
+        return Line::Malformed;
+    };
+    let Signed::Is(lower) = bound_at(line, 2) else {
+        return Line::Malformed;
+    };
+    let Number::Is(generation) = number_at(line, 3, 255) else {
+        return Line::Malformed;
+    };
+    Line::Limit {
+        upper,
+        lower,
+        generation: generation as u8,
+    }
+}
+
+// Whether s is 32 hex digits.
+fn is_hex32(s: &[u8]) -> bool
+    ensures { λ r. ⌜ r ≡ hex32 (now (s .entry)) ⌝ }
+{
+    if s.len() != 32 {
+        return false;
+    }
+    is_hex_field(s)
+}
+
+// A line `blk`: code, number, 32 hex digits.
+fn block_line(line: &[u8]) -> Line
+    ensures { λ r. ⌜ r ≡ blockLine (split 9 (now (line .entry))) ⌝ }
+{
+    let Code::Is(code) = code_at(line, 1) else {
+        return Line::Malformed;
+    };
+    let Number::Is(number) = number_at(line, 2, u32::MAX) else {
+        return Line::Malformed;
+    };
+    if !is_hex32(text_fields::field(line, 3, b'\t')) {
+        return Line::Malformed;
+    }
+    Line::Block { code, number }
+}
+
+// Whether the line's first field is this word, and it has so many fields in all.
+fn is_form(line: &[u8], word: &[u8], count: usize) -> bool
+    ensures { λ r. ⌜ r ≡ form (now (word .entry)) count (split 9 (now (line .entry))) ⌝ }
+{
+    if !spans::same(text_fields::field(line, 0, b'\t'), word) {
+        return false;
+    }
+    text_fields::field_count(line, b'\t') == count
+}
+
+// Line 1, which must be `card`.
+fn first_line(line: &[u8]) -> Line
+    ensures { λ r. ⌜ r ≡ firstLine (split 9 (now (line .entry))) ⌝ }
+{
+    if is_form(line, b"card", 3) {
+        return card_line(line);
+    }
+    Line::Malformed
+}
+
+// Any other line, which must not be `card`.
+fn later_line(line: &[u8]) -> Line
+    ensures { λ r. ⌜ r ≡ laterLine (split 9 (now (line .entry))) ⌝ }
+{
+    if is_form(line, b"area", 5) {
+        return area_line(line);
+    }
+    if is_form(line, b"svc", 5) {
+        return service_line(line);
+    }
+    if is_form(line, b"lim", 4) {
+        return limit_line(line);
+    }
+    if is_form(line, b"blk", 4) {
+        return block_line(line);
+    }
+    Line::Malformed
+}
+
+// What an image line says.
+pub fn read_line(line: &[u8], first: bool) -> Line
+    ensures { λ r. ⌜ r ≡ imageLine first (now (line .entry)) ⌝ }
+{
+    if 32768 < line.len() {
+        return Line::Malformed;
+    }
+    if first {
+        return first_line(line);
+    }
+    later_line(line)
+}

@@ -1,0 +1,9 @@
+-- `asks::is_request` meets its contract. Assumes nothing.
+use borrow.Author.Needs.{needs}
+use Rattle.line_request.specs.Ask.{requestLine}
+use Rattle.line_request.proofs.is_request.Statement.{statement}
+use Rattle.line_request.proofs.is_request.Tie as tie
+
+pub is-request-spec : {M : Type 1} → statement M
+unfolding requestLine
+is-request-spec = tie.close (tie.spec (λ c κs. search needs) (λ c. c .is-either .ensures))

@@ -1,0 +1,114 @@
+// What a request line asks.
+use text_numbers::codes;
+use text_numbers::decimals;
+use text_numbers::decimals::Number;
+use text_numbers::hex;
+ghost use mathlib.Core.Path.{_≡_};
+ghost use Rattle.text_numbers.specs.Hex.{hexField};
+ghost use Rattle.text_numbers.specs.Codes.{codesField};
+ghost use Rattle.line_request.specs.Ask.{fieldIn, isLetter, isEither, requestLine, shaped, isWrite, countIn, askOf};
+
+// What a line asks: a read or a write, open or in a session, and how many elements it has. Codes, list and data stand in the line.
+pub enum Ask {
+    Malformed,
+    Read { open: bool, count: u32 },
+    Write { open: bool, count: u32 },
+}
+
+// Whether field k of a line is one letter.
+fn is_letter(line: &[u8], k: usize, letter: u8) -> bool
+    ensures { λ r. ⌜ r ≡ isLetter letter (fieldIn (now (line .entry)) k) ⌝ }
+{
+    let s = text_fields::field(line, k, b'\t');
+    if s.len() != 1 {
+        return false;
+    }
+    s[0] == letter
+}
+
+// Whether it is one of two letters.
+fn is_either(line: &[u8], k: usize, one: u8, other: u8) -> bool
+    ensures { λ r. ⌜ r ≡ isEither one other (fieldIn (now (line .entry)) k) ⌝ }
+{
+    if is_letter(line, k, one) {
+        return true;
+    }
+    is_letter(line, k, other)
+}
+
+// Whether a line is a request, well formed or not.
+pub fn is_request(line: &[u8]) -> bool
+    ensures { λ r. ⌜ r ≡ requestLine (now (line .entry)) ⌝ }
+{
+    is_either(line, 0, b'R', b'W')
+}
+
+// Whether field k of a line is hex.
+fn has_hex(line: &[u8], k: usize) -> bool
+    ensures { λ r. ⌜ r ≡ hexField (fieldIn (now (line .entry)) k) ⌝ }
+{
+    hex::is_hex_field(text_fields::field(line, k, b'\t'))
+}
+
+// Whether a line has codes where a request has them.
+fn has_codes(line: &[u8]) -> bool
+    ensures { λ r. ⌜ r ≡ codesField (fieldIn (now (line .entry)) 2) ⌝ }
+{
+    codes::is_codes(text_fields::field(line, 2, b'\t'))
+}
+
+// How many elements a line's list has.
+fn count_in(line: &[u8]) -> Number
+    ensures { λ r. ⌜ r ≡ countIn (now (line .entry)) ⌝ }
+{
+    decimals::read_dec(text_fields::field(line, 3, b'\t'), u32::MAX)
+}
+
+// Whether a line has a letter's fields: so many, and kind, codes and list are well formed.
+fn is_shaped(line: &[u8], letter: u8, count: usize) -> bool
+    ensures { λ r. ⌜ r ≡ shaped letter count (now (line .entry)) ⌝ }
+{
+    if !is_letter(line, 0, letter) {
+        return false;
+    }
+    if text_fields::field_count(line, b'\t') != count {
+        return false;
+    }
+    if !is_either(line, 1, b'O', b'S') {
+        return false;
+    }
+    if !has_codes(line) {
+        return false;
+    }
+    has_hex(line, 4)
+}
+
+// Whether a line has the fields of a write.
+fn is_write(line: &[u8]) -> bool
+    ensures { λ r. ⌜ r ≡ isWrite (now (line .entry)) ⌝ }
+{
+    if !is_shaped(line, b'W', 6) {
+        return false;
+    }
+    has_hex(line, 5)
+}
+
+// What a line asks.
+pub fn ask_of(line: &[u8]) -> Ask
+    ensures { λ r. ⌜ r ≡ askOf (now (line .entry)) ⌝ }
+{
+    if 32768 < line.len() {
+        return Ask::Malformed;
+    }
+    let Number::Is(count) = count_in(line) else {
+        return Ask::Malformed;
+    };
+    let open = is_letter(line, 1, b'O');
+    if is_shaped(line, b'R', 5) {
+        return Ask::Read { open, count };
+    }
+    if is_write(line) {
+        return Ask::Write { open, count };
+    }
+    Ask::Malformed
+}

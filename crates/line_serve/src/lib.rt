@@ -1,0 +1,167 @@
+// Request lines, carried out on a card and answered.
+use answers::refusal::Refusal;
+use card_build::card::Card;
+use line_answer::Printed;
+use line_request::Ask;
+use request_plan::Reply;
+use request_serve::reading;
+use request_serve::writing;
+use text_numbers::codes;
+use text_numbers::hex;
+ghost use mathlib.Core.Path.{_≡_};
+ghost use mathlib.Core.Bool.{true};
+ghost use Prim.Native.Nat.{_+_, _≤_};
+ghost use lib.ListN.{length, take};
+ghost use Rattle.byte_parts.specs.Part.{put};
+ghost use Rattle.text_numbers.specs.Hex.{hexField, unhex};
+ghost use Rattle.text_numbers.specs.Codes.{codesField};
+ghost use Rattle.request_plan.specs.Serve.{readLong};
+ghost use Rattle.line_request.specs.declared.Ask.the-variants.{Read, Write};
+ghost use Rattle.line_request.specs.Ask.{fieldIn, askOf};
+ghost use Rattle.line_serve.specs.Line.{codesIn, bytesRead, lineServed, workAfter, bytesAfter};
+ghost use Rattle.line_serve.specs.Answered.{answeredLine};
+
+// Puts the codes of a line to the front of `codes`, as many as it holds, and answers how many.
+fn read_codes(line: &[u8], codes: &mut [u16]) -> usize
+    requires { ⌜ codesField (fieldIn (now line) 2) ≡ true ⌝ }
+    ensures { λ r. ⌜ r ≤ length (now (codes .entry)) ⌝ }
+    ensures { λ r. ⌜ take r (now (codes .exit)) ≡ take (length (now (codes .entry))) (codesIn (now (line .entry))) ⌝ }
+{
+    codes::read_codes(text_fields::field(line, 2, b'\t'), codes)
+}
+
+// Puts the bytes that field k of a line spells into `bytes` from `at` on, and answers the place after them.
+fn put_field(line: &[u8], k: usize, bytes: &mut [u8], at: usize) -> usize
+    requires { ⌜ (hexField (fieldIn (now line) k) ≡ true) × (at + length (unhex (fieldIn (now line) k)) ≤ length (now bytes)) ⌝ }
+    ensures { λ r. ⌜ r ≡ at + length (unhex (fieldIn (now (line .entry)) k)) ⌝ }
+    ensures { λ _. ⌜ now (bytes .exit) ≡ put (now (bytes .entry)) at (length (unhex (fieldIn (now (line .entry)) k))) (unhex (fieldIn (now (line .entry)) k)) ⌝ }
+{
+    hex::put_bytes(text_fields::field(line, k, b'\t'), bytes, at)
+}
+
+// A read that a line asks. Seventeen codes are as good as all: more than sixteen are refused.
+fn read_asked(
+    card: Card,
+    arena: &[u8],
+    work: &mut [u8],
+    bytes: &mut [u8],
+    line: &[u8],
+    open: bool,
+    count: u32,
+) -> Reply
+    requires { ⌜ (askOf (now line) ≡ Read «open» count) × (16384 ≤ length (now bytes)) ⌝ }
+    ensures { λ r. ⌜ r ≡ lineServed card (now (arena .entry)) (length (now (work .entry))) (now (line .entry)) .reply ⌝ }
+    ensures { λ _. ⌜ now (work .exit) ≡ workAfter card (now (arena .entry)) (now (work .entry)) (now (line .entry)) ⌝ }
+    ensures { λ _. ⌜ now (bytes .exit) ≡ bytesAfter (now (bytes .entry)) (now (line .entry)) ⌝ }
+{
+    let mut codes = [0u16; 17];
+    let n = read_codes(line, &mut codes);
+    let end = put_field(line, 4, bytes, 0);
+    reading::read(card, arena, work, open, &codes[0..n], count, &bytes[0..end])
+}
+
+// A write that a line asks.
+fn write_asked(
+    card: Card,
+    arena: &mut [u8],
+    work: &mut [u8],
+    bytes: &mut [u8],
+    line: &[u8],
+    open: bool,
+    count: u32,
+) -> Reply
+    requires { ⌜ (askOf (now line) ≡ Write «open» count) × (16384 ≤ length (now bytes)) ⌝ }
+    ensures { λ r. ⌜ r ≡ lineServed card (now (arena .entry)) (length (now (work .entry))) (now (line .entry)) .reply ⌝ }
+    ensures { λ _. ⌜ now (arena .exit) ≡ lineServed card (now (arena .entry)) (length (now (work .entry))) (now (line .entry)) .arena ⌝ }
+    ensures { λ _. ⌜ now (work .exit) ≡ workAfter card (now (arena .entry)) (now (work .entry)) (now (line .entry)) ⌝ }
+    ensures { λ _. ⌜ now (bytes .exit) ≡ bytesAfter (now (bytes .entry)) (now (line .entry)) ⌝ }
+{
+    let mut codes = [0u16; 17];
+    let n = read_codes(line, &mut codes);
+    let middle = put_field(line, 4, bytes, 0);
+    let last = put_field(line, 5, bytes, middle);
+    writing::write(
+        card,
+        arena,
+        work,
+        open,
+        &codes[0..n],
+        count,
+        &bytes[0..middle],
+        &bytes[middle..last],
+    )
+}
+
+// How many bytes a read has put out.
+fn read_long(reply: Reply, count: u32) -> usize
+    ensures { λ r. ⌜ r ≡ readLong reply count ⌝ }
+{
+    match reply {
+        Reply::Refused(_) => 0,
+        Reply::Done => 16 * (count as usize),
+        Reply::ShortData => 0,
+        Reply::Failed { index: _, fault: _ } => 0,
+    }
+}
+
+// How many bytes what is asked has put out.
+fn bytes_read(ask: Ask, reply: Reply) -> usize
+    ensures { λ r. ⌜ r ≡ bytesRead reply ask ⌝ }
+{
+    match ask {
+        Ask::Malformed => 0,
+        Ask::Read { open: _, count } => read_long(reply, count),
+        Ask::Write { open: _, count: _ } => 0,
+    }
+}
+
+// What a line asks, carried out.
+fn carry_out(
+    card: Card,
+    arena: &mut [u8],
+    work: &mut [u8],
+    bytes: &mut [u8],
+    line: &[u8],
+    ask: Ask,
+) -> Reply
+    requires { ⌜ (ask ≡ askOf (now line)) × (16384 ≤ length (now bytes)) ⌝ }
+    ensures { λ r. ⌜ r ≡ lineServed card (now (arena .entry)) (length (now (work .entry))) (now (line .entry)) .reply ⌝ }
+    ensures { λ _. ⌜ now (arena .exit) ≡ lineServed card (now (arena .entry)) (length (now (work .entry))) (now (line .entry)) .arena ⌝ }
+    ensures { λ _. ⌜ now (work .exit) ≡ workAfter card (now (arena .entry)) (now (work .entry)) (now (line .entry)) ⌝ }
+    ensures { λ _. ⌜ now (bytes .exit) ≡ bytesAfter (now (bytes .entry)) (now (line .entry)) ⌝ }
+{
+    match ask {
+        Ask::Malformed => Reply::Refused(Refusal::MalformedRequest),
+        Ask::Read { open, count } => { read_asked(card, arena, work, bytes, line, open, count) }
+        Ask::Write { open, count } => { write_asked(card, arena, work, bytes, line, open, count) }
+    }
+}
+
+// Carries out a request line and prints its answer line: `work` is the output of a read or the staging of a write, `bytes` takes the
+// bytes of list and data, `out` the answer line.
+pub fn request_line(
+    card: Card,
+    arena: &mut [u8],
+    work: &mut [u8],
+    bytes: &mut [u8],
+    out: &mut [u8],
+    line: &[u8],
+    ordinal: u64,
+) -> Printed
+    ensures { λ r. ⌜ r ≡ answeredLine card (now (arena .entry)) (now (work .entry)) (now (bytes .entry)) (now (out .entry)) (now (line .entry)) ordinal .printed ⌝ }
+    ensures { λ _. ⌜ now (arena .exit) ≡ answeredLine card (now (arena .entry)) (now (work .entry)) (now (bytes .entry)) (now (out .entry)) (now (line .entry)) ordinal .arena ⌝ }
+    ensures { λ _. ⌜ now (work .exit) ≡ answeredLine card (now (arena .entry)) (now (work .entry)) (now (bytes .entry)) (now (out .entry)) (now (line .entry)) ordinal .work ⌝ }
+    ensures { λ _. ⌜ now (bytes .exit) ≡ answeredLine card (now (arena .entry)) (now (work .entry)) (now (bytes .entry)) (now (out .entry)) (now (line .entry)) ordinal .bytes ⌝ }
+    ensures { λ _. ⌜ now (out .exit) ≡ answeredLine card (now (arena .entry)) (now (work .entry)) (now (bytes .entry)) (now (out .entry)) (now (line .entry)) ordinal .out ⌝ }
+{
+    if bytes.len() < 16384 {
+        return Printed::NoRoom;
+    }
+    if out.len() < 16448 {
+        return Printed::NoRoom;
+    }
+    let ask = line_request::ask_of(line);
+    let reply = carry_out(card, arena, work, bytes, line, ask);
+    let n = bytes_read(ask, reply);
+    Printed::Bytes(line_answer::put_answer(ordinal, reply, &work[0..n], out))
+}

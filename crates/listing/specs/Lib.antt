@@ -1,2 +1,0 @@
-pub mod Directory
-pub mod Worded

@@ -1,2 +1,0 @@
-// Block lists: their elements, packed one after the other, as `types.rs` of the Rust has them.
-pub mod element;

@@ -1,0 +1,15 @@
+-- `phases::start` meets its contract. Assumes nothing.
+use mathlib.Core.Path.{ap}
+use borrow.Author.Needs.{needs}
+use Rattle.card_build.specs.declared.card.Card.{Card}
+use Rattle.replay_state.specs.declared.Phase.the-variants.{First}
+use Rattle.replay_state.specs.declared.Replay.{Replay}
+use Rattle.replay_state.proofs.start.Statement.{statement}
+use Rattle.replay_state.proofs.start.Tie as tie
+
+-- a replay at its start, on a card
+abbrev startOn : Card → Replay
+startOn card = record { card = card; phase = First; lines = 0; asked = 0 }
+
+pub start-spec : {M : Type 1} → statement M
+start-spec = tie.close (tie.spec (λ c κs. search needs) (λ c. ap startOn (c .new .ensures)))

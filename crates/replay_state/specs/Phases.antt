@@ -1,0 +1,48 @@
+-- Where a replay is between two lines, how it starts, counts and ends.
+use Prim.Native.Nat.{ℕ, _+_}
+use mathlib.Core.Bool.{cond}
+use mathlib.Core.List.{List, [], _∷_, _++_}
+use lib.Dec.{ltb, leb}
+use lib.ListN.{length}
+use Rattle.byte_parts.specs.Part.{put}
+use Rattle.answers.specs.declared.refusal.Refusal.{Refusal}
+use Rattle.answers.specs.declared.refusal.Refusal.the-variants.{MalformedImage}
+use Rattle.answers.specs.Refusal.{refusalNumber}
+use Rattle.text_numbers.specs.Decimal.{decText}
+use Rattle.card_build.specs.Card.{newCard}
+use Rattle.line_answer.specs.Answer.{ended}
+use Rattle.line_answer.specs.declared.Printed.{Printed}
+use Rattle.line_answer.specs.declared.Printed.the-variants.{Bytes, NoRoom}
+use Rattle.replay_state.specs.declared.Phase.{Phase}
+use Rattle.replay_state.specs.declared.Phase.the-variants.{First, Image, Requests, Ended}
+use Rattle.replay_state.specs.declared.Replay.{Replay}
+
+-- ahead of line 1 there is no card yet; an empty one stands in its place
+abbrev pub startOf : Replay
+startOf = record { card = newCard 0 0; phase = First; lines = 0; asked = 0 }
+
+-- line numbers and ordinals count from 1, as far as 64 bits hold
+unfoldable pub oneMore : ℕ → ℕ
+oneMore n = cond (ltb n 18446744073709551615) (n + 1) n
+
+-- `image` (105 109 97 103 101), line number, refusal number
+unfoldable pub refusalText : ℕ → Refusal → List ℕ
+refusalText line refusal =
+    ended 9 (105 ∷ 109 ∷ 97 ∷ 103 ∷ 101 ∷ []) ++ ended 9 (decText line) ++ ended 10 (decText (refusalNumber refusal))
+
+-- a text in front of a buffer
+abbrev pub printedIn : List ℕ → List ℕ → List ℕ
+printedIn out t = put out 0 (length t) t
+
+-- the end of a text: empty input is refused at line 1
+abbrev pub finishText : Phase → List ℕ
+finishText First = refusalText 1 MalformedImage
+finishText Image = []
+finishText Requests = []
+finishText Ended = []
+
+unfoldable pub finished : Replay → List ℕ → Printed
+finished p out = cond (leb 16448 (length out)) (Bytes (length (finishText (p .phase)))) NoRoom
+
+unfoldable pub finishOut : Replay → List ℕ → List ℕ
+finishOut p out = cond (leb 16448 (length out)) (printedIn out (finishText (p .phase))) out

@@ -1,0 +1,102 @@
+-- What `blockJudged` is in each of its cases, and where a block lies.
+use mathlib.Core.Path.{_≡_, _∙_}
+use mathlib.Core.Bool.{true, false}
+use mathlib.Core.List.{List, []}
+use Prim.Native.Nat.{ℕ, _+_, _-_, _*_, _/_, _≤_, _<_}
+use native.Mathlib.Omega.{arith}
+use lib.Dec.{ltb}
+use lib.ListN.{length, take, drop}
+use borrow.Author.Tests.{lt-ltb, le-ltb, ltb-true, ltb-false}
+use Rattle.answers.specs.declared.refusal.Refusal.{Refusal}
+use Rattle.answers.specs.declared.refusal.Refusal.the-variants.{ShortArena, NoSuchBlock, NotBuilt}
+use Rattle.byte_parts.specs.Part.{part, put}
+use Rattle.answers.specs.declared.refusal.Answer.{Answer}
+use Rattle.answers.specs.declared.refusal.Answer.the-variants.{Done, Refused}
+use Rattle.card_build.specs.declared.card.Card.{Card}
+use Rattle.card_build.specs.Card.{nodesOf, isSound}
+use Rattle.request_check.specs.declared.table.Row.{Row}
+use Rattle.request_check.specs.Row.{rowOf}
+use Rattle.request_block.specs.Block.{blockPlace, hasBlock, blockJudged, storedBlock, arenaSet}
+use Rattle.request_plan.proofs.Tests.{held, unheld}
+use Rattle.request_plan.proofs.Ready.{row-within, sound-laid}
+
+module _ (c : Card) (long code number : ℕ) where
+  -- a card that was not built
+  pub not-built : isSound c ≡ false → Refused NotBuilt ≡ blockJudged c long code number
+  unfolding blockJudged
+  not-built s = rw s
+
+  module _ (s : isSound c ≡ true) where
+    -- too short an arena
+    pub short-arena : long / 16 < c .used → Refused ShortArena ≡ blockJudged c long code number
+    unfolding blockJudged
+    short-arena h = rw (s, lt-ltb long (16 * c .used) (omega arith))
+
+    module _ {w : Row} (a : c .used ≤ long / 16) (r : w ≡ rowOf (nodesOf c) code) where
+      -- a block that is there
+      pub there : number < w .blocks → Done ≡ blockJudged c long code number
+      unfolding blockJudged
+      there h = rw (s, le-ltb long (16 * c .used) (omega arith), ← r, lt-ltb number (w .blocks) h)
+
+      -- one that is not
+      pub not-there : w .blocks ≤ number → Refused NoSuchBlock ≡ blockJudged c long code number
+      unfolding blockJudged
+      not-there h = rw (s, le-ltb long (16 * c .used) (omega arith), ← r, le-ltb number (w .blocks) h)
+
+-- a refusal is not done
+not-done : {r : Refusal} → Refused r ≡ Done → ⊥
+not-done e = let z : _≡_ {A = ℕ} 0 1 = cc in omega arith
+
+-- a block that is there lies in the arena
+pub block-inside : (c : Card) (long code number : ℕ) → length (c .nodes) ≡ 64 → blockJudged c long code number ≡ Done →
+    blockPlace (rowOf (nodesOf c) code) number + 16 ≤ long
+unfolding blockJudged
+block-inside c long code number h e =
+    let s = held (not-done {r = NotBuilt}) (isSound c) _ e in
+    let a = unheld (not-done {r = ShortArena}) (ltb long (16 * c .used)) _ (s .1) in
+    let b = held (not-done {r = NoSuchBlock}) (hasBlock (rowOf (nodesOf c) code) number) Done (a .1) in
+    let n = ltb-true number (rowOf (nodesOf c) code .blocks) (b .0) in
+    let l = ltb-false long (16 * c .used) (a .0) in
+    let w = row-within (sound-laid c h (s .0)) code in
+    omega arith
+
+module _ (c : Card) (a : List ℕ) (code number : ℕ) where
+  -- none
+  pub stored-none : {r : Refusal} → blockJudged c (length a) code number ≡ Refused r → storedBlock c a code number ≡ []
+  unfolding storedBlock
+  stored-none e = rw e
+
+  -- sixteen bytes
+  pub stored-there : blockJudged c (length a) code number ≡ Done →
+      storedBlock c a code number ≡ part a (blockPlace (rowOf (nodesOf c) code) number) 16
+  unfolding storedBlock
+  stored-there e = rw e
+
+  -- no change
+  pub set-none : (block : List ℕ) {r : Refusal} → blockJudged c (length a) code number ≡ Refused r → arenaSet c a code number block ≡ a
+  unfolding arenaSet
+  set-none block e = rw e
+
+  -- one block replaced
+  pub set-there : (block : List ℕ) → blockJudged c (length a) code number ≡ Done →
+      arenaSet c a code number block ≡ put a (blockPlace (rowOf (nodesOf c) code) number) 16 block
+  unfolding arenaSet
+  set-there block e = rw e
+
+module _ (c : Card) (a : List ℕ) (code number : ℕ) {w : Row} (r : w ≡ rowOf (nodesOf c) code)
+    (e : blockJudged c (length a) code number ≡ Done) where
+  -- the place that is found lies in the arena
+  pub place-inside : length (c .nodes) ≡ 64 → 16 * (w .start + number) + 16 ≤ length a
+  place-inside h = rw r (block-inside c (length a) code number h e)
+
+  -- the part that is lent is the block
+  pub lent-block : take (16 * (w .start + number) + 16 - 16 * (w .start + number)) (drop (16 * (w .start + number)) a)
+      ≡ storedBlock c a code number
+  unfolding part
+  lent-block =
+      let k : 16 * (w .start + number) + 16 - 16 * (w .start + number) ≡ 16 = omega arith in
+      rw (k, stored-there c a code number e, r)
+
+  -- the arena with the block put
+  pub block-put : (block : List ℕ) {new : List ℕ} → new ≡ put a (16 * (w .start + number)) 16 block → new ≡ arenaSet c a code number block
+  block-put block k = k ∙ rw (set-there c a code number block e, r)

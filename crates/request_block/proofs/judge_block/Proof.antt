@@ -1,0 +1,26 @@
+-- Each test of the definition, in its order.
+use mathlib.Core.Path.{_≡_, sym, _∙_}
+use mathlib.Core.Bool.{true}
+use native.Mathlib.Omega.{arith}
+use borrow.Author.Needs.{needs}
+use borrow.Author.Tests.{not-true, not-false}
+use Rattle.card_build.specs.Card.{isSound}
+use Rattle.request_block.proofs.Blocks.{not-built, short-arena, there, not-there}
+use Rattle.request_block.proofs.judge_block.Statement.{statement}
+use Rattle.request_block.proofs.judge_block.Tie as tie
+
+-- the card is sound
+sound : (c : tie.Else1) → isSound (c .before .before .args .card) ≡ true
+sound c = sym (c .before .is-sound .ensures) ∙ not-false _ (c .if1 .left)
+
+pub judge-block-spec : {M : Type 1} → statement M
+judge-block-spec =
+    tie.close
+    (tie.spec
+    (λ c κs. search needs)
+    (λ c. not-built _ _ _ _ (sym (c .before .is-sound .ensures) ∙ not-true _ (c .if1 .taken)))
+    (λ c. short-arena _ _ _ _ (sound (c .before .before)) (omega arith))
+    (λ c κs. search needs)
+    (λ c. search needs)
+    (λ c. there _ _ _ _ (sound (c .before .before .before .before .before .before)) (omega arith) (c .before .before .row-of .ensures) (omega arith))
+    (λ c. not-there _ _ _ _ (sound (c .before .before .before .before .before .before)) (omega arith) (c .before .before .row-of .ensures) (omega arith)))

@@ -1,0 +1,46 @@
+-- One stored block: as the caller's own arena bytes, and set.
+use Prim.Native.Nat.{ℕ, _+_, _*_}
+use mathlib.Core.List.{List, []}
+use mathlib.Core.Bool.{Bool, true, false, cond, _&&_}
+use lib.Dec.{ltb}
+use lib.ListN.{length}
+use Rattle.answers.specs.declared.refusal.Refusal.the-variants.{ShortArena, NoSuchBlock, NotBuilt}
+use Rattle.byte_parts.specs.Part.{part, put}
+use Rattle.answers.specs.declared.refusal.Answer.{Answer}
+use Rattle.answers.specs.declared.refusal.Answer.the-variants.{Done, Refused}
+use Rattle.card_build.specs.declared.card.Card.{Card}
+use Rattle.card_build.specs.Card.{nodesOf, isSound}
+use Rattle.request_check.specs.declared.table.Row.{Row}
+use Rattle.request_check.specs.Row.{rowOf}
+
+-- where a row's block lies in the arena
+abbrev pub blockPlace : Row → ℕ → ℕ
+blockPlace w number = 16 * (w .start + number)
+
+-- a row has no block of a number not below its count; an unknown service has none
+abbrev pub hasBlock : Row → ℕ → Bool
+hasBlock w number = ltb number (w .blocks)
+
+-- 8, 7, 23
+unfoldable pub blockJudged : Card → ℕ → ℕ → ℕ → Answer
+blockJudged c long code number =
+    cond (isSound c)
+    (cond (ltb long (16 * c .used)) (Refused ShortArena)
+    (cond (hasBlock (rowOf (nodesOf c) code) number) Done (Refused NoSuchBlock)))
+    (Refused NotBuilt)
+
+abbrev pub blockBy : Card → List ℕ → ℕ → ℕ → Answer → List ℕ
+blockBy c a code number Done = part a (blockPlace (rowOf (nodesOf c) code) number) 16
+blockBy c a code number (Refused r) = []
+
+-- sixteen bytes of the arena, or none
+unfoldable pub storedBlock : Card → List ℕ → ℕ → ℕ → List ℕ
+storedBlock c a code number = blockBy c a code number (blockJudged c (length a) code number)
+
+abbrev pub setBy : Card → List ℕ → ℕ → ℕ → List ℕ → Answer → List ℕ
+setBy c a code number block Done = put a (blockPlace (rowOf (nodesOf c) code) number) 16 block
+setBy c a code number block (Refused r) = a
+
+-- the arena with one block replaced
+unfoldable pub arenaSet : Card → List ℕ → ℕ → ℕ → List ℕ → List ℕ
+arenaSet c a code number block = setBy c a code number block (blockJudged c (length a) code number)

@@ -1,0 +1,60 @@
+// One stored block: as the caller's own arena bytes, and set.
+use answers::refusal::Answer;
+use answers::refusal::Refusal;
+use byte_parts::spans;
+use card_build::card::Card;
+use request_check::table;
+ghost use mathlib.Core.Path.{_≡_};
+ghost use lib.ListN.{length};
+ghost use Rattle.request_block.specs.Block.{blockJudged, storedBlock, arenaSet};
+
+// Whether a service has a block of a number, in an arena of `long` bytes.
+pub fn judge_block(card: Card, long: usize, code: u16, number: u32) -> Answer
+    ensures { λ r. ⌜ r ≡ blockJudged card long code number ⌝ }
+{
+    if !card.is_sound() {
+        return Answer::Refused(Refusal::NotBuilt);
+    }
+    if long / 16 < card.used {
+        return Answer::Refused(Refusal::ShortArena);
+    }
+    let nodes = card.nodes;
+    let own = table::row_of(nodes, card.count, code);
+    if number < own.blocks as u32 {
+        Answer::Done
+    } else {
+        Answer::Refused(Refusal::NoSuchBlock)
+    }
+}
+
+// The sixteen bytes of a stored block, which are the arena's own, or none.
+pub fn stored_block<'a>(card: Card, arena: &'a [u8], code: u16, number: u32) -> &'a [u8]
+    ensures { λ r. ⌜ now r ≡ storedBlock card (now (arena .entry)) code number ⌝ }
+{
+    match judge_block(card, arena.len(), code, number) {
+        Answer::Refused(_) => &arena[0..0],
+        Answer::Done => {
+            let nodes = card.nodes;
+            let own = table::row_of(nodes, card.count, code);
+            let at = 16 * (own.start as usize + number as usize);
+            &arena[at..at + 16]
+        }
+    }
+}
+
+// Sets a stored block.
+pub fn set_block(card: Card, arena: &mut [u8], code: u16, number: u32, block: [u8; 16]) -> Answer
+    ensures { λ r. ⌜ r ≡ blockJudged card (length (now (arena .entry))) code number ⌝ }
+    ensures { λ _. ⌜ now (arena .exit) ≡ arenaSet card (now (arena .entry)) code number block ⌝ }
+{
+    match judge_block(card, arena.len(), code, number) {
+        Answer::Refused(refusal) => Answer::Refused(refusal),
+        Answer::Done => {
+            let nodes = card.nodes;
+            let own = table::row_of(nodes, card.count, code);
+            let at = 16 * (own.start as usize + number as usize);
+            spans::copy(arena, at, &block, 0, 16);
+            Answer::Done
+        }
+    }
+}

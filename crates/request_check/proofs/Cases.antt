@@ -1,0 +1,79 @@
+-- What `elementCheck` and `rowCheck` are in each of their cases.
+use mathlib.Core.Path.{_≡_, refl}
+use mathlib.Core.Bool.{Bool, true, false, cond, _&&_}
+use mathlib.Core.List.{List}
+use Prim.Native.Nat.{ℕ, _≤_, _<_}
+use native.Mathlib.Omega.{arith}
+use lib.Dec.{leb}
+use lib.ListN.{length, take, getD, length-take}
+use borrow.Author.Tests.{leb-true, leb-false, le-leb, lt-leb, lt-ltb, le-ltb}
+use Rattle.block_list.specs.declared.element.BlockListElement.{BlockListElement}
+use Rattle.service_code.specs.declared.code.Decoded.the-variants.{Defined, Undefined}
+use Rattle.service_code.specs.declared.code.ServiceAttribute.{ServiceAttribute}
+use Rattle.service_code.specs.Code.{requiresKey}
+use Rattle.answers.specs.declared.status.Fault.{Fault}
+use Rattle.answers.specs.declared.status.Fault.the-variants.{ListIndex, AccessMode, Attribute, NoService, KeyNeeded, BlockNumber}
+use Rattle.request_check.specs.declared.table.Row.{Row}
+use Rattle.request_check.specs.declared.check.Check.the-variants.{Passed, Failed}
+use Rattle.request_check.specs.Row.{rowIn}
+use Rattle.request_check.proofs.Rows.{within}
+use Rattle.request_check.specs.Check.{modeAllowed, attributeCheck, rowCheck, namedCheck, elementCheck}
+
+-- what stands at an index below sixteen is checked as the row that the index names, or as none
+pub named : (rows : List Row) (n : ℕ) (write «open» : Bool) (e : BlockListElement) (z : Row) → length rows ≡ 16 → e .index < 16 →
+    namedCheck n (getD rows (e .index) z) write «open» e ≡ elementCheck (take n rows) write «open» e
+unfolding elementCheck
+named rows n write «open» e z l h = by-count (leb n (e .index)) refl
+  where
+    by-count : (b : Bool) → leb n (e .index) ≡ b →
+        cond b (Failed ListIndex) (rowCheck (getD rows (e .index) z) write «open» (e .number) (e .mode))
+        ≡ cond (leb (length (take n rows)) (e .index)) (Failed ListIndex)
+        (rowCheck (rowIn (take n rows) e) write «open» (e .number) (e .mode))
+    by-count true k =
+        let c : length (take n rows) ≤ e .index = simp length-take (omega (arith, leb-true n (e .index) k)) in
+        rw (le-leb (length (take n rows)) (e .index) c)
+    by-count false k =
+        let below = leb-false n (e .index) k in
+        let c : e .index < length (take n rows) = simp length-take (omega arith) in
+        rw (lt-leb (length (take n rows)) (e .index) c, within rows n (e .index) z below (omega arith))
+
+module _ (w : Row) (write «open» : Bool) (number mode : ℕ) where
+  -- a mode that the request may not use
+  pub no-mode : modeAllowed write mode ≡ false → Failed AccessMode ≡ rowCheck w write «open» number mode
+  unfolding rowCheck
+  no-mode h = rw h
+
+  module _ (m : modeAllowed write mode ≡ true) where
+    -- an undefined attribute
+    pub no-attribute : w .attribute ≡ Undefined → Failed Attribute ≡ rowCheck w write «open» number mode
+    unfolding rowCheck
+    no-attribute h = rw (m, h)
+
+    module _ {a : ServiceAttribute} (d : w .attribute ≡ Defined a) where
+      -- no such service
+      pub no-service : w .found ≡ false → Failed NoService ≡ rowCheck w write «open» number mode
+      unfolding rowCheck
+      no-service h = rw (m, d, h)
+
+      module _ (f : w .found ≡ true) where
+        -- a key is needed
+        pub no-key : («open» && requiresKey (w .code)) ≡ true → Failed KeyNeeded ≡ rowCheck w write «open» number mode
+        unfolding rowCheck
+        no-key h = rw (m, d, f, h)
+
+        module _ (k : («open» && requiresKey (w .code)) ≡ false) where
+          -- a write that the attribute does not allow
+          pub no-write : {g : Fault} → attributeCheck write a mode ≡ Failed g → Failed g ≡ rowCheck w write «open» number mode
+          unfolding rowCheck
+          no-write h = rw (m, d, f, k, h)
+
+          module _ (p : attributeCheck write a mode ≡ Passed) where
+            -- a block that is not there
+            pub no-block : w .blocks ≤ number → Failed BlockNumber ≡ rowCheck w write «open» number mode
+            unfolding rowCheck
+            no-block h = rw (m, d, f, k, p, le-ltb number (w .blocks) h)
+
+            -- one that is
+            pub passed : number < w .blocks → Passed ≡ rowCheck w write «open» number mode
+            unfolding rowCheck
+            passed h = rw (m, d, f, k, p, lt-ltb number (w .blocks) h)

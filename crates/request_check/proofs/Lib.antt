@@ -1,0 +1,5 @@
+pub mod Rows
+-- The laws of the definitions: what the functions' proofs cite, and what callers may.
+mod Cases
+mod Steps
+pub mod Laws

@@ -1,0 +1,41 @@
+-- A request and its reply.
+use Prim.Native.Nat.{ℕ}
+use mathlib.Core.List.{List, []}
+use mathlib.Core.Bool.{Bool, true, false}
+use Rattle.answers.specs.declared.status.Fault.{Fault}
+use Rattle.answers.specs.Status.{sf1Of, sf2Of}
+use Rattle.request_plan.specs.declared.Reply.{Reply}
+use Rattle.request_plan.specs.declared.Reply.the-variants.{Refused, Done, ShortData, Failed}
+
+-- A whole request: a write or a read; open (no service that needs a key) or in a session; its service codes, how many elements its
+-- list has, the list's bytes, the data of a write; and the length of the staging (write) or of the output (read) that is lent.
+pub record Request : Type 0 where
+  pub write : Bool
+  pub «open» : Bool
+  pub codes : List ℕ
+  pub count : ℕ
+  pub list : List ℕ
+  pub «data» : List ℕ
+  pub room : ℕ
+
+abbrev pub readRequest : Bool → List ℕ → ℕ → List ℕ → ℕ → Request
+readRequest «open» codes count list room =
+    record { write = false; «open» = «open»; codes = codes; count = count; list = list; «data» = []; room = room }
+
+abbrev pub writeRequest : Bool → List ℕ → ℕ → List ℕ → List ℕ → ℕ → Request
+writeRequest «open» codes count list «data» room =
+    record { write = true; «open» = «open»; codes = codes; count = count; list = list; «data» = «data»; room = room }
+
+-- status flag 1: 00, FF for short data, or the place of the element that failed
+abbrev pub flag1 : Reply → ℕ
+flag1 (Refused r) = 0
+flag1 Done = 0
+flag1 ShortData = 0xff
+flag1 (Failed i f) = sf1Of i
+
+-- status flag 2: 00, AC for short data, or the fault's
+abbrev pub flag2 : Reply → ℕ
+flag2 (Refused r) = 0
+flag2 Done = 0
+flag2 ShortData = 0xac
+flag2 (Failed i f) = sf2Of f

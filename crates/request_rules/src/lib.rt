@@ -1,0 +1,132 @@
+// What an element, and the end of a run, do to one store; and to that store where it lies in the stage.
+use answers::status::Fault;
+use answers::status::Written;
+use byte_parts::spans;
+use request_check::table::Row;
+use rule_purse::bytes;
+use rule_purse::fields::PurseOperation;
+use service_code::code::Decoded;
+use service_code::code::ServiceAttribute;
+use service_code::limit::Limit;
+ghost use mathlib.Core.Path.{_≡_};
+ghost use Prim.Native.Nat.{_+_, _*_, _≤_};
+ghost use lib.ListN.{length};
+ghost use Rattle.answers.specs.Outcome.{writtenOf, bytesAfter};
+ghost use Rattle.request_rules.specs.Rules.{purseIn, cashbackIn, elementBy, endBy, onStore};
+
+// A block of a purse store.
+fn purse_in(
+    store: &mut [u8],
+    block: &[u8],
+    operation: PurseOperation,
+    limit: Limit,
+    number: u16,
+) -> Written
+    requires { ⌜ (16 * number + 16 ≤ length (now store)) × (16 ≤ length (now block)) ⌝ }
+    ensures { λ r. ⌜ r ≡ writtenOf (purseIn operation limit number (now (block .entry)) (now (store .entry))) ⌝ }
+    ensures { λ r. ⌜ now (store .exit) ≡ bytesAfter (now (store .entry)) (purseIn operation limit number (now (block .entry)) (now (store .entry))) ⌝ }
+{
+    let at = 16 * (number as usize);
+    bytes::apply_purse_write(&mut store[at..at + 16], block, operation, limit)
+}
+
+// What a cashback service does in an access mode.
+fn cashback_in(mode: u8) -> PurseOperation
+    ensures { λ r. ⌜ r ≡ cashbackIn mode ⌝ }
+{
+    if mode == 1 {
+        PurseOperation::Cashback
+    } else {
+        PurseOperation::Decrement
+    }
+}
+
+// One element with its sixteen bytes, by the service's attribute.
+fn element_by(
+    store: &mut [u8],
+    block: &[u8],
+    attribute: ServiceAttribute,
+    limit: Limit,
+    number: u16,
+    mode: u8,
+) -> Written
+    requires { ⌜ (16 * number + 16 ≤ length (now store)) × (16 ≤ length (now block)) ⌝ }
+    ensures { λ r. ⌜ r ≡ writtenOf (elementBy (Decoded.Defined attribute) limit number mode (now (block .entry)) (now (store .entry))) ⌝ }
+    ensures { λ r. ⌜ now (store .exit) ≡ bytesAfter (now (store .entry)) (elementBy (Decoded.Defined attribute) limit number mode (now (block .entry)) (now (store .entry))) ⌝ }
+{
+    match attribute {
+        ServiceAttribute::RandomReadWrite => {
+            spans::copy(store, 16 * (number as usize), block, 0, 16);
+            Written::Done
+        }
+        ServiceAttribute::RandomReadOnly => Written::Failed(Fault::ReadOnly),
+        ServiceAttribute::CyclicReadWrite => {
+            if number == 0 {
+                Written::Done
+            } else {
+                Written::Failed(Fault::CyclicBlock)
+            }
+        }
+        ServiceAttribute::CyclicReadOnly => Written::Failed(Fault::ReadOnly),
+        ServiceAttribute::PurseDirect => {
+            purse_in(store, block, PurseOperation::Direct, limit, number)
+        }
+        ServiceAttribute::PurseCashback => {
+            purse_in(store, block, cashback_in(mode), limit, number)
+        }
+        ServiceAttribute::PurseDecrement => {
+            purse_in(store, block, PurseOperation::Decrement, limit, number)
+        }
+        ServiceAttribute::PurseReadOnly => Written::Failed(Fault::ReadOnly),
+    }
+}
+
+// The same where the store lies in the stage, `block` being the element's sixteen bytes.
+pub fn element_on(stage: &mut [u8], block: &[u8], row: Row, number: u16, mode: u8) -> Written
+    requires { ⌜ (16 * row .start + 16 * row .blocks ≤ length (now stage)) × (16 * number + 16 ≤ 16 * row .blocks) × (16 ≤ length (now block)) ⌝ }
+    ensures { λ r. ⌜ r ≡ writtenOf (onStore row (elementBy (row .attribute) (row .limit) number mode (now (block .entry))) (now (stage .entry))) ⌝ }
+    ensures { λ r. ⌜ now (stage .exit) ≡ bytesAfter (now (stage .entry)) (onStore row (elementBy (row .attribute) (row .limit) number mode (now (block .entry))) (now (stage .entry))) ⌝ }
+{
+    let at = 16 * (row.start as usize);
+    let end = at + 16 * (row.blocks as usize);
+    let decoded = row.attribute;
+    let limit = row.limit;
+    match decoded {
+        Decoded::Defined(attribute) => {
+            element_by(&mut stage[at..end], block, attribute, limit, number, mode)
+        }
+        Decoded::Undefined => Written::Failed(Fault::Attribute),
+    }
+}
+
+// The end of a run on its store, `run` being the bytes of all its elements.
+fn end_by(store: &mut [u8], run: &[u8], attribute: ServiceAttribute) -> Written
+    ensures { λ r. ⌜ r ≡ writtenOf (endBy (Decoded.Defined attribute) (now (run .entry)) (now (store .entry))) ⌝ }
+    ensures { λ r. ⌜ now (store .exit) ≡ bytesAfter (now (store .entry)) (endBy (Decoded.Defined attribute) (now (run .entry)) (now (store .entry))) ⌝ }
+{
+    match attribute {
+        ServiceAttribute::CyclicReadWrite => rule_cyclic::apply_cyclic_write(store, run),
+        ServiceAttribute::RandomReadWrite => Written::Done,
+        ServiceAttribute::RandomReadOnly => Written::Done,
+        ServiceAttribute::CyclicReadOnly => Written::Done,
+        ServiceAttribute::PurseDirect => Written::Done,
+        ServiceAttribute::PurseCashback => Written::Done,
+        ServiceAttribute::PurseDecrement => Written::Done,
+        ServiceAttribute::PurseReadOnly => Written::Done,
+    }
+}
+
+// The same where the store lies in the stage.
+pub fn end_on(stage: &mut [u8], run: &[u8], row: Row) -> Written
+    requires { ⌜ 16 * row .start + 16 * row .blocks ≤ length (now stage) ⌝ }
+    ensures { λ r. ⌜ r ≡ writtenOf (onStore row (endBy (row .attribute) (now (run .entry))) (now (stage .entry))) ⌝ }
+    ensures { λ r. ⌜ now (stage .exit) ≡ bytesAfter (now (stage .entry)) (onStore row (endBy (row .attribute) (now (run .entry))) (now (stage .entry))) ⌝ }
+{
+    let at = 16 * (row.start as usize);
+    let end = at + 16 * (row.blocks as usize);
+    let decoded = row.attribute;
+    match decoded {
+        Decoded::Defined(attribute) => end_by(&mut stage[at..end], run, attribute),
+        Decoded::Undefined => Written::Done,
+    }
+}

@@ -1,0 +1,23 @@
+-- What the runs need of the elements, and what their result says of the stage.
+use Prim.Native.Nat.{ℕ, _+_, _*_, _≤_, _<_}
+use mathlib.Core.List.{List, [], _∷_}
+use Rattle.block_list.specs.declared.element.BlockListElement.{BlockListElement}
+use Rattle.request_check.specs.declared.table.Row.{Row}
+use Rattle.request_check.specs.Row.{rowIn}
+use Rattle.request_runs.specs.declared.run.Applied.{Applied}
+use Rattle.request_runs.specs.declared.run.Applied.the-variants.{Done, Failed}
+use Rattle.request_runs.specs.Runs.{Walked, bad, good}
+
+-- the element's store lies in a stage of `long` bytes, and its block in the store
+pub record Ready (rows : List Row) (long : ℕ) (e : BlockListElement) : Type 0 where
+  pub stored : 16 * rowIn rows e .start + 16 * rowIn rows e .blocks ≤ long
+  pub block : e .number < rowIn rows e .blocks
+
+abbrev pub AllReady : List Row → ℕ → List BlockListElement → Type 0
+AllReady rows long [] = Unit {0}
+AllReady rows long (e ∷ es) = Ready rows long e × AllReady rows long es
+
+-- a failure says nothing of the stage
+abbrev pub walkedTo : {S : Type 0} → Applied → S → Walked S
+walkedTo Done s = good s
+walkedTo (Failed i f) s = bad i f

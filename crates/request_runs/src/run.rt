@@ -1,0 +1,77 @@
+// The runs of a write: longest stretches of consecutive elements of equal service number.
+use answers::status::Fault;
+use answers::status::Written;
+use block_list::element;
+use block_list::element::Unpacked;
+use request_check::table::Row;
+use request_check::table::Table;
+use service_code::code::ServiceCode;
+ghost use mathlib.Core.Path.{_≡_};
+ghost use Prim.Native.Nat.{_*_, _≤_};
+ghost use lib.ListN.{length, take};
+ghost use Rattle.service_code.specs.Code.{numberOf};
+ghost use Rattle.block_list.specs.Element.{elementsFrom};
+ghost use Rattle.request_runs.specs.Staged.{staged};
+ghost use Rattle.request_runs.specs.Ready.{AllReady, walkedTo};
+
+// How the runs ended: the element that failed is named by its index, from 0.
+pub enum Applied {
+    Done,
+    Failed { index: usize, fault: Fault },
+}
+
+// The service number that a row's code has.
+fn number_of(row: Row) -> u16
+    ensures { λ r. ⌜ r ≡ numberOf (row .code) ⌝ }
+{
+    ServiceCode(row.code).number()
+}
+
+// The runs of the counted elements of a list, on the staged stores. After a failure nothing is said of the stage.
+pub fn apply(stage: &mut [u8], table: Table, list: &[u8], count: usize, data: &[u8]) -> Applied
+    requires { ⌜ (16 * count ≤ length (now «data»)) × AllReady (take (table .count) (table .rows)) (length (now stage)) (elementsFrom (now list) count 0) ⌝ }
+    ensures { λ r. ⌜ staged (take (table .count) (table .rows)) (now («data» .entry)) (elementsFrom (now (list .entry)) count 0) (now (stage .entry)) ≡ walkedTo r (now (stage .exit)) ⌝ }
+{
+    let mut ended = Applied::Done;
+    let mut at = 0;
+    let mut end = 0;
+    'runs: while end < count {
+        let Unpacked::Element { element, next: _ } = element::unpack(list, at) else {
+            break 'runs;
+        };
+        let row = table.rows[element.index as usize];
+        let number = number_of(row);
+        let from = end;
+        'scan: while end < count {
+            let Unpacked::Element { element: f, next } = element::unpack(list, at) else {
+                break 'scan;
+            };
+            let own = table.rows[f.index as usize];
+            if number_of(own) != number {
+                break 'scan;
+            }
+            let block = &data[16 * end..16 * end + 16];
+            if let Written::Failed(fault) = request_rules::element_on(
+                stage,
+                block,
+                own,
+                f.number,
+                f.mode,
+            ) {
+                ended = Applied::Failed { index: end, fault };
+                break 'runs;
+            }
+            at = next;
+            end += 1;
+        }
+        if let Written::Failed(fault) = request_rules::end_on(
+            stage,
+            &data[16 * from..16 * end],
+            row,
+        ) {
+            ended = Applied::Failed { index: from, fault };
+            break 'runs;
+        }
+    }
+    ended
+}

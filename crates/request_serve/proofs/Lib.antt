@@ -1,0 +1,4 @@
+mod Copied
+mod ReadingLaws
+mod Stores
+mod WritingLaws

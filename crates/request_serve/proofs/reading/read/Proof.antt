@@ -1,0 +1,77 @@
+-- By how the request is judged, then by how its elements are checked.
+use mathlib.Core.Path.{_≡_, sym, _∙_}
+use lib.ListN.{length, length-map}
+use denote.Ref.{now}
+use borrow.Author.Needs.{needs}
+use Rattle.request_plan.specs.declared.Judged.the-variants.{Fit}
+use Rattle.request_plan.specs.Request.{readRequest}
+use Rattle.request_plan.specs.Plan.{judgedOf}
+use Rattle.request_plan.proofs.Serves.{refused, short, unread}
+use Rattle.request_serve.proofs.ReadingLaws.{read-failed, read-ready, read-done}
+use Rattle.request_serve.proofs.reading.read.Statement.{statement}
+use Rattle.request_serve.proofs.reading.read.Tie as tie
+
+-- the card has 64 records
+records : (c : tie.Start) → length (c .args .card .nodes) ≡ 64
+records c = simp length-map at (c .good .0 .1 .1 .0 .1 .0 .1)
+
+-- the function's entry, from the judgement
+abbrev start-of : tie.After-judge → tie.Start
+start-of c = c .before .before .before .before .before .before
+
+-- how the request is judged
+judged : (c : tie.After-judge) → let a = start-of c .args in
+    judgedOf (a .card) (length (now (a .arena))) (readRequest (a .«open») (now (a .codes)) (a .count) (now (a .list)) (length (now (a .out)))) ≡ c .judge .result
+judged c = sym (rw (c .before .is-sound .ensures) at (c .judge .ensures))
+
+-- the request fits
+fit : (c : tie.After-enum-told2) → let a = start-of (c .before .before) .args in
+    judgedOf (a .card) (length (now (a .arena))) (readRequest (a .«open») (now (a .codes)) (a .count) (now (a .list)) (length (now (a .out)))) ≡ Fit
+fit c = judged (c .before .before) ∙ c .enum-told2 .given .1
+
+ready : tie.Need-copy-blocks-requires
+ready c κs =
+    let k = c .before .before .before in
+    let f = k .before .before .before in
+    let s = start-of (f .before .before) in
+    let a = s .args in
+    read-ready (a .card) (now (a .arena)) (now (a .out)) _ _ _ _ (fit f) (k .before .table-of .ensures) (k .check-all .ensures) (records s)
+    (c .before .enum-told3 .given .1)
+
+returns : tie.Need-returns
+returns c = unread _ (refused _ _ _ (judged (c .before .before .before) ∙ c .before .refusal .given .1))
+
+returns-2 : tie.Need-returns-2
+returns-2 c = unread _ (short _ _ _ (judged (c .before .before) ∙ c .enum-told .given .1))
+
+returns-3 : tie.Need-returns-3
+returns-3 c =
+    let k = c .before .before .before in
+    read-failed _ _ _ _ _ _ _ (fit (k .before .before .before)) (k .before .table-of .ensures) (k .check-all .ensures) (c .before .index .given .1)
+
+returns-4 : tie.Need-returns-4
+returns-4 c =
+    let b = c .before .before in
+    let t = b .before .before in
+    let k = t .before .before in
+    read-done _ _ _ _ _ _ _ (fit (k .before .before .before)) (k .before .table-of .ensures) (k .check-all .ensures) (t .enum-told3 .given .1) (b .copy-blocks .ensures)
+
+pub read-spec : {M : Type 1} → statement M
+read-spec =
+    tie.close
+    (tie.spec
+    (λ c κs. search needs)
+    (λ c κs. search needs)
+    (λ c. search needs)
+    (λ c. search needs)
+    (λ c. search needs)
+    (λ c κs. search needs)
+    (λ c κs. search needs)
+    (λ c. search needs)
+    (λ c. search needs)
+    ready
+    returns
+    returns-2
+    returns-3
+    (λ c. search needs)
+    returns-4)

@@ -1,0 +1,16 @@
+-- The stores of a request's rows, copied from one list of bytes to another.
+use Prim.Native.Nat.{ℕ, _+_, _*_, _≤_}
+use mathlib.Core.List.{List, [], _∷_}
+use lib.ListN.{drop}
+use Rattle.byte_parts.specs.Part.{put}
+use Rattle.request_check.specs.declared.table.Row.{Row}
+use Rattle.request_check.specs.Row.{rowAtIndex}
+
+-- each row's store lies in a list of so many bytes
+abbrev pub AllIn : List Row → ℕ → Type 0
+AllIn rows long = (i : ℕ) → 16 * rowAtIndex rows i .start + 16 * rowAtIndex rows i .blocks ≤ long
+
+-- each row's store goes to the same place of the other list
+unfoldable pub storesPut : List ℕ → List ℕ → List Row → List ℕ
+storesPut to from [] = to
+storesPut to from (w ∷ rows) = storesPut (put to (16 * w .start) (16 * w .blocks) (drop (16 * w .start) from)) from rows

@@ -1,0 +1,76 @@
+// Reading: all elements are checked, then their blocks copied (`validate_read_block` of the Rust).
+use block_list::element;
+use block_list::element::Unpacked;
+use byte_parts::spans;
+use card_build::card::Card;
+use request_check::check;
+use request_check::check::Checked;
+use request_check::table;
+use request_check::table::Table;
+use request_plan::Judged;
+use request_plan::Lengths;
+use request_plan::Reply;
+ghost use mathlib.Core.Path.{_≡_};
+ghost use Prim.Native.Nat.{_*_, _≤_};
+ghost use lib.ListN.{length, take};
+ghost use Rattle.block_list.specs.Element.{elementsFrom};
+ghost use Rattle.byte_parts.specs.Part.{put};
+ghost use Rattle.request_runs.specs.Ready.{AllReady};
+ghost use Rattle.request_plan.specs.Request.{readRequest};
+ghost use Rattle.request_plan.specs.Serve.{blocksRead, serve, outputAfter};
+
+// Copies the blocks that the elements name to the front of the output.
+fn copy_blocks(out: &mut [u8], arena: &[u8], table: Table, list: &[u8], count: usize)
+    requires { ⌜ (16 * count ≤ length (now out)) × AllReady (take (table .count) (table .rows)) (length (now arena)) (elementsFrom (now list) count 0) ⌝ }
+    ensures { λ _. ⌜ now (out .exit) ≡ put (now (out .entry)) 0 (length (blocksRead (take (table .count) (table .rows)) (now (arena .entry)) (elementsFrom (now (list .entry)) count 0))) (blocksRead (take (table .count) (table .rows)) (now (arena .entry)) (elementsFrom (now (list .entry)) count 0)) ⌝ }
+{
+    let mut at = 0;
+    let mut i = 0;
+    while i < count {
+        let Unpacked::Element { element: e, next } = element::unpack(list, at) else {
+            break;
+        };
+        let own = table.rows[e.index as usize];
+        let from = 16 * (own.start as usize) + 16 * (e.number as usize);
+        spans::copy(out, 16 * i, arena, from, 16);
+        at = next;
+        i += 1;
+    }
+}
+
+// A whole read. The output is written only where the reply is `Done`.
+pub fn read(
+    card: Card,
+    arena: &[u8],
+    out: &mut [u8],
+    open: bool,
+    codes: &[u16],
+    count: u32,
+    list: &[u8],
+) -> Reply
+    ensures { λ r. ⌜ r ≡ serve card (now (arena .entry)) (readRequest «open» (now (codes .entry)) count (now (list .entry)) (length (now (out .entry)))) .reply ⌝ }
+    ensures { λ _. ⌜ now (out .exit) ≡ outputAfter (now (out .entry)) (serve card (now (arena .entry)) (readRequest «open» (now (codes .entry)) count (now (list .entry)) (length (now (out .entry))))) ⌝ }
+{
+    let sound = card.is_sound();
+    let lengths = Lengths {
+        arena: arena.len(),
+        codes: codes.len(),
+        data: 0,
+        room: out.len(),
+    };
+    match request_plan::judge(sound, card.used, false, count, list, lengths) {
+        Judged::Refused(refusal) => Reply::Refused(refusal),
+        Judged::ShortData => Reply::ShortData,
+        Judged::Fit => {
+            let nodes = card.nodes;
+            let table = table::table_of(nodes, card.count, codes);
+            match check::check_all(table, false, open, list, count as usize) {
+                Checked::Failed { index, fault } => Reply::Failed { index, fault },
+                Checked::Passed => {
+                    copy_blocks(out, arena, table, list, count as usize);
+                    Reply::Done
+                }
+            }
+        }
+    }
+}

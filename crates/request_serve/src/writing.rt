@@ -1,0 +1,133 @@
+// Writing: all elements are checked, then the runs work on the stores that the codes name, staged, which are committed
+// only if every run passes.
+use byte_parts::spans;
+use card_build::card::Card;
+use request_check::check;
+use request_check::check::Checked;
+use request_check::table;
+use request_check::table::Table;
+use request_plan::Judged;
+use request_plan::Lengths;
+use request_plan::Reply;
+use request_runs::run;
+use request_runs::run::Applied;
+ghost use mathlib.Core.Path.{_≡_};
+ghost use Prim.Native.Nat.{_*_, _≤_};
+ghost use lib.ListN.{length, take, drop};
+ghost use Rattle.block_list.specs.Element.{elementsFrom};
+ghost use Rattle.request_runs.specs.Staged.{staged};
+ghost use Rattle.request_runs.specs.Ready.{AllReady};
+ghost use Rattle.request_plan.specs.declared.Judged.the-variants.{Fit};
+ghost use Rattle.request_plan.specs.Request.{writeRequest};
+ghost use Rattle.request_plan.specs.Plan.{judgedOf};
+ghost use Rattle.request_plan.specs.Serve.{serve, committed, stagingBy};
+ghost use Rattle.request_serve.specs.Stores.{AllIn, storesPut};
+
+// Copies the stores of the table's rows to where they stand in the other slice.
+fn copy_stores(to: &mut [u8], from: &[u8], table: Table)
+    requires { ⌜ (table .count ≤ 16) × AllIn (take (table .count) (table .rows)) (length (now to)) × AllIn (take (table .count) (table .rows)) (length (now from)) ⌝ }
+    ensures { λ _. ⌜ now (to .exit) ≡ storesPut (now (to .entry)) (now (from .entry)) (take (table .count) (table .rows)) ⌝ }
+{
+    let mut i = 0;
+    while i < table.count {
+        let row = table.rows[i];
+        let at = 16 * (row.start as usize);
+        spans::copy(to, at, from, at, 16 * (row.blocks as usize));
+        i += 1;
+    }
+}
+
+// The runs on the staged stores; the arena takes them over if every run passes.
+fn carry_out(
+    arena: &mut [u8],
+    staging: &mut [u8],
+    size: usize,
+    table: Table,
+    list: &[u8],
+    count: usize,
+    data: &[u8],
+) -> Reply
+    requires { ⌜ (size ≤ length (now arena)) × (size ≤ length (now staging)) × (16 * count ≤ length (now «data»)) × AllReady (take (table .count) (table .rows)) size (elementsFrom (now list) count 0) × (table .count ≤ 16) × AllIn (take (table .count) (table .rows)) size ⌝ }
+    ensures { λ r. ⌜ r ≡ committed size (now (arena .entry)) (staged (take (table .count) (table .rows)) (now («data» .entry)) (elementsFrom (now (list .entry)) count 0) (take size (now (arena .entry)))) .reply ⌝ }
+    ensures { λ _. ⌜ now (arena .exit) ≡ committed size (now (arena .entry)) (staged (take (table .count) (table .rows)) (now («data» .entry)) (elementsFrom (now (list .entry)) count 0) (take size (now (arena .entry)))) .arena ⌝ }
+    ensures { λ _. ⌜ drop size (now (staging .exit)) ≡ drop size (now (staging .entry)) ⌝ }
+{
+    copy_stores(staging, arena, table);
+    match run::apply(&mut staging[0..size], table, list, count, data) {
+        Applied::Failed { index, fault } => Reply::Failed { index, fault },
+        Applied::Done => {
+            copy_stores(arena, staging, table);
+            Reply::Done
+        }
+    }
+}
+
+// The elements' checks, then the runs.
+fn checked_write(
+    card: Card,
+    arena: &mut [u8],
+    staging: &mut [u8],
+    open: bool,
+    codes: &[u16],
+    list: &[u8],
+    count: usize,
+    data: &[u8],
+) -> Reply
+    requires { ⌜ judgedOf card (length (now arena)) (writeRequest «open» (now codes) count (now list) (now «data») (length (now staging))) ≡ Fit ⌝ }
+    ensures { λ r. ⌜ r ≡ serve card (now (arena .entry)) (writeRequest «open» (now (codes .entry)) count (now (list .entry)) (now («data» .entry)) (length (now (staging .entry)))) .reply ⌝ }
+    ensures { λ _. ⌜ now (arena .exit) ≡ serve card (now (arena .entry)) (writeRequest «open» (now (codes .entry)) count (now (list .entry)) (now («data» .entry)) (length (now (staging .entry)))) .arena ⌝ }
+    ensures { λ _. ⌜ drop (16 * card .used) (now (staging .exit)) ≡ drop (16 * card .used) (now (staging .entry)) ⌝ }
+{
+    let nodes = card.nodes;
+    let table = table::table_of(nodes, card.count, codes);
+    match check::check_all(table, true, open, list, count) {
+        Checked::Failed { index, fault } => Reply::Failed { index, fault },
+        Checked::Passed => carry_out(arena, staging, 16 * card.used, table, list, count, data),
+    }
+}
+
+// A whole write. The arena changes only where the reply is `Done`; after a refusal the staging is as it was, else zero
+// for all blocks in use.
+pub fn write(
+    card: Card,
+    arena: &mut [u8],
+    staging: &mut [u8],
+    open: bool,
+    codes: &[u16],
+    count: u32,
+    list: &[u8],
+    data: &[u8],
+) -> Reply
+    ensures { λ r. ⌜ r ≡ serve card (now (arena .entry)) (writeRequest «open» (now (codes .entry)) count (now (list .entry)) (now («data» .entry)) (length (now (staging .entry)))) .reply ⌝ }
+    ensures { λ _. ⌜ now (arena .exit) ≡ serve card (now (arena .entry)) (writeRequest «open» (now (codes .entry)) count (now (list .entry)) (now («data» .entry)) (length (now (staging .entry)))) .arena ⌝ }
+    ensures { λ r. ⌜ now (staging .exit) ≡ stagingBy r (16 * card .used) (now (staging .entry)) ⌝ }
+{
+    let sound = card.is_sound();
+    let lengths = Lengths {
+        arena: arena.len(),
+        codes: codes.len(),
+        data: data.len(),
+        room: staging.len(),
+    };
+    match request_plan::judge(sound, card.used, true, count, list, lengths) {
+        Judged::Refused(refusal) => Reply::Refused(refusal),
+        Judged::ShortData => {
+            spans::zero(staging, 0, 16 * card.used);
+            Reply::ShortData
+        }
+        Judged::Fit => {
+            let reply = checked_write(
+                card,
+                arena,
+                staging,
+                open,
+                codes,
+                list,
+                count as usize,
+                data,
+            );
+            spans::zero(staging, 0, 16 * card.used); // wherever a store was staged
+            reply
+        }
+    }
+}

@@ -1,0 +1,39 @@
+// The cyclic rule: a run of blocks goes in front of a store.
+use answers::status::Fault;
+use answers::status::Written;
+use byte_parts::spans;
+ghost use mathlib.Core.Path.{_≡_};
+ghost use Prim.Native.Nat.{_-_, _≤_};
+ghost use lib.ListN.{length};
+ghost use Rattle.byte_parts.specs.Part.{put};
+ghost use Rattle.answers.specs.Outcome.{writtenOf, bytesAfter};
+ghost use Rattle.rule_cyclic.specs.Cyclic.{cyclicOf};
+
+// Writes a run to a cyclic store, newest block first. A run that the store already begins with changes nothing.
+pub fn apply_cyclic_write(store: &mut [u8], run: &[u8]) -> Written
+    ensures { λ r. ⌜ r ≡ writtenOf (cyclicOf (now (store .entry)) (now (run .entry))) ⌝ }
+    ensures { λ r. ⌜ now (store .exit) ≡ bytesAfter (now (store .entry)) (cyclicOf (now (store .entry)) (now (run .entry))) ⌝ }
+{
+    let n = run.len();
+    if store.len() < n {
+        return Written::Failed(Fault::CyclicTooLong);
+    }
+    if spans::same(&store[0..n], run) {
+        return Written::Done;
+    }
+    shift(store, n);
+    spans::copy(store, 0, run, 0, n);
+    Written::Done
+}
+
+// Moves a store's bytes back by n; the last n are lost. From the last on, so that each has moved before it is overwritten.
+fn shift(store: &mut [u8], n: usize)
+    requires { ⌜ n ≤ length (now store) ⌝ }
+    ensures { λ _. ⌜ now (store .exit) ≡ put (now (store .entry)) n (length (now (store .entry)) - n) (now (store .entry)) ⌝ }
+{
+    let mut i = store.len();
+    while n < i {
+        i -= 1;
+        store[i] = store[i - n];
+    }
+}

@@ -1,0 +1,87 @@
+-- The purse rule in each of its cases. Assumes nothing.
+use Prim.Native.Nat.{ℕ}
+use mathlib.Core.Path.{_≡_, sym, _∙_}
+use mathlib.Core.Bool.{Bool, true, false}
+use lib.IntN.{pos, _+ℤ_, _-ℤ_}
+use lib.Signed.{ltZ}
+use borrow.Author.Tests.{eq-eqb, ne-eqb}
+use Rattle.answers.specs.declared.status.Fault.{Fault}
+use Rattle.answers.specs.declared.status.Fault.the-variants.{PurseRaised, CashbackRaised, SumTooLarge, CashbackExceeds}
+use Rattle.rule_purse.specs.declared.fields.PurseOperation.the-variants.{Direct, Decrement, Cashback}
+use Rattle.service_code.specs.declared.limit.Limit.{Limit}
+use Rattle.rule_purse.specs.declared.fields.PurseData.{PurseData}
+use Rattle.rule_purse.specs.declared.fields.PurseWrite.the-variants.{Unchanged, Whole, Stored, Failed}
+use Rattle.rule_purse.specs.declared.fields.Sum.{Sum}
+use Rattle.rule_purse.specs.declared.fields.Sum.the-variants.{Inside, Outside}
+use Rattle.rule_purse.specs.Purse.{valueOf, insideOf, outsideOf, sumOf, storedOf, purseRule}
+
+module _ (limit : Limit) (s c : PurseData) where
+  module _ (a : Bool) (ea : a ≡ ltZ (valueOf limit (s .purse)) (valueOf limit (c .purse))) where
+    -- A direct write of a purse above the stored one.
+    pub purse-raised : a ≡ true → Failed PurseRaised ≡ purseRule Direct limit s c
+    unfolding purseRule
+    purse-raised ta = rw (sym ea ∙ ta)
+
+    module _ (ta : a ≡ false) (b : Bool) (eb : b ≡ ltZ (valueOf limit (s .cashback)) (valueOf limit (c .cashback))) where
+      -- Of a cashback above the stored one.
+      pub cashback-raised : b ≡ true → Failed CashbackRaised ≡ purseRule Direct limit s c
+      unfolding purseRule
+      cashback-raised tb = rw (sym ea ∙ ta, sym eb ∙ tb)
+
+      module _ (tb : b ≡ false) (d : Bool) (ed : d ≡ ltZ (pos 4294967295) (valueOf limit (s .purse) +ℤ valueOf limit (c .cashback))) where
+        -- Of a cashback that exceeds four bytes with the stored purse.
+        pub sum-large : d ≡ true → Failed SumTooLarge ≡ purseRule Direct limit s c
+        unfolding purseRule
+        sum-large td = rw (sym ea ∙ ta, sym eb ∙ tb, sym ed ∙ td)
+
+        module _ (td : d ≡ false) (i : Bool) (ei : i ≡ insideOf limit (valueOf limit (c .purse))) where
+          -- Of a purse in range.
+          pub direct-whole : i ≡ true → Whole ≡ purseRule Direct limit s c
+          unfolding purseRule
+          direct-whole ti = rw (sym ea ∙ ta, sym eb ∙ tb, sym ed ∙ td, sym ei ∙ ti)
+
+          -- Of a purse out of range.
+          pub direct-outside : i ≡ false → (f : Fault) → f ≡ outsideOf limit → Failed f ≡ purseRule Direct limit s c
+          unfolding purseRule
+          direct-outside ti f ef = rw (sym ea ∙ ta, sym eb ∙ tb, sym ed ∙ td, sym ei ∙ ti, ef)
+
+  -- A decrement with the stored execution id.
+  pub decrement-same : c .id ≡ s .id → Unchanged ≡ purseRule Decrement limit s c
+  unfolding purseRule
+  decrement-same h = rw (eq-eqb (c .id) (s .id) h)
+
+  -- The same of a cashback.
+  pub cashback-same : c .id ≡ s .id → Unchanged ≡ purseRule Cashback limit s c
+  unfolding purseRule
+  cashback-same h = rw (eq-eqb (c .id) (s .id) h)
+
+  module _ (h : c .id ≡ s .id → ⊥) where
+    -- A decrement with another one, by its difference.
+    module _ (r : Sum) (er : r ≡ sumOf limit (valueOf limit (s .purse) -ℤ valueOf limit (c .purse))) where
+      -- In range.
+      pub decrement-inside : (n : ℕ) → r ≡ Inside n → Stored n (c .purse) ≡ purseRule Decrement limit s c
+      unfolding purseRule storedOf
+      decrement-inside n tr = rw (ne-eqb (c .id) (s .id) h, sym er ∙ tr)
+
+      -- Out of range.
+      pub decrement-outside : r ≡ Outside → (f : Fault) → f ≡ outsideOf limit → Failed f ≡ purseRule Decrement limit s c
+      unfolding purseRule storedOf
+      decrement-outside tr f ef = rw (ne-eqb (c .id) (s .id) h, sym er ∙ tr, ef)
+
+    -- A cashback with another one, by the test of its amount and by its sum.
+    module _ (b : Bool) (eb : b ≡ ltZ (valueOf limit (s .cashback)) (valueOf limit (c .purse))) where
+      -- An amount above the stored cashback.
+      pub cashback-exceeds : b ≡ true → Failed CashbackExceeds ≡ purseRule Cashback limit s c
+      unfolding purseRule
+      cashback-exceeds tb = rw (ne-eqb (c .id) (s .id) h, sym eb ∙ tb)
+
+      module _ (tb : b ≡ false) (r : Sum) (er : r ≡ sumOf limit (valueOf limit (s .purse) +ℤ valueOf limit (c .purse))) where
+        -- A sum in range.
+        pub cashback-inside : (n : ℕ) → r ≡ Inside n → Stored n 0 ≡ purseRule Cashback limit s c
+        unfolding purseRule storedOf
+        cashback-inside n tr = rw (ne-eqb (c .id) (s .id) h, sym eb ∙ tb, sym er ∙ tr)
+
+        -- A sum out of range.
+        pub cashback-outside : r ≡ Outside → (f : Fault) → f ≡ outsideOf limit → Failed f ≡ purseRule Cashback limit s c
+        unfolding purseRule storedOf
+        cashback-outside tr f ef = rw (ne-eqb (c .id) (s .id) h, sym eb ∙ tb, sym er ∙ tr, ef)

@@ -1,0 +1,18 @@
+-- `purse::purse_data` meets its contract. Assumes nothing.
+use borrow.Author.Needs.{needs}
+use Rattle.rule_purse.specs.Bytes.{purseDataOf}
+use Rattle.rule_purse.proofs.bytes.purse_data.Statement.{statement}
+use Rattle.rule_purse.proofs.bytes.purse_data.Tie as tie
+
+returns : tie.Need-returns
+unfolding purseDataOf
+returns c = cc
+
+pub purse-data-spec : {M : Type 1} → statement M
+purse-data-spec =
+    tie.close
+    (tie.spec
+    (λ c κs. search needs)
+    (λ c κs. search needs)
+    (λ c κs. search needs)
+    returns)

@@ -1,0 +1,55 @@
+// The purse rule on a block's sixteen bytes.
+use crate::fields::PurseData;
+use crate::fields::PurseOperation;
+use crate::fields::PurseWrite;
+use crate::fields::purse_write;
+use answers::status::Written;
+use byte_parts::spans;
+use byte_parts::word;
+use service_code::limit::Limit;
+ghost use mathlib.Core.Path.{_≡_};
+ghost use Prim.Native.Nat.{_≤_};
+ghost use lib.ListN.{length};
+ghost use Rattle.answers.specs.Outcome.{writtenOf, bytesAfter};
+ghost use Rattle.rule_purse.specs.Bytes.{purseDataOf, purseOf};
+
+// The fields of a block.
+fn purse_data(block: &[u8]) -> PurseData
+    requires { ⌜ 16 ≤ length (now block) ⌝ }
+    ensures { λ r. ⌜ r ≡ purseDataOf (now (block .entry)) ⌝ }
+{
+    PurseData {
+        purse: word::word(block, 0),
+        cashback: word::word(block, 4),
+        id: word::word(block, 12),
+    }
+}
+
+// The same rule on a block's sixteen bytes, in place.
+pub fn apply_purse_write(
+    block: &mut [u8],
+    command: &[u8],
+    operation: PurseOperation,
+    limit: Limit,
+) -> Written
+    requires { ⌜ (16 ≤ length (now block)) × (16 ≤ length (now command)) ⌝ }
+    ensures { λ r. ⌜ r ≡ writtenOf (purseOf operation limit (now (block .entry)) (now (command .entry))) ⌝ }
+    ensures { λ r. ⌜ now (block .exit) ≡ bytesAfter (now (block .entry)) (purseOf operation limit (now (block .entry)) (now (command .entry))) ⌝ }
+{
+    let stored = purse_data(block);
+    let asked = purse_data(command);
+    match purse_write(operation, limit, stored, asked) {
+        PurseWrite::Unchanged => Written::Done,
+        PurseWrite::Whole => {
+            spans::copy(block, 0, command, 0, 16);
+            Written::Done
+        }
+        PurseWrite::Stored { purse, cashback } => {
+            word::put_word(block, 0, purse);
+            word::put_word(block, 4, cashback);
+            spans::copy(block, 12, command, 12, 4);
+            Written::Done
+        }
+        PurseWrite::Failed(fault) => Written::Failed(fault),
+    }
+}

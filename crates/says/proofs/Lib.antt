@@ -1,3 +1,0 @@
--- What callers cite, and worked lines.
-pub mod Lines
-pub mod Rows

@@ -1,3 +1,0 @@
--- What the calls' proofs cite.
-mod Accepted
-mod Answers

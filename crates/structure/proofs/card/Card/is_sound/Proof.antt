@@ -1,7 +1,0 @@
--- The card's records, count and blocks in use are tested.
-use borrow.Author.Needs.{needs}
-use Rattle.structure.proofs.card.Card.is_sound.Statement.{statement}
-use Rattle.structure.proofs.card.Card.is_sound.Tie as tie
-
-pub is-sound-spec : {M : Type 1} → statement M
-is-sound-spec = tie.close (tie.spec (λ c κs. search needs) (λ c. c .sound .ensures))

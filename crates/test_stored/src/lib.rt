@@ -1,0 +1,111 @@
+// Stored answers: files 0001.in, 0002.in, .. of a program's folder, and lines of hex in them.
+use text_numbers::codes::Code;
+use text_numbers::codes::read_hex16;
+ghost use mathlib.Core.Path.{_≡_};
+ghost use Prim.Native.Nat.{_+_, _*_, _≤_, _<_};
+ghost use lib.ListN.{length};
+
+// The digit of a number's last decimal place.
+fn last_digit(n: u32) -> u8 {
+    b'0' + (n % 10) as u8
+}
+
+// The name of file number n: its last four digits, then `.in`.
+pub fn name(n: u32) -> [u8; 7]
+    ensures { λ r. ⌜ 7 ≡ length r ⌝ }
+{
+    [
+        last_digit(n / 1000),
+        last_digit(n / 100),
+        last_digit(n / 10),
+        last_digit(n),
+        b'.',
+        b'i',
+        b'n',
+    ]
+}
+
+// Reads file number n, as much as the buffer holds; nothing where it is missing.
+pub fn load(n: u32, buffer: &mut [u8]) -> usize
+    ensures { λ r. ⌜ r ≤ length (now (buffer .exit)) ⌝ }
+{
+    let name = name(n);
+    let file = os::open_read(&name);
+    if file < 0 {
+        return 0;
+    }
+    let got = io::read_full(file, buffer);
+    libc::close(file);
+    got
+}
+
+// The byte that two hex digits at an index spell, or 256.
+fn byte_at(line: &[u8], i: usize) -> u16
+    requires { ⌜ i + 1 < length (now line) ⌝ }
+{
+    let four = [b'0', b'0', line[i], line[i + 1]];
+    match read_hex16(&four) {
+        Code::Is(value) => value % 256,
+        Code::Bad => 256,
+    }
+}
+
+// Puts a byte at an index, if there is room; gives the next index.
+fn put(out: &mut [u8], n: usize, b: u8) -> usize
+    requires { ⌜ n ≤ length (now out) ⌝ }
+    ensures { λ r. ⌜ r ≤ length (now (out .entry)) ⌝ }
+{
+    if n < out.len() {
+        out[n] = b;
+        return n + 1;
+    }
+    n
+}
+
+// Puts the bytes that the hex digits of a line spell to the front of a buffer, as many as it holds. Other bytes are passed over.
+pub fn bytes_of(line: &[u8], out: &mut [u8]) -> usize
+    ensures { λ r. ⌜ r ≤ length (now (out .entry)) ⌝ }
+{
+    let mut n = 0;
+    let mut i = 1;
+    while i < line.len() {
+        let b = byte_at(line, i - 1);
+        if 256 <= b {
+            i += 1;
+            continue;
+        }
+        n = put(out, n, b as u8);
+        i += 2;
+    }
+    n
+}
+
+// Where the line or field that starts at an index ends.
+pub fn end_of(text: &[u8], from: usize, separator: u8) -> usize
+    requires { ⌜ from ≤ length (now text) ⌝ }
+    ensures { λ r. ⌜ (from ≤ r) × (r ≤ length (now (text .entry))) ⌝ }
+{
+    text_fields::field_end(text, from, separator)
+}
+
+// A number of 16 bits, high byte first.
+pub fn number16(high: u8, low: u8) -> u16
+    ensures { λ r. ⌜ r ≡ high * 256 + low ⌝ }
+{
+    high as u16 * 256 + low as u16
+}
+
+// A number of 32 bits, high byte first.
+pub fn number32(a: u8, b: u8, c: u8, d: u8) -> u32
+    ensures { λ r. ⌜ r ≡ (a * 256 + b) * 65536 + (c * 256 + d) ⌝ }
+{
+    number16(a, b) as u32 * 65536 + number16(c, d) as u32
+}
+
+// Prints a line of a label and a number.
+pub fn report(label: &[u8], n: u64) {
+    io::write_all(1, label);
+    io::write_all(1, b" ");
+    io::print_decimal(1, n);
+    io::write_all(1, b"\n");
+}

@@ -1,0 +1,4 @@
+pub mod Digit
+pub mod Hex
+pub mod Codes
+pub mod Decimal

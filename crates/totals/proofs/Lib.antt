@@ -1,3 +1,0 @@
-pub mod Worded
-mod Summing
-mod Found

@@ -1,2 +1,0 @@
-// Service codes, as `types.rs` of the Rust has them.
-pub mod code;

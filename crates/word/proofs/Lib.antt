@@ -1,2 +1,0 @@
--- What this crate's proofs and callers cite.
-pub mod Laws
