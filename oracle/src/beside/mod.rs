@@ -64,7 +64,7 @@ impl Beside {
         let inputs = texts.iter().map(|text| text.input.as_slice());
         files::numbered(&self.folder, "in", inputs)?;
         let mut command = Command::new(&self.run);
-        command.arg("traces").current_dir(&self.folder);
+        command.arg("test_traces").current_dir(&self.folder);
         let expected: usize = texts.iter().map(|text| text.output.len() + 8).sum();
         let ran = process::run(&mut command, Vec::new(), self.limit, expected + SURPLUS)?;
         Ok(match first_difference(&ran.printed, texts) {
@@ -112,7 +112,7 @@ impl Beside {
         let smallest = shrink::smallest(texts[at].input.clone(), &mut shows)?;
         let smallest = [Text::of(smallest)];
         match self.first_wrong(&smallest)? {
-            Some(wrong) => self.tell("traces", &smallest[0], &wrong),
+            Some(wrong) => self.tell("test_traces", &smallest[0], &wrong),
             None => Err(io::Error::other("a difference did not come again")),
         }
     }

@@ -1,4 +1,4 @@
-//! `fuzz MINUTES SEED RUN`: puts changed texts to the program that `RUN traces` runs, for so many
+//! `fuzz MINUTES SEED RUN`: puts changed texts to the program that `RUN test_traces` runs, for so many
 //! minutes. Fails at the first that is answered otherwise than by the oracle, or that stops the
 //! program, and keeps the smallest text that shows it.
 

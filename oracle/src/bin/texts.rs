@@ -1,4 +1,4 @@
-//! `texts N SEED DIR`: writes replay texts as DIR/data/0001.in, .. and what `traces` prints for them
+//! `texts N SEED DIR`: writes replay texts as DIR/data/0001.in, .. and what `test_traces` prints for them
 //! as DIR/stdout. `texts N SEED --counts` prints what they met, and fails if they did not meet all
 //! that replay can say; `texts N SEED` prints for each text a line `text NUMBER BYTES BYTES`, then
 //! its bytes, then those printed for it; `--small` in place of `N SEED` is the list that is stored.
