@@ -31,11 +31,17 @@ impl Reply {
         match self {
             Reply::Refused(refusal) => Response::Refusal(refusal.number()),
             Reply::Done => Response::Pair { flag1: 0, flag2: 0 },
-            Reply::ShortData => Response::Pair { flag1: 0xff, flag2: 0xac },
+            Reply::ShortData => Response::Pair {
+                flag1: 0xff,
+                flag2: 0xac,
+            },
             Reply::Failed { index, fault } => {
                 let flag1 = status::list_error_index(index);
                 let flag2 = fault.status_flag2();
-                Response::Pair { flag1: flag1, flag2: flag2 }
+                Response::Pair {
+                    flag1: flag1,
+                    flag2: flag2,
+                }
             }
         }
     }
