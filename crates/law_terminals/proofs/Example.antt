@@ -1,5 +1,5 @@
--- The theorems are not empty: a card, an order with writes on both sides and its answers, computed; and an order of requests that
--- name one number, where the answers differ. Assumes nothing.
+-- The theorems are not empty: a card, an order with writes on both sides and its answers, computed; an order of requests that name one
+-- number, where the answers differ; and the race of the sample, an instance of the tower's theorem. Assumes nothing.
 use Prim.Native.Nat.{ℕ, zero, suc, _+_}
 use native.Mathlib.Omega.{arith}
 use mathlib.Core.Path.{_≡_, refl, sym, subst}
@@ -7,7 +7,8 @@ use mathlib.Core.Logic.{_⊎_, inl, inr, ⊎-elim}
 use mathlib.Core.Bool.{false, true, _||_, false≢true}
 use lib.Dec.{eqb}
 use mathlib.Core.List.{List, [], _∷_, _++_}
-use lib.ListN.{replicate}
+use lib.IntN.{pos}
+use lib.ListN.{length, replicate}
 use Rattle.answers.specs.declared.status.Fault.{Fault}
 use Rattle.answers.specs.declared.status.Fault.the-variants.{Attribute, BlockNumber, OutsideWord}
 use Rattle.answers.specs.declared.refusal.Refusal.{Refusal}
@@ -20,12 +21,12 @@ use Rattle.rule_purse.specs.Purse.{valueOf, insideOf, outsideOf, sumOf, storedO
 use Rattle.rule_cyclic.specs.Cyclic.{cyclicOf}
 use Rattle.rule_purse.specs.Bytes.{purseDataOf, blockOf, purseOf}
 use Rattle.card_nodes.specs.Find.{firstFrom, openAt, parentFrom}
-use Rattle.card_admit.specs.Grow.{parentAt, outside, serviceUnder, sameKind, joinedTo, usable, newStore, placedOf}
+use Rattle.card_admit.specs.Grow.{parentAt, rootMisfit, outside, areaUnder, areaJudged, serviceUnder, sameKind, joinedTo, usable, newStore, placedOf}
 use Rattle.card_sound.specs.Sound.{isRoot, allRoots, stepOf, stepsFrom, stepsOf, soundOf}
 use Rattle.card_build.specs.declared.card.Card.{Card}
 use Rattle.card_build.specs.Card.{newCard}
-use Rattle.card_build.specs.Grow.{addService}
-use Rattle.card_laws.specs.Built.{Built, new, service}
+use Rattle.card_build.specs.Grow.{addArea, addService, setLimit}
+use Rattle.card_laws.specs.Built.{Built, new, area, service, limit}
 use Rattle.request_check.specs.Row.{rowOf}
 use Rattle.request_check.specs.Check.{modeAllowed, attributeCheck, rowCheck, elementCheck, checkedFrom}
 use Rattle.request_rules.specs.Lens.{back, within}
@@ -42,6 +43,7 @@ use Rattle.law_terminals.specs.Last.{NamesBlock, arenaThen, Redrawn}
 use Rattle.law_terminals.proofs.Generic.{All}
 use Rattle.law_terminals.proofs.Two.{two-terminals}
 use Rattle.law_terminals.proofs.Last.{tower-reads}
+use Rattle.law_terminals.proofs.Race as Race
 
 -- lanes, a random store of two blocks, number 41h
 abbrev lanes : Card
@@ -59,13 +61,21 @@ credit = addService towers 80 1 0x1095 1 0 .card
 abbrev card : Card
 card = addService credit 80 1 0x10cd 2 0 .card
 
-card-built : Built card
-unfolding addService placedOf parentAt parentFrom openAt firstFrom serviceUnder outside sameKind joinedTo usable newStore numberOf attributesOf tableOf decodedOf attributeOf codeKindOf
-card-built =
-    service {c = credit} 80 1 0x10cd 2 0
-    (service {c = towers} 80 1 0x1095 1 0
-    (service {c = lanes} 80 1 0x104b 9 0
-    (service {c = newCard 1 0} 80 1 0x1049 2 0 (new 1 0) refl) refl) refl) refl
+-- both cards are built
+built : Built card × Built Race.race
+unfolding addArea areaJudged areaUnder rootMisfit setLimit addService placedOf parentAt parentFrom openAt firstFrom serviceUnder outside sameKind joinedTo usable newStore numberOf attributesOf tableOf decodedOf attributeOf codeKindOf
+built = (
+  service {c = credit} 80 1 0x10cd 2 0
+      (service {c = towers} 80 1 0x1095 1 0
+      (service {c = lanes} 80 1 0x104b 9 0
+      (service {c = newCard 1 0} 80 1 0x1049 2 0 (new 1 0) refl) refl) refl) refl,
+  service {c = Race.limited} 112 2 0x1097 1 0
+      (limit {c = Race.credit} (pos 120) (pos 0) 1
+      (service {c = Race.towers} 112 2 0x1095 1 0
+      (service {c = Race.marshals} 112 2 0x104b 6 0
+      (service {c = Race.field} 112 2 0x1049 6 0
+      (area {c = newCard 1 0} 1 0x1040 0x10bf 0 (new 1 0) refl) refl) refl) refl) refl) refl,
+)
 
 -- 80 bytes: empty lanes, a credit of 100, two blocks of 7
 abbrev arena : List ℕ
@@ -222,7 +232,7 @@ order-apart k h p q =
     ⊎-elim (λ e. false≢true (sym (rw e at y))) (⊎-elim (λ e. false≢true (sym (rw e at x))) (λ e. false≢true (sym (rw e at x)))) (has-one h)
 
 order-undisturbed : Undisturbed (answerOf card) (arenaAfter card) arena order
-order-undisturbed = two-terminals card-built arena order order-apart
+order-undisturbed = two-terminals (built .0) arena order order-apart
 
 -- a payment names no lane
 unnamed : (i : ℕ) → NamesBlock 0x41 1 (paying 60 1) i → ⊥
@@ -234,9 +244,16 @@ unnamed (suc i) h = let l = h .listed in omega arith
 abbrev IsRedrawn : Type 0
 IsRedrawn = Redrawn card 0x41 1 (replicate 16 3) arena redraw between (reading 0x104b 1)
 
+-- The redraw is accepted, and the fourth request is told lane 1 as first drawn, lanes 2 and 3 as redrawn. Of lane 1 the theorem speaks.
+abbrev Raced : Type 0
+Raced =
+    (serve Race.race (arenaAfter Race.race Race.arena Race.draw) Race.redraw .reply ≡ Done)
+    × (answerOf Race.race (arenaThen Race.race Race.arena Race.draw Race.between) Race.look ≡ done (Race.leander ++ Race.moleseyTwo ++ Race.thamesThree))
+    × Redrawn Race.race 0x41 0 Race.leander Race.arena Race.draw Race.between Race.look
+
 -- all of it, computed by the definitions
-computed : Told × Alone × Ends × Disturbed × Redraws × IsRedrawn
-unfolding addService placedOf parentAt parentFrom openAt firstFrom serviceUnder outside sameKind joinedTo usable newStore numberOf attributesOf tableOf decodedOf attributeOf codeKindOf requiresKey unpackAt endsFrom endsAfter elementsFrom part put sameBytes wordAt wordBytes signedOf wordOf cyclicOf valueOf insideOf outsideOf sumOf storedOf purseRule purseDataOf blockOf purseOf isRoot allRoots stepOf stepsFrom stepsOf soundOf rowOf modeAllowed attributeCheck rowCheck elementCheck checkedFrom then push runsOf scan walk back within cashbackIn elementBy endBy onStore staged lentJudged judgedWith planOf blocksRead committed carried serve only all after answers told
+computed : Told × Alone × Ends × Disturbed × Redraws × IsRedrawn × Raced
+unfolding addArea areaJudged areaUnder rootMisfit setLimit addService placedOf parentAt parentFrom openAt firstFrom serviceUnder outside sameKind joinedTo usable newStore numberOf attributesOf tableOf decodedOf attributeOf codeKindOf requiresKey unpackAt endsFrom endsAfter elementsFrom part put sameBytes wordAt wordBytes signedOf wordOf cyclicOf valueOf insideOf outsideOf sumOf storedOf purseRule purseDataOf blockOf purseOf isRoot allRoots stepOf stepsFrom stepsOf soundOf rowOf modeAllowed attributeCheck rowCheck elementCheck checkedFrom then push runsOf scan walk back within cashbackIn elementBy endBy onStore staged lentJudged judgedWith planOf blocksRead committed carried serve only all after answers told
 computed = (
   refl,
   (refl, refl),
@@ -260,11 +277,38 @@ computed = (
     read = refl;
     answered = refl;
   },
+  (
+    refl,
+    refl,
+    record {
+      write = refl;
+      written = refl;
+      brings = record {
+        place = 0;
+        names = record { listed = omega arith; number = refl; block = refl };
+        last = Race.draw-later;
+        random = refl;
+        bytes = refl;
+      };
+      quiet = (λ t e i n. absurd (false≢true t), (λ t e i n. Race.redraw-spares i n, tt));
+      read = refl;
+      answered = refl;
+    },
+  ),
 )
 
 -- so by the theorem the tower reads what the last element brought
 tower-told : part (outputAfter (replicate 16 0) (serve card (arenaThen card arena redraw between) (reading 0x104b 1))) 0 16 ≡ replicate 16 3
 unfolding numberOf unpackAt elementsFrom
 tower-told =
-    tower-reads card-built 0x41 1 (replicate 16 3) arena redraw between (reading 0x104b 1) (computed .5) 0
+    tower-reads (built .0) 0x41 1 (replicate 16 3) arena redraw between (reading 0x104b 1) (computed .5) 0
     (record { listed = omega arith; number = refl; block = refl }) (replicate 16 0) refl
+
+-- and what it reads of lane 1 in the race, in whatever output it is lent
+lane-one
+    : (out : List ℕ) → length out ≡ 48
+    → part (outputAfter out (serve Race.race (arenaThen Race.race Race.arena Race.draw Race.between) Race.look)) 0 16 ≡ Race.leander
+unfolding numberOf unpackAt elementsFrom
+lane-one out l =
+    tower-reads (built .1) 0x41 0 Race.leander Race.arena Race.draw Race.between Race.look (computed .6 .2) 0
+    (record { listed = omega arith; number = refl; block = refl }) out l
