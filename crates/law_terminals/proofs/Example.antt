@@ -27,6 +27,7 @@ use Rattle.card_build.specs.declared.card.Card.{Card}
 use Rattle.card_build.specs.Card.{newCard}
 use Rattle.card_build.specs.Grow.{addArea, addService, setLimit}
 use Rattle.card_laws.specs.Built.{Built, new, area, service, limit}
+use Rattle.card_laws.proofs.Laid.{sized}
 use Rattle.request_check.specs.Row.{rowOf}
 use Rattle.request_check.specs.Check.{modeAllowed, attributeCheck, rowCheck, elementCheck, checkedFrom}
 use Rattle.request_rules.specs.Lens.{back, within}
@@ -37,10 +38,9 @@ use Rattle.request_plan.specs.declared.Reply.the-variants.{Refused, Done, Faile
 use Rattle.request_plan.specs.Request.{Request, readRequest, writeRequest}
 use Rattle.request_plan.specs.Plan.{lentJudged, judgedWith, planOf}
 use Rattle.request_plan.specs.Serve.{blocksRead, committed, carried, serve, outputAfter}
-use Rattle.law_terminals.specs.Orders.{Sent, by, one, two, only, all, after, answers, told, Undisturbed}
-use Rattle.law_terminals.specs.Two.{Answer, answerOf, arenaAfter, Any, Names, HasNumber, NoneShared}
+use Rattle.law_terminals.specs.Orders.{Marked, by, one, two, only, all, after, answers, told, Undisturbed}
+use Rattle.law_terminals.specs.Two.{Answer, answerOf, arenaAfter, Any, All, Names, HasNumber, NoneShared}
 use Rattle.law_terminals.specs.Last.{NamesBlock, arenaThen, Redrawn}
-use Rattle.law_terminals.proofs.Generic.{All}
 use Rattle.law_terminals.proofs.Two.{two-terminals}
 use Rattle.law_terminals.proofs.Last.{tower-reads}
 use Rattle.law_terminals.proofs.Race as Race
@@ -112,7 +112,7 @@ listing code index = readRequest true (0xffff ∷ 0 ∷ 0x2009 ∷ code ∷ []) 
 
 -- one writes a lane, reads it through the other service, asks for a lane that is not there, and sends a request cut short; both list
 -- FFFF, the root's code and an unknown one, and one names the first of them; two pays twice from a credit of 100, the second time too much, writes to its ring, and pays the rest
-abbrev order : List (Sent Request)
+abbrev order : List (Marked Request)
 order =
     by two (paying 60 1)
     ∷ by one (writing 0x1049 1 (replicate 16 9))
@@ -127,7 +127,7 @@ order =
     ∷ []
 
 -- what an order is told at this card
-abbrev toldAll : List (Sent Request) → List (Sent Answer)
+abbrev toldAll : List (Marked Request) → List (Marked Answer)
 toldAll zs = told (answerOf card) (arenaAfter card) arena zs
 
 -- what a list is told alone
@@ -167,7 +167,7 @@ Ends =
     ≡ replicate 16 0 ++ replicate 16 9 ++ (0 ∷ 0 ∷ 0 ∷ 0 ∷ 40 ∷ replicate 7 0) ++ (3 ∷ 0 ∷ 0 ∷ 0 ∷ []) ++ replicate 16 5 ++ replicate 16 7
 
 -- both pay from the one credit: in turn two is told 01, alone it is told 00
-abbrev both : List (Sent Request)
+abbrev both : List (Marked Request)
 both = by one (paying 60 1) ∷ by two (paying 60 2) ∷ []
 
 abbrev Disturbed : Type 0
@@ -232,7 +232,7 @@ order-apart k h p q =
     ⊎-elim (λ e. false≢true (sym (rw e at y))) (⊎-elim (λ e. false≢true (sym (rw e at x))) (λ e. false≢true (sym (rw e at x)))) (has-one h)
 
 order-undisturbed : Undisturbed (answerOf card) (arenaAfter card) arena order
-order-undisturbed = two-terminals (built .0) arena order order-apart
+order-undisturbed = two-terminals card (sized (built .0) .long) arena order order-apart
 
 -- a payment names no lane
 unnamed : (i : ℕ) → NamesBlock 0x41 1 (paying 60 1) i → ⊥
@@ -301,7 +301,7 @@ computed = (
 tower-told : part (outputAfter (replicate 16 0) (serve card (arenaThen card arena redraw between) (reading 0x104b 1))) 0 16 ≡ replicate 16 3
 unfolding numberOf unpackAt elementsFrom
 tower-told =
-    tower-reads (built .0) 0x41 1 (replicate 16 3) arena redraw between (reading 0x104b 1) (computed .5) 0
+    tower-reads card (sized (built .0) .long) 0x41 1 (replicate 16 3) arena redraw between (reading 0x104b 1) (computed .5) 0
     (record { listed = omega arith; number = refl; block = refl }) (replicate 16 0) refl
 
 -- and what it reads of lane 1 in the race, in whatever output it is lent
@@ -310,5 +310,5 @@ lane-one
     → part (outputAfter out (serve Race.race (arenaThen Race.race Race.arena Race.draw Race.between) Race.look)) 0 16 ≡ Race.leander
 unfolding numberOf unpackAt elementsFrom
 lane-one out l =
-    tower-reads (built .1) 0x41 0 Race.leander Race.arena Race.draw Race.between Race.look (computed .6 .2) 0
+    tower-reads Race.race (sized (built .1) .long) 0x41 0 Race.leander Race.arena Race.draw Race.between Race.look (computed .6 .2) 0
     (record { listed = omega arith; number = refl; block = refl }) out l

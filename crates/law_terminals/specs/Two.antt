@@ -14,7 +14,7 @@ use Rattle.card_build.specs.Card.{nodesOf}
 use Rattle.request_plan.specs.declared.Reply.{Reply}
 use Rattle.request_plan.specs.Request.{Request}
 use Rattle.request_plan.specs.Serve.{serve, stagingBy}
-use Rattle.law_terminals.specs.Orders.{Sent, one, two, only, Undisturbed}
+use Rattle.law_terminals.specs.Orders.{Marked, one, two, only, Undisturbed}
 
 -- what the caller of a request is told: the reply and the bytes read
 pub record Answer : Type 0 where
@@ -44,6 +44,11 @@ abbrev pub Any : {X : Type 0} → (X → Type 0) → List X → Type 0
 Any F [] = ⊥
 Any F (x ∷ xs) = F x ⊎ Any F xs
 
+-- every one of a list
+abbrev pub All : {X : Type 0} → (X → Type 0) → List X → Type 0
+All F [] = Unit {0}
+All F (x ∷ xs) = F x × All F xs
+
 -- the request's codes name the service number k
 abbrev pub Names : ℕ → Request → Type 0
 Names k r = Any (λ code. numberOf code ≡ k) (r .codes)
@@ -63,6 +68,6 @@ NoneShared c rs qs = (k : ℕ) → HasNumber c k → Any (Names k) rs → Any (N
 -- each terminal is told what it is told alone, and the arena ends as after one list and then the other, in either order.
 abbrev pub TwoTerminals : Card → Type 0
 TwoTerminals c =
-    (arena : List ℕ) (order : List (Sent Request))
+    (arena : List ℕ) (order : List (Marked Request))
     → NoneShared c (only one order) (only two order)
     → Undisturbed (answerOf c) (arenaAfter c) arena order
