@@ -67,7 +67,7 @@ module _ (c : Card) (z : length (c .nodes) ≡ 64) {n k : ℕ} {d a : List ℕ} 
       ∙ t .bytes)
 
   -- and puts it out
-  tower-out : (out : List ℕ) → length out ≡ q .room → part (outputAfter out (serve c (arenaThen c a w rs) q)) (16 * j) 16 ≡ d
+  pub tower-out : (out : List ℕ) → length out ≡ q .room → part (outputAfter out (serve c (arenaThen c a w rs) q)) (16 * j) 16 ≡ d
   tower-out out l = put-out c (arenaThen c a w rs) q (m .read) (m .answered) z j out (p .listed) l ∙ tower-given
 
 -- on every card, which has 64 records, the tower reads what was written last

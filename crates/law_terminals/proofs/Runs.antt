@@ -16,7 +16,7 @@ use Rattle.law_terminals.specs.Two.{Answer, answerOf, arenaAfter, Any, A
 use Rattle.law_terminals.specs.Last.{NamesBlock, Quiet, arenaThen, Redrawn}
 use Rattle.law_terminals.specs.Runs.{Exchange, callsOf, Leaves, Ran, requestsOf, Apart, TwoRuns, RedrawnBy, TowerRuns}
 use Rattle.law_terminals.proofs.Two.{leftOf, arenaOf, two-askers}
-use Rattle.law_terminals.proofs.Last.{tower-given}
+use Rattle.law_terminals.proofs.Last.{tower-given, tower-out}
 
 abbrev leftsOf : {K L : Type 0} → List (Exchange K L) → List L
 leftsOf {K} {L} xs = map (λ (x : Exchange K L). x .left) xs
@@ -154,7 +154,7 @@ module _ (c : Card) {K L : Type 0} (ask : K → Request) (leave : K → Answer �
 
     -- The tower, where callers see by what they were left whether a request was accepted.
     module _ (Seen : L → Type 0) (seen-done : (k : K) (x : Answer) → Seen (leave k x) → x .reply ≡ Done)
-        (done-seen : (k : K) (x : Answer) → x .reply ≡ Done → Seen (leave k x)) where
+        (done-seen : (k : K) (x : Answer) → ask k .write ≡ true → x .reply ≡ Done → Seen (leave k x)) where
       -- the arena that a run leaves
       ran-after : (xs : List (Exchange K L)) (a e : List ℕ) → Ran c ask leave a xs e →
           e ≡ after (answerOf c) (arenaAfter c) a (requestsOf c ask leave xs)
@@ -168,7 +168,7 @@ module _ (c : Card) {K L : Type 0} (ask : K → Request) (leave : K → Answer �
           Quiet c n m a (requestsOf c ask leave xs)
       ran-quiet n m [] a e r q = tt
       ran-quiet n m (x ∷ xs) a e (b, k, r) q = (
-        λ w d. q .0 w (subst Seen (sym (k .0)) (done-seen (x .call) _ d)),
+        λ w d. q .0 w (subst Seen (sym (k .0)) (done-seen (x .call) _ w d)),
         rw (k .1) at (ran-quiet n m xs b e r (q .1)),
       )
 
@@ -186,4 +186,4 @@ module _ (c : Card) {K L : Type 0} (ask : K → Request) (leave : K → Answer �
             read = h .read;
             answered = rw then at (seen-done (q .call) _ (subst Seen (h .asked .0) (h .answered)));
           } in
-          (answerOf c f (ask (q .call)), h .asked .0, λ j p. rw then (tower-given c z redrawn p))
+          (answerOf c f (ask (q .call)), h .asked .0, λ j p. rw then (tower-given c z redrawn p, λ out l. tower-out c z redrawn p out l))

@@ -70,12 +70,16 @@ module _ (c : Card) {K L : Type 0} (ask : K → Request) (leave : K → Answer �
       pub read : ask (q .call) .write ≡ false
       pub answered : Done (q .left)
 
-    -- The read is left what an answer leaves, of which for each element that names the block the sixteen bytes at its place are d.
+    -- The read is left what an answer leaves: for each of its elements that names the block, the sixteen bytes at the element's place are d
+    -- in the answer, and in an output of the length that the call lends.
     abbrev pub TowerRuns : Type 0
     TowerRuns =
         (n b : ℕ) (d a : List ℕ) (w : Exchange K L) (xs : List (Exchange K L)) (m : List ℕ) (q : Exchange K L) (e : List ℕ)
         → RedrawnBy n b d a w xs m q e
-        → (x : Answer) × (q .left ≡ leave (q .call) x) × ((j : ℕ) → NamesBlock n b (ask (q .call)) j → part (x .read) (16 * j) 16 ≡ d)
+        → (x : Answer)
+        × (q .left ≡ leave (q .call) x)
+        × ((j : ℕ) → NamesBlock n b (ask (q .call)) j → (part (x .read) (16 * j) 16 ≡ d)
+        × ((out : List ℕ) → length out ≡ ask (q .call) .room → part (outputOf x out) (16 * j) 16 ≡ d))
 
 -- A call of `read`, with the output lent to it, or of `write`, with the staging lent to it.
 pub data Call : Type 0 where
