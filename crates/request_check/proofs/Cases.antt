@@ -6,7 +6,7 @@ use Prim.Native.Nat.{ℕ, _≤_, _<_}
 use native.Mathlib.Omega.{arith}
 use lib.Dec.{leb}
 use lib.ListN.{length, take, getD, length-take}
-use borrow.Author.Tests.{leb-true, leb-false, le-leb, lt-leb, lt-ltb, le-ltb}
+use borrow.Author.Tests.{leb-true, leb-false, le-leb, lt-leb}
 use Rattle.block_list.specs.declared.element.BlockListElement.{BlockListElement}
 use Rattle.service_code.specs.declared.code.Decoded.the-variants.{Defined, Undefined}
 use Rattle.service_code.specs.declared.code.ServiceAttribute.{ServiceAttribute}
@@ -71,9 +71,9 @@ module _ (w : Row) (write «open» : Bool) (number mode : ℕ) where
             -- a block that is not there
             pub no-block : w .blocks ≤ number → Failed BlockNumber ≡ rowCheck w write «open» number mode
             unfolding rowCheck
-            no-block h = rw (m, d, f, k, p, le-ltb number (w .blocks) h)
+            no-block h = rw (m, d, f, k, p, le-leb (w .blocks) number h)
 
             -- one that is
             pub passed : number < w .blocks → Passed ≡ rowCheck w write «open» number mode
             unfolding rowCheck
-            passed h = rw (m, d, f, k, p, lt-ltb number (w .blocks) h)
+            passed h = rw (m, d, f, k, p, lt-leb (w .blocks) number h)

@@ -78,72 +78,63 @@ pub enum Judged {
     Fit,
 }
 
-// The lengths that a request comes with.
-pub struct Lengths {
-    pub arena: usize,
+// What a request is judged by, beside its list: the card's blocks in use, the counts of elements and codes, and the lengths in bytes of
+// the arena, of a write's data, and of the output (read) or staging (write) that is lent.
+pub struct Sizes {
+    pub used: usize,
+    pub count: u32,
     pub codes: usize,
+    pub arena: usize,
     pub data: usize,
     pub room: usize,
 }
 
-// 7, then 4 or 5, then FF AC.
-fn lent_judged(
-    used: usize,
-    write: bool,
-    count: usize,
-    arena: usize,
-    data: usize,
-    room: usize,
-) -> Judged
-    ensures { λ r. ⌜ r ≡ lentJudged used write count arena «data» room ⌝ }
+// A block of a store, an element's data and its output, in bytes.
+const BLOCK: usize = 16;
+
+// More elements are refusal 1.
+const MOST_ELEMENTS: u32 = 512;
+
+// More codes are refusal 2.
+const MOST_CODES: usize = 16;
+
+// Judges what is lent to a write or a read: 7, then 4 or 5, then FF AC.
+fn lent_judged(write: bool, sizes: Sizes) -> Judged
+    ensures { λ r. ⌜ r ≡ lentJudged write sizes ⌝ }
 {
-    if arena / 16 < used {
-        return Judged::Refused(Refusal::ShortArena);
+    if sizes.arena / BLOCK < sizes.used {
+        return Judged::Refused(Refusal::ShortArena); // 7
     }
     if write {
-        if room / 16 < used {
-            return Judged::Refused(Refusal::ShortStaging);
+        if sizes.room / BLOCK < sizes.used {
+            return Judged::Refused(Refusal::ShortStaging); // 4: a block for each in use
         }
-        if data / 16 < count {
-            return Judged::ShortData;
+        if sizes.data / BLOCK < sizes.count as usize {
+            return Judged::ShortData; // FF AC, ahead of all elements; surplus data are ignored
         }
         return Judged::Fit;
     }
-    if room / 16 < count {
-        return Judged::Refused(Refusal::ShortOutput);
+    if sizes.room / BLOCK < sizes.count as usize {
+        return Judged::Refused(Refusal::ShortOutput); // 5: a block for each element
     }
     Judged::Fit
 }
 
-// The refusals of a request, in their order, then whether its data are there.
-pub fn judge(
-    sound: bool,
-    used: usize,
-    write: bool,
-    count: u32,
-    list: &[u8],
-    lengths: Lengths,
-) -> Judged
-    ensures { λ r. ⌜ r ≡ judgedWith sound used write count (now (list .entry)) lengths ⌝ }
+// Judges a request of a card that is `sound` or not: 8, 1, 2, 3, then what is lent. No stored byte is looked at.
+pub fn judge(sound: bool, write: bool, list: &[u8], sizes: Sizes) -> Judged
+    ensures { λ r. ⌜ r ≡ judgedWith sound write (now (list .entry)) sizes ⌝ }
 {
     if !sound {
-        return Judged::Refused(Refusal::NotBuilt);
+        return Judged::Refused(Refusal::NotBuilt); // 8
     }
-    if 512 < count {
-        return Judged::Refused(Refusal::TooManyElements);
+    if MOST_ELEMENTS < sizes.count {
+        return Judged::Refused(Refusal::TooManyElements); // 1
     }
-    if 16 < lengths.codes {
-        return Judged::Refused(Refusal::TooManyCodes);
+    if MOST_CODES < sizes.codes {
+        return Judged::Refused(Refusal::TooManyCodes); // 2
     }
-    if !reader::list_ends(list, count as usize) {
-        return Judged::Refused(Refusal::ListLength);
+    if !reader::list_ends(list, sizes.count as usize) {
+        return Judged::Refused(Refusal::ListLength); // 3: the list ends early, or runs on
     }
-    lent_judged(
-        used,
-        write,
-        count as usize,
-        lengths.arena,
-        lengths.data,
-        lengths.room,
-    )
+    lent_judged(write, sizes)
 }

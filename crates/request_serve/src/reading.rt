@@ -8,8 +8,8 @@ use request_check::check::Checked;
 use request_check::table;
 use request_check::table::Table;
 use request_plan::Judged;
-use request_plan::Lengths;
 use request_plan::Reply;
+use request_plan::Sizes;
 ghost use mathlib.Core.Path.{_≡_};
 ghost use Prim.Native.Nat.{_*_, _≤_};
 ghost use lib.ListN.{length, take};
@@ -52,13 +52,15 @@ pub fn read(
     ensures { λ _. ⌜ now (out .exit) ≡ outputAfter (now (out .entry)) (serve card (now (arena .entry)) (readRequest «open» (now (codes .entry)) count (now (list .entry)) (length (now (out .entry))))) ⌝ }
 {
     let sound = card.is_sound();
-    let lengths = Lengths {
-        arena: arena.len(),
+    let sizes = Sizes {
+        used: card.used,
+        count,
         codes: codes.len(),
+        arena: arena.len(),
         data: 0,
         room: out.len(),
     };
-    match request_plan::judge(sound, card.used, false, count, list, lengths) {
+    match request_plan::judge(sound, false, list, sizes) {
         Judged::Refused(refusal) => Reply::Refused(refusal),
         Judged::ShortData => Reply::ShortData,
         Judged::Fit => {

@@ -7,8 +7,8 @@ use request_check::check::Checked;
 use request_check::table;
 use request_check::table::Table;
 use request_plan::Judged;
-use request_plan::Lengths;
 use request_plan::Reply;
+use request_plan::Sizes;
 use request_runs::run;
 use request_runs::run::Applied;
 ghost use mathlib.Core.Path.{_≡_};
@@ -103,13 +103,15 @@ pub fn write(
     ensures { λ r. ⌜ now (staging .exit) ≡ stagingBy r (16 * card .used) (now (staging .entry)) ⌝ }
 {
     let sound = card.is_sound();
-    let lengths = Lengths {
-        arena: arena.len(),
+    let sizes = Sizes {
+        used: card.used,
+        count,
         codes: codes.len(),
+        arena: arena.len(),
         data: data.len(),
         room: staging.len(),
     };
-    match request_plan::judge(sound, card.used, true, count, list, lengths) {
+    match request_plan::judge(sound, true, list, sizes) {
         Judged::Refused(refusal) => Reply::Refused(refusal),
         Judged::ShortData => {
             spans::zero(staging, 0, 16 * card.used);

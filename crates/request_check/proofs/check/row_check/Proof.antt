@@ -23,6 +23,12 @@ free : (c : tie.Else3) →
     (a .«open» && requiresKey (a .row .code)) ≡ false
 free c = sym (c .before .key-missing .ensures) ∙ c .if3 .left
 
+returns : tie.Need-returns
+returns c = no-mode _ _ _ _ _ (sym (c .before .mode-allowed .ensures) ∙ not-true _ (c .if1 .taken))
+
+returns-2 : tie.Need-returns-2
+returns-2 c = no-attribute _ _ _ _ _ (allowed (c .before .before)) (c .enum-told .given .1)
+
 returns-3 : tie.Need-returns-3
 returns-3 c =
     let d = c .before .before .before in
@@ -49,7 +55,7 @@ returns-6 c =
     let h = t .before .before in
     let f = h .before .before .before in
     let d = f .before .before .before in
-    passed _ _ _ _ _ (allowed (d .before .before)) (d .decoded .given .1) (found f) (free (h .before))
+    no-block _ _ _ _ _ (allowed (d .before .before)) (d .decoded .given .1) (found f) (free (h .before))
     (sym (h .attribute-check .ensures) ∙ t .enum-told2 .given .1) (c .if4 .taken)
 
 returns-7 : tie.Need-returns-7
@@ -58,7 +64,7 @@ returns-7 c =
     let h = t .before .before in
     let f = h .before .before .before in
     let d = f .before .before .before in
-    no-block _ _ _ _ _ (allowed (d .before .before)) (d .decoded .given .1) (found f) (free (h .before))
+    passed _ _ _ _ _ (allowed (d .before .before)) (d .decoded .given .1) (found f) (free (h .before))
     (sym (h .attribute-check .ensures) ∙ t .enum-told2 .given .1) (c .if4 .left)
 
 pub row-check-spec : {M : Type 1} → statement M
@@ -66,10 +72,10 @@ row-check-spec =
     tie.close
     (tie.spec
     (λ c κs. search needs)
-    (λ c. no-mode _ _ _ _ _ (sym (c .before .mode-allowed .ensures) ∙ not-true _ (c .if1 .taken)))
+    returns
     (λ c. search needs)
     (λ c. search needs)
-    (λ c. no-attribute _ _ _ _ _ (allowed (c .before .before)) (c .enum-told .given .1))
+    returns-2
     returns-3
     (λ c κs. search needs)
     returns-4

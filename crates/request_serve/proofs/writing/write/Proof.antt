@@ -34,12 +34,13 @@ fit c = judged (c .before .before) ∙ c .enum-told2 .given .1
 mul-zero : tie.Need-mul-zero
 mul-zero c =
     let st = start-of (c .before .before .before .before) in
-    omega (arith, short-fits (st .args .card) _ _ _ (no-data (c .before .before)), st .good .1 .0)
+    let a = st .args in
+    omega (arith, short-fits (a .card) _ _ refl (no-data (c .before .before)), st .good .1 .0)
 
 zero-requires : tie.Need-zero-requires
 zero-requires c κs =
     let st = start-of (c .before .before .before .before) in
-    omega (arith, short-fits (st .args .card) _ _ _ (no-data (c .before .before)))
+    omega (arith, short-fits (st .args .card) _ _ refl (no-data (c .before .before)))
 
 checked-write-requires : tie.Need-checked-write-requires
 checked-write-requires c κs = fit (c .before .before)
