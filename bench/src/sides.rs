@@ -162,7 +162,7 @@ impl Side for Library<'_> {
     fn ask(&mut self, turn: usize) -> Pair {
         let asked = &self.row.request;
         let request = Request {
-            keyless: asked.open,
+            open: asked.open,
             codes: &asked.codes,
             count: asked.count,
             list: &asked.list,

@@ -36,7 +36,7 @@ pub enum Failure {
 #[derive(Clone, Copy, Debug)]
 pub struct Request<'a> {
     /// True for an open request, which no service that needs a key serves; false in a session.
-    pub keyless: bool,
+    pub open: bool,
     /// The service codes, at most 16.
     pub codes: &'a [u16],
     /// How many elements the list has, at most 512.
@@ -167,7 +167,7 @@ impl Card {
                 arena.len(),
                 out.as_mut_ptr(),
                 out.len(),
-                request.keyless,
+                request.open,
                 request.codes.as_ptr(),
                 request.codes.len(),
                 request.count,
@@ -195,7 +195,7 @@ impl Card {
                 arena.len(),
                 staging.as_mut_ptr(),
                 staging.len(),
-                request.keyless,
+                request.open,
                 request.codes.as_ptr(),
                 request.codes.len(),
                 request.count,

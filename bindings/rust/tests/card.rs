@@ -21,7 +21,7 @@ fn race(arena: &mut [u8]) -> Card {
 fn blocks<'a>(codes: &'a [u16], count: usize) -> Request<'a> {
     const LIST: [u8; 6] = [0x80, 0, 0x80, 1, 0x80, 2];
     Request {
-        keyless: true,
+        open: true,
         codes,
         count: count as u32,
         list: &LIST[..2 * count],
