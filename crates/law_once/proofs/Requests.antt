@@ -27,6 +27,7 @@ use Rattle.request_check.proofs.table.table_of as request_check·table-of
 use Rattle.request_rules.proofs.element_on as request_rules·element-on
 use Rattle.request_rules.proofs.end_on as request_rules·end-on
 use Rattle.request_runs.proofs.run.apply as request_runs·apply
+use Rattle.request_plan.proofs.Reply.response as request_plan·Reply·response
 use Rattle.request_plan.proofs.Reply.status_flag1 as request_plan·Reply·status-flag1
 use Rattle.request_plan.proofs.Reply.status_flag2 as request_plan·Reply·status-flag2
 use Rattle.request_plan.proofs.judge as request_plan·judge
@@ -71,6 +72,9 @@ module _ {M : Type 1} (𝓤 : URA M) (H : Heap 𝓤) (A : Atoms 𝓤) (mem : Mem
       → ent 𝓤 (sep 𝓤 (Promised 𝓤 request_runs·apply.ended (request_runs·apply.clauses 𝓤 H A mem run) κs a tt r ws) (Promised 𝓤 request_runs·apply.ended (request_runs·apply.clauses 𝓤 H A mem run) κs a tt r′ ws′))
       (fact 𝓤 ((r ≡ r′) × (r ≡ Done → ws ≡ ws′)))
   request_runs·apply-once κs a r r′ ws ws′ = of-one 𝓤 (λ p q. let w = walked-once r r′ (ws .0) (ws′ .0) (sym p ∙ q) in (w .0, λ d i. (w .1 d i, (tt, (tt, (tt, (tt, tt)))))))
+
+  pub request_plan·Reply·response-once : OneAnswer 𝓤 request_plan·Reply·response.ended (request_plan·Reply·response.clauses 𝓤 H A mem run)
+  request_plan·Reply·response-once κs a g r r′ ws ws′ = result 𝓤 refl
 
   pub request_plan·Reply·status-flag1-once : OneAnswer 𝓤 request_plan·Reply·status-flag1.ended (request_plan·Reply·status-flag1.clauses 𝓤 H A mem run)
   request_plan·Reply·status-flag1-once κs a g r r′ ws ws′ = result 𝓤 refl

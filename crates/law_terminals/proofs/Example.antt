@@ -1,14 +1,15 @@
 -- The theorems are not empty: a card, an order with writes on both sides and its answers, computed; and an order of requests that
 -- name one number, where the answers differ. Assumes nothing.
-use Prim.Native.Nat.{ℕ, _≤_}
+use Prim.Native.Nat.{ℕ, zero, suc, _+_}
 use native.Mathlib.Omega.{arith}
-use mathlib.Core.Path.{_≡_, refl, subst}
-use mathlib.Core.Logic.{inl, inr}
-use mathlib.Core.Bool.{true, false≢true}
+use mathlib.Core.Path.{_≡_, refl, sym, subst}
+use mathlib.Core.Logic.{_⊎_, inl, inr, ⊎-elim}
+use mathlib.Core.Bool.{false, true, _||_, false≢true}
+use lib.Dec.{eqb}
 use mathlib.Core.List.{List, [], _∷_, _++_}
 use lib.ListN.{replicate}
 use Rattle.answers.specs.declared.status.Fault.{Fault}
-use Rattle.answers.specs.declared.status.Fault.the-variants.{BlockNumber, OutsideWord}
+use Rattle.answers.specs.declared.status.Fault.the-variants.{Attribute, BlockNumber, OutsideWord}
 use Rattle.answers.specs.declared.refusal.Refusal.{Refusal}
 use Rattle.answers.specs.declared.refusal.Refusal.the-variants.{ListLength}
 use Rattle.service_code.specs.Code.{numberOf, attributesOf, tableOf, decodedOf, attributeOf, codeKindOf, requiresKey}
@@ -36,8 +37,8 @@ use Rattle.request_plan.specs.Request.{Request, readRequest, writeRequest}
 use Rattle.request_plan.specs.Plan.{lentJudged, judgedWith, planOf}
 use Rattle.request_plan.specs.Serve.{blocksRead, committed, carried, serve, outputAfter}
 use Rattle.law_terminals.specs.Orders.{Sent, by, one, two, only, all, after, answers, told, Undisturbed}
-use Rattle.law_terminals.specs.Two.{Answer, answerOf, arenaAfter, Any, Names, NoneShared}
-use Rattle.law_terminals.specs.Last.{arenaThen, Redrawn}
+use Rattle.law_terminals.specs.Two.{Answer, answerOf, arenaAfter, Any, Names, HasNumber, NoneShared}
+use Rattle.law_terminals.specs.Last.{NamesBlock, arenaThen, Redrawn}
 use Rattle.law_terminals.proofs.Generic.{All}
 use Rattle.law_terminals.proofs.Two.{two-terminals}
 use Rattle.law_terminals.proofs.Last.{tower-reads}
@@ -95,8 +96,12 @@ fails f = record { reply = Failed 0 f; read = [] }
 abbrev refused : Refusal → Answer
 refused x = record { reply = Refused x; read = [] }
 
--- one writes a lane, reads it through the other service, asks for a lane that is not there, and sends a request cut short;
--- two pays twice from a credit of 100, the second time too much, writes to its ring, and pays the rest
+-- an open read that lists FFFF, the root's code and an unknown one beside a code, and names block 0 of the code at an index
+abbrev listing : ℕ → ℕ → Request
+listing code index = readRequest true (0xffff ∷ 0 ∷ 0x2009 ∷ code ∷ []) 1 ((0x80 + index) ∷ 0 ∷ []) 16
+
+-- one writes a lane, reads it through the other service, asks for a lane that is not there, and sends a request cut short; both list
+-- FFFF, the root's code and an unknown one, and one names the first of them; two pays twice from a credit of 100, the second time too much, writes to its ring, and pays the rest
 abbrev order : List (Sent Request)
 order =
     by two (paying 60 1)
@@ -106,7 +111,9 @@ order =
     ∷ by two (writing 0x10cd 0 (replicate 16 5))
     ∷ by one (reading 0x1049 2)
     ∷ by one (cut 0x104b)
+    ∷ by one (listing 0x104b 0)
     ∷ by two (paying 40 3)
+    ∷ by two (listing 0x10cd 3)
     ∷ []
 
 -- what an order is told at this card
@@ -132,14 +139,16 @@ Told =
     ∷ by two (done [])
     ∷ by one (fails BlockNumber)
     ∷ by one (refused ListLength)
+    ∷ by one (fails Attribute)
     ∷ by two (done [])
+    ∷ by two (done (replicate 16 5))
     ∷ []
 
 -- the answers of one alone, and of two alone
 abbrev Alone : Type 0
 Alone =
-    (toldAlone (only one order) ≡ done [] ∷ done (replicate 16 9) ∷ fails BlockNumber ∷ refused ListLength ∷ [])
-    × (toldAlone (only two order) ≡ done [] ∷ fails OutsideWord ∷ done [] ∷ done [] ∷ [])
+    (toldAlone (only one order) ≡ done [] ∷ done (replicate 16 9) ∷ fails BlockNumber ∷ refused ListLength ∷ fails Attribute ∷ [])
+    × (toldAlone (only two order) ≡ done [] ∷ fails OutsideWord ∷ done [] ∷ done [] ∷ done (replicate 16 5) ∷ [])
 
 -- the arena after it: the lane written, all credit paid (40 by id 3), the ring turned
 abbrev Ends : Type 0
@@ -178,6 +187,16 @@ Redraws =
     (towerTold between ≡ done (replicate 16 3))
     × (towerTold (between ++ (writing 0x1049 1 (replicate 16 4) ∷ [])) ≡ done (replicate 16 4))
 
+-- a number of which the card has a service, by the numbers of its services
+has-one : {k : ℕ} → HasNumber card k → (k ≡ 0x41) ⊎ (k ≡ 0x42) ⊎ (k ≡ 0x43)
+unfolding addService placedOf parentAt parentFrom openAt firstFrom serviceUnder outside sameKind joinedTo usable newStore numberOf attributesOf tableOf decodedOf attributeOf codeKindOf
+has-one (inl h) = absurd (false≢true (h .0))
+has-one (inr (inl h)) = inl (sym (h .1))
+has-one (inr (inr (inl h))) = inl (sym (h .1))
+has-one (inr (inr (inr (inl h)))) = inr (inl (sym (h .1)))
+has-one (inr (inr (inr (inr (inl h))))) = inr (inr (sym (h .1)))
+has-one (inr (inr (inr (inr (inr h))))) = absurd h
+
 -- what holds of the number of each code holds of each number that is named
 module _ (Q : ℕ → Type 0) where
   of-codes : (codes : List ℕ) → All (λ code. Q (numberOf code)) codes → (k : ℕ) → Any (λ code. numberOf code ≡ k) codes → Q k
@@ -190,26 +209,26 @@ module _ (Q : ℕ → Type 0) where
   of-requests (r ∷ rs) f k (inl h) = of-codes (r .codes) (f .0) k h
   of-requests (r ∷ rs) f k (inr h) = of-requests rs (f .1) k h
 
--- the order is one of the theorem: one names 41h only, two 42h and 43h
-order-apart : NoneShared (only one order) (only two order)
+-- the order is one of the theorem: of the card's numbers one names 41h only, and two 42h and 43h
+order-apart : NoneShared card (only one order) (only two order)
 unfolding only numberOf
-order-apart k p q =
-    let x : k ≤ 0x41 =
-    of-requests (λ n. n ≤ 0x41) (only one order)
-    ((omega arith, tt), ((omega arith, tt), ((omega arith, tt), ((omega arith, tt), tt)))) k p in
-    let y : 0x42 ≤ k =
-    of-requests (λ n. 0x42 ≤ n) (only two order)
-    ((omega arith, tt), ((omega arith, tt), ((omega arith, tt), ((omega arith, tt), tt)))) k q in
-    omega arith
+order-apart k h p q =
+    let x : eqb k 0x42 || eqb k 0x43 ≡ false =
+    of-requests (λ n. eqb n 0x42 || eqb n 0x43 ≡ false) (only one order)
+    ((refl, tt), ((refl, tt), ((refl, tt), ((refl, tt), ((refl, (refl, (refl, (refl, tt)))), tt))))) k p in
+    let y : eqb k 0x41 ≡ false =
+    of-requests (λ n. eqb n 0x41 ≡ false) (only two order)
+    ((refl, tt), ((refl, tt), ((refl, tt), ((refl, tt), ((refl, (refl, (refl, (refl, tt)))), tt))))) k q in
+    ⊎-elim (λ e. false≢true (sym (rw e at y))) (⊎-elim (λ e. false≢true (sym (rw e at x))) (λ e. false≢true (sym (rw e at x)))) (has-one h)
 
 order-undisturbed : Undisturbed (answerOf card) (arenaAfter card) arena order
 order-undisturbed = two-terminals card-built arena order order-apart
 
 -- a payment names no lane
-unnamed : Names 0x41 (paying 60 1) → ⊥
-unfolding numberOf
-unnamed (inl h) = omega arith
-unnamed (inr h) = h
+unnamed : (i : ℕ) → NamesBlock 0x41 1 (paying 60 1) i → ⊥
+unfolding numberOf unpackAt elementsFrom
+unnamed zero h = let n = h .number in omega arith
+unnamed (suc i) h = let l = h .listed in omega arith
 
 -- these are requests of the theorem
 abbrev IsRedrawn : Type 0
@@ -235,8 +254,8 @@ computed = (
       bytes = refl;
     };
     quiet = (
-      λ t e n. let z : _≡_ {A = ℕ} 0 1 = cc in omega arith,
-      (λ t e n. let z : _≡_ {A = ℕ} 0 1 = cc in omega arith, (λ t e n. unnamed n, (λ t e n. absurd (false≢true t), tt))),
+      λ t e i n. let z : _≡_ {A = ℕ} 0 1 = cc in omega arith,
+      (λ t e i n. let z : _≡_ {A = ℕ} 0 1 = cc in omega arith, (λ t e i n. unnamed i n, (λ t e i n. absurd (false≢true t), tt))),
     );
     read = refl;
     answered = refl;

@@ -122,7 +122,7 @@ module _ (c : Card) where
 
 -- Two terminals' runs.
 module _ {c : Card} (b : Built c) (a : List ℕ) (zs : List (Sent Turn)) (e : List ℕ) (ran : Ran c a (all zs) e)
-    (none : NoneShared (requestsOf (only one zs)) (requestsOf (only two zs))) where
+    (none : NoneShared c (requestsOf (only one zs)) (requestsOf (only two zs))) where
   -- the order of their calls
   abbrev calls : List (Sent Call)
   calls = marked (λ (t : Turn). t .call) zs
@@ -134,7 +134,7 @@ module _ {c : Card} (b : Built c) (a : List ℕ) (zs : List (Sent Turn)) (e : Li
 
   -- is undisturbed
   apart : Undisturbed (left c) (next c) a calls
-  apart = two-askers c requestOf (leaves c) b a calls (λ k p q. none k (named one k p) (named two k q))
+  apart = two-askers c requestOf (leaves c) b a calls (λ k h p q. none k h (named one k p) (named two k q))
 
   told-each : (t : Terminal) → only t (told (left c) (next c) a calls) ≡ answers (left c) (next c) a (only t calls)
   told-each one = apart .told-one

@@ -15,9 +15,9 @@ use Rattle.request_plan.specs.Serve.{serve, outputAfter, stagingBy}
 use Rattle.request_plan.proofs.Same.{Same, same-refl, same-sym, same-trans, same-whole}
 use Rattle.request_plan.proofs.Frame.{LiesIn, serve-keeps, serve-spares}
 use Rattle.law_terminals.specs.Orders.{Terminal, one, two, Sent, only, Undisturbed}
-use Rattle.law_terminals.specs.Two.{Answer, answerOf, outputOf, stagingOf, arenaAfter, Any, Names, TwoTerminals}
+use Rattle.law_terminals.specs.Two.{Answer, answerOf, outputOf, stagingOf, arenaAfter, Any, Names, HasNumber, TwoTerminals}
 use Rattle.law_terminals.proofs.Generic.{All, other, Views, undisturbed}
-use Rattle.law_terminals.proofs.Owned.{Holds, own-row, one-number}
+use Rattle.law_terminals.proofs.Owned.{Holds, holds-has, own-row, one-number}
 
 -- The terminals ask by whatever makes a request (`ask`), and keep of the answer whatever they keep (`leave`): requests and their
 -- answers themselves, or calls and the buffers that they leave.
@@ -33,8 +33,8 @@ module _ (c : Card) {K L : Type 0} (ask : K → Request) (leave : K → Answer �
   named-all [] N w = tt
   named-all (x ∷ xs) N w = (λ k n. w k (inl n), named-all xs N (λ k n. w k (inr n)))
 
-  -- the numbers of the two terminals, none of them shared
-  module _ (N : Terminal → ℕ → Type 0) (none : (k : ℕ) → N one k → N two k → ⊥) where
+  -- the numbers of the two terminals, none of a service of the card shared
+  module _ (N : Terminal → ℕ → Type 0) (none : (k : ℕ) → HasNumber c k → N one k → N two k → ⊥) where
     -- one sees the bytes of its stores, two all others
     Seen : Terminal → ℕ → Type 0
     Seen one i = (k : ℕ) × N one k × Holds (nodesOf c) k i
@@ -52,7 +52,7 @@ module _ (c : Card) {K L : Type 0} (ask : K → Request) (leave : K → Answer �
       inside : (t : Terminal) (i k : ℕ) → Holds (nodesOf c) k i → N t k → Seen t i
       unfolding Seen
       inside one i k h n = (k, n, h)
-      inside two i k h n = λ s. none k (subst (N one) (one-number l i (s .0) k (s .2) h) (s .1)) n
+      inside two i k h n = λ s. none k (holds-has c h) (subst (N one) (one-number l i (s .0) k (s .2) h) (s .1)) n
 
       -- and the other does not
       outside : (t : Terminal) (i k : ℕ) → Holds (nodesOf c) k i → N (other t) k → Seen t i → ⊥
@@ -88,7 +88,7 @@ module _ (c : Card) {K L : Type 0} (ask : K → Request) (leave : K → Answer �
   -- no order disturbs either
   pub two-askers
       : Built c → (a : List ℕ) (zs : List (Sent K))
-      → ((k : ℕ) → Any (λ x. Names k (ask x)) (only one zs) → Any (λ x. Names k (ask x)) (only two zs) → ⊥)
+      → ((k : ℕ) → HasNumber c k → Any (λ x. Names k (ask x)) (only one zs) → Any (λ x. Names k (ask x)) (only two zs) → ⊥)
       → Undisturbed leftOf arenaOf a zs
   unfolding Fits
   two-askers b a zs none =
@@ -96,7 +96,7 @@ module _ (c : Card) {K L : Type 0} (ask : K → Request) (leave : K → Answer �
       undisturbed leftOf arenaOf (Sees N none) (Fits N none) (views N none (laid b)) a zs
       (named-all (only one zs) (N one) (λ k n. n)) (named-all (only two zs) (N two) (λ k n. n))
 
--- on every finished card no terminal disturbs another with which it shares no service number
+-- on every finished card no terminal disturbs another with which it shares no number of a service of the card
 pub two-terminals : {c : Card} → Built c → TwoTerminals c
 two-terminals {c} b = two-askers c (λ r. r) (λ r x. x) b
 

@@ -65,10 +65,10 @@ pub record Apart (c : Card) (a : List ℕ) (zs : List (Sent Turn)) (e : List ℕ
   -- so with all of two and then all of one
   pub two-first : (ts : List Turn) (b : List ℕ) → Ran c a ts b → callsOf ts ≡ callsOf (only two zs ++ only one zs) → b ≡ e
 
--- At the card c: any run of both terminals' calls, in whatever order they came, where no service number is named by both.
+-- At the card c: any run of both terminals' calls, in whatever order they came, where no number of a service of the card is named by both.
 abbrev pub TwoRuns : Card → Type 0
 TwoRuns c =
     (a : List ℕ) (zs : List (Sent Turn)) (e : List ℕ)
     → Ran c a (all zs) e
-    → NoneShared (requestsOf (only one zs)) (requestsOf (only two zs))
+    → NoneShared c (requestsOf (only one zs)) (requestsOf (only two zs))
     → Apart c a zs e
