@@ -5,8 +5,8 @@ use lib.ListN.{length-set}
 use denote.Ref.{now}
 use borrow.Author.Needs.{needs}
 use Rattle.handset_bytes.proofs.Writes.{node-put}
-use Rattle.handset_bytes.proofs.encoding_node.write.Statement.{statement}
-use Rattle.handset_bytes.proofs.encoding_node.write.Tie as tie
+use Rattle.handset_bytes.proofs.node.write.Statement.{statement}
+use Rattle.handset_bytes.proofs.node.write.Tie as tie
 
 put-half-requires : tie.Need-put-half-requires
 put-half-requires c κs = simp length-set (omega arith)

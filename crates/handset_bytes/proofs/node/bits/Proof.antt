@@ -3,8 +3,8 @@ use native.Mathlib.Omega.{arith}
 use mathlib.Core.Path.{_∙_, ap}
 use Rattle.byte_parts.specs.Word.{wordOf}
 use Rattle.byte_parts.proofs.Laws.{widens, widened}
-use Rattle.handset_bytes.proofs.encoding_node.bits.Statement.{statement}
-use Rattle.handset_bytes.proofs.encoding_node.bits.Tie as tie
+use Rattle.handset_bytes.proofs.node.bits.Statement.{statement}
+use Rattle.handset_bytes.proofs.node.bits.Tie as tie
 
 cast-unsigned : tie.Need-cast-unsigned
 cast-unsigned c = widens (c .args .bound) (c .fits .bound .sfits)

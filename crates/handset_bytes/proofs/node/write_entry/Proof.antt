@@ -1,8 +1,8 @@
 -- The stores of an area, and those of a service.
 use borrow.Author.Needs.{needs}
 use Rattle.handset_bytes.proofs.Writes.{area-put, service-put}
-use Rattle.handset_bytes.proofs.encoding_node.write_entry.Statement.{statement}
-use Rattle.handset_bytes.proofs.encoding_node.write_entry.Tie as tie
+use Rattle.handset_bytes.proofs.node.write_entry.Statement.{statement}
+use Rattle.handset_bytes.proofs.node.write_entry.Tie as tie
 
 returns : tie.Need-returns
 returns c = area-put _ _ _ _ (c .before .before .before .before .before .before .put-half .ensures) (c .before .before .zero .ensures) (c .before .before .before .before .before .before .before .before .before .entry .given .1)

@@ -7,8 +7,8 @@ use borrow.Author.Needs.{needs}
 use Rattle.byte_parts.specs.Word.{wordOf}
 use Rattle.byte_parts.proofs.Laws.{clean}
 use Rattle.handset_bytes.proofs.Writes.{limit-put}
-use Rattle.handset_bytes.proofs.encoding_node.write_limit.Statement.{statement}
-use Rattle.handset_bytes.proofs.encoding_node.write_limit.Tie as tie
+use Rattle.handset_bytes.proofs.node.write_limit.Statement.{statement}
+use Rattle.handset_bytes.proofs.node.write_limit.Tie as tie
 
 put-word-requires : tie.Need-put-word-requires
 put-word-requires c κs = simp length-set (omega arith)

@@ -6,8 +6,8 @@ use lib.ListN.{length-set}
 use borrow.Author.Needs.{needs}
 use Rattle.byte_parts.specs.Part.{put}
 use Rattle.handset_bytes.specs.Node.{halfBytes}
-use Rattle.handset_bytes.proofs.encoding_half.put_half.Statement.{statement}
-use Rattle.handset_bytes.proofs.encoding_half.put_half.Tie as tie
+use Rattle.handset_bytes.proofs.half.put_half.Statement.{statement}
+use Rattle.handset_bytes.proofs.half.put_half.Tie as tie
 
 returns : tie.Need-returns
 unfolding put halfBytes

@@ -1,7 +1,7 @@
 -- Done, or the refusal.
 use borrow.Author.Needs.{needs}
-use Rattle.handset.proofs.blocks.answered.Statement.{statement}
-use Rattle.handset.proofs.blocks.answered.Tie as tie
+use Rattle.handset.proofs.outcome.answered.Statement.{statement}
+use Rattle.handset.proofs.outcome.answered.Tie as tie
 
 pub answered-spec : {M : Type 1} → statement M
 answered-spec =
