@@ -29,14 +29,14 @@ use Rattle.card_build.specs.Grow.{addArea, addService, setLimit}
 use Rattle.card_laws.specs.Built.{Built, new, area, service, limit}
 use Rattle.card_laws.proofs.Laid.{sized}
 use Rattle.request_check.specs.Row.{rowOf}
-use Rattle.request_check.specs.Check.{modeAllowed, attributeCheck, rowCheck, elementCheck, checkedFrom}
+use Rattle.request_check.specs.Check.{modeAllowed, attributeCheck, serviceCheck, rowCheck, elementCheck, checkedFrom}
 use Rattle.request_rules.specs.Lens.{back, within}
 use Rattle.request_rules.specs.Rules.{cashbackIn, elementBy, endBy, onStore}
 use Rattle.request_runs.specs.Runs.{then, push, runsOf, scan, walk}
 use Rattle.request_runs.specs.Staged.{staged}
 use Rattle.request_plan.specs.declared.Reply.the-variants.{Refused, Done, Failed}
 use Rattle.request_plan.specs.Request.{Request, readRequest, writeRequest}
-use Rattle.request_plan.specs.Plan.{lentJudged, judgedWith, planOf}
+use Rattle.request_plan.specs.Plan.{writeJudged, readJudged, judgedWith, planOf}
 use Rattle.request_plan.specs.Serve.{blocksRead, committed, carried, serve, outputAfter}
 use Rattle.law_terminals.specs.Orders.{Marked, by, one, two, only, all, after, answers, told, Undisturbed}
 use Rattle.law_terminals.specs.Two.{Answer, answerOf, arenaAfter, Any, All, Names, HasNumber, NoneShared}
@@ -253,7 +253,7 @@ Raced =
 
 -- all of it, computed by the definitions
 computed : Told × Alone × Ends × Disturbed × Redraws × IsRedrawn × Raced
-unfolding addArea areaJudged areaUnder rootMisfit setLimit addService placedOf parentAt parentFrom openAt firstFrom serviceUnder outside sameKind joinedTo usable newStore numberOf attributesOf tableOf decodedOf attributeOf codeKindOf requiresKey unpackAt endsFrom endsAfter elementsFrom part put sameBytes wordAt wordBytes signedOf wordOf cyclicOf valueOf insideOf outsideOf sumOf storedOf purseRule purseDataOf blockOf purseOf isRoot allRoots stepOf stepsFrom stepsOf soundOf rowOf modeAllowed attributeCheck rowCheck elementCheck checkedFrom then push runsOf scan walk back within cashbackIn elementBy endBy onStore staged lentJudged judgedWith planOf blocksRead committed carried serve only all after answers told
+unfolding addArea areaJudged areaUnder rootMisfit setLimit addService placedOf parentAt parentFrom openAt firstFrom serviceUnder outside sameKind joinedTo usable newStore numberOf attributesOf tableOf decodedOf attributeOf codeKindOf requiresKey unpackAt endsFrom endsAfter elementsFrom part put sameBytes wordAt wordBytes signedOf wordOf cyclicOf valueOf insideOf outsideOf sumOf storedOf purseRule purseDataOf blockOf purseOf isRoot allRoots stepOf stepsFrom stepsOf soundOf rowOf modeAllowed attributeCheck serviceCheck rowCheck elementCheck checkedFrom then push runsOf scan walk back within cashbackIn elementBy endBy onStore staged writeJudged readJudged judgedWith planOf blocksRead committed carried serve only all after answers told
 computed = (
   refl,
   (refl, refl),

@@ -19,7 +19,7 @@ use Rattle.request_check.specs.declared.check.Check.{Check}
 use Rattle.request_check.specs.declared.check.Check.the-variants.{Passed, Failed}
 use Rattle.request_check.specs.declared.check.Checked.the-variants.{Passed as AllPassed}
 use Rattle.request_check.specs.Row.{rowIn}
-use Rattle.request_check.specs.Check.{modeAllowed, attributeCheck, thenCheck, definedCheck, rowCheck, elementCheck, nextCheck, checkedFrom}
+use Rattle.request_check.specs.Check.{modeAllowed, attributeCheck, thenCheck, serviceCheck, definedCheck, rowCheck, elementCheck, nextCheck, checkedFrom}
 
 -- each element passes its check
 abbrev pub AllPass : List Row → Bool → Bool → List BlockListElement → Type 0
@@ -76,6 +76,7 @@ module _ (rows : List Row) (write «open» : Bool) (e : BlockListElement) where
   -- by the attribute of its row
   good-row : (d : Decoded) → e .index < length rows → modeAllowed write (e .mode) ≡ true → rowIn rows e .attribute ≡ d →
       definedCheck (rowIn rows e) write «open» (e .number) (e .mode) d ≡ Passed → Good rows write e
+  unfolding serviceCheck
   good-row Undefined k m a h = never h
   good-row (Defined attribute) k m a h =
       let w = rowIn rows e in

@@ -33,15 +33,20 @@ abbrev pub thenCheck : Check → Check → Check
 thenCheck Passed more = more
 thenCheck (Failed f) more = Failed f
 
--- A4, A6, A5 (key), on a write A5 (read-only, no cashback), A8
+-- A5 (key), on a write A5 (read-only, no cashback), A8
+unfoldable pub serviceCheck : Row → ServiceAttribute → Bool → Bool → ℕ → ℕ → Check
+serviceCheck w a write «open» number mode =
+    cond («open» && requiresKey (w .code)) (Failed KeyNeeded)
+    (thenCheck (attributeCheck write a mode)
+    (cond (leb (w .blocks) number) (Failed BlockNumber)
+    Passed))
+
+-- A4, A6, then those of the service
 abbrev pub definedCheck : Row → Bool → Bool → ℕ → ℕ → Decoded → Check
 definedCheck w write «open» number mode Undefined = Failed Attribute
 definedCheck w write «open» number mode (Defined a) =
     cond (not (w .found)) (Failed NoService)
-    (cond («open» && requiresKey (w .code)) (Failed KeyNeeded)
-    (thenCheck (attributeCheck write a mode)
-    (cond (leb (w .blocks) number) (Failed BlockNumber)
-    Passed)))
+    (serviceCheck w a write «open» number mode)
 
 -- A7, then those by the row's attribute
 unfoldable pub rowCheck : Row → Bool → Bool → ℕ → ℕ → Check

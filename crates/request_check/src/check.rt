@@ -13,7 +13,7 @@ ghost use mathlib.Core.Bool.{_&&_};
 ghost use lib.ListN.{take};
 ghost use Rattle.service_code.specs.Code.{requiresKey};
 ghost use Rattle.block_list.specs.Element.{elementsFrom};
-ghost use Rattle.request_check.specs.Check.{modeAllowed, attributeCheck, rowCheck, namedCheck, checkedFrom};
+ghost use Rattle.request_check.specs.Check.{modeAllowed, attributeCheck, serviceCheck, rowCheck, namedCheck, checkedFrom};
 
 // How an element's check ended.
 pub enum Check {
@@ -64,7 +64,30 @@ fn key_missing(open: bool, code: u16) -> bool
     }
 }
 
-// Checks an element's number and mode against the row that it names.
+// Checks what the service of a row lets a request do, and that its store has the block.
+fn service_check(
+    row: Row,
+    attribute: ServiceAttribute,
+    write: bool,
+    open: bool,
+    number: u16,
+    mode: u8,
+) -> Check
+    ensures { λ r. ⌜ r ≡ serviceCheck row attribute write «open» number mode ⌝ }
+{
+    if key_missing(open, row.code) {
+        return Check::Failed(Fault::KeyNeeded); // A5
+    }
+    if let Check::Failed(fault) = attribute_check(write, attribute, mode) {
+        return Check::Failed(fault);
+    }
+    if row.blocks <= number {
+        return Check::Failed(Fault::BlockNumber); // A8
+    }
+    Check::Passed
+}
+
+// Checks an element's mode and number against the row that it names.
 fn row_check(row: Row, write: bool, open: bool, number: u16, mode: u8) -> Check
     ensures { λ r. ⌜ r ≡ rowCheck row write «open» number mode ⌝ }
 {
@@ -78,16 +101,7 @@ fn row_check(row: Row, write: bool, open: bool, number: u16, mode: u8) -> Check
     if !row.found {
         return Check::Failed(Fault::NoService); // A6
     }
-    if key_missing(open, row.code) {
-        return Check::Failed(Fault::KeyNeeded); // A5
-    }
-    if let Check::Failed(fault) = attribute_check(write, attribute, mode) {
-        return Check::Failed(fault);
-    }
-    if row.blocks <= number {
-        return Check::Failed(Fault::BlockNumber); // A8
-    }
-    Check::Passed
+    service_check(row, attribute, write, open, number, mode)
 }
 
 // Checks one element against the row at its index, of which the first `count` are the codes'.

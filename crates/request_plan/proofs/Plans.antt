@@ -1,51 +1,15 @@
--- What `lentJudged` and `judgedWith` are in each of their cases.
+-- What `judgedWith` is in each of its cases.
 use mathlib.Core.Path.{_≡_}
 use mathlib.Core.Bool.{Bool, true, false}
 use mathlib.Core.List.{List}
-use Prim.Native.Nat.{ℕ, _*_, _/_, _≤_, _<_}
-use native.Mathlib.Omega.{arith}
-use borrow.Author.Tests.{lt-ltb, le-ltb}
-use Rattle.answers.specs.declared.refusal.Refusal.the-variants.{TooManyElements, TooManyCodes, ListLength, ShortStaging, ShortOutput, ShortArena, NotBuilt}
+use Prim.Native.Nat.{ℕ, _*_}
+use lib.Dec.{ltb}
+use Rattle.answers.specs.declared.refusal.Refusal.the-variants.{TooManyElements, TooManyCodes, ListLength, ShortArena, NotBuilt}
 use Rattle.block_list.specs.Element.{endsAfter}
 use Rattle.request_plan.specs.declared.Sizes.{Sizes}
 use Rattle.request_plan.specs.declared.Judged.{Judged}
-use Rattle.request_plan.specs.declared.Judged.the-variants.{Refused as NotFit, ShortData as NoData, Fit}
-use Rattle.request_plan.specs.Plan.{lentJudged, judgedWith}
-
-module _ (n : Sizes) where
-  -- the blocks in use do not fit the arena
-  pub short-arena : (write : Bool) → n .arena / 16 < n .used → NotFit ShortArena ≡ lentJudged write n
-  unfolding lentJudged
-  short-arena write h = rw (lt-ltb (n .arena) (16 * n .used) (omega arith))
-
-  module _ {write : Bool} (a : n .used ≤ n .arena / 16) where
-    -- nor the staging
-    pub short-staging : write ≡ true → n .room / 16 < n .used → NotFit ShortStaging ≡ lentJudged write n
-    unfolding lentJudged
-    short-staging w h = rw (le-ltb (n .arena) (16 * n .used) (omega arith), w, lt-ltb (n .room) (16 * n .used) (omega arith))
-
-    module _ (w : write ≡ true) (r : n .used ≤ n .room / 16) where
-      -- too few data
-      pub short-data : n .«data» / 16 < n .count → NoData ≡ lentJudged write n
-      unfolding lentJudged
-      short-data h =
-          rw (le-ltb (n .arena) (16 * n .used) (omega arith), w, le-ltb (n .room) (16 * n .used) (omega arith), lt-ltb (n .«data») (16 * n .count) (omega arith))
-
-      -- a write that fits
-      pub write-fits : n .count ≤ n .«data» / 16 → Fit ≡ lentJudged write n
-      unfolding lentJudged
-      write-fits h =
-          rw (le-ltb (n .arena) (16 * n .used) (omega arith), w, le-ltb (n .room) (16 * n .used) (omega arith), le-ltb (n .«data») (16 * n .count) (omega arith))
-
-    -- too short an output
-    pub short-output : write ≡ false → n .room / 16 < n .count → NotFit ShortOutput ≡ lentJudged write n
-    unfolding lentJudged
-    short-output w h = rw (le-ltb (n .arena) (16 * n .used) (omega arith), w, lt-ltb (n .room) (16 * n .count) (omega arith))
-
-    -- a read that fits
-    pub read-fits : write ≡ false → n .count ≤ n .room / 16 → Fit ≡ lentJudged write n
-    unfolding lentJudged
-    read-fits w h = rw (le-ltb (n .arena) (16 * n .used) (omega arith), w, le-ltb (n .room) (16 * n .count) (omega arith))
+use Rattle.request_plan.specs.declared.Judged.the-variants.{Refused as NotFit}
+use Rattle.request_plan.specs.Plan.{writeJudged, readJudged, judgedWith}
 
 module _ (sound write : Bool) (list : List ℕ) (n : Sizes) where
   -- a card that was not built
@@ -54,24 +18,36 @@ module _ (sound write : Bool) (list : List ℕ) (n : Sizes) where
   not-built s = rw s
 
   module _ (s : sound ≡ true) where
-    -- more than 512 elements
-    pub many-elements : 512 < n .count → NotFit TooManyElements ≡ judgedWith sound write list n
+    -- too many elements
+    pub elements-refused : ltb 512 (n .count) ≡ true → NotFit TooManyElements ≡ judgedWith sound write list n
     unfolding judgedWith
-    many-elements h = rw (s, lt-ltb 512 (n .count) h)
+    elements-refused h = rw (s, h)
 
-    module _ (f : n .count ≤ 512) where
-      -- more than 16 codes
-      pub many-codes : 16 < n .codes → NotFit TooManyCodes ≡ judgedWith sound write list n
+    module _ (f : ltb 512 (n .count) ≡ false) where
+      -- too many codes
+      pub codes-refused : ltb 16 (n .codes) ≡ true → NotFit TooManyCodes ≡ judgedWith sound write list n
       unfolding judgedWith
-      many-codes h = rw (s, le-ltb 512 (n .count) f, lt-ltb 16 (n .codes) h)
+      codes-refused h = rw (s, f, h)
 
-      module _ (g : n .codes ≤ 16) where
+      module _ (g : ltb 16 (n .codes) ≡ false) where
         -- a list that ends early, or runs on
         pub bad-list : endsAfter list (n .count) ≡ false → NotFit ListLength ≡ judgedWith sound write list n
         unfolding judgedWith
-        bad-list e = rw (s, le-ltb 512 (n .count) f, le-ltb 16 (n .codes) g, e)
+        bad-list e = rw (s, f, g, e)
 
-        -- then what is lent
-        pub lent : {j : Judged} → endsAfter list (n .count) ≡ true → j ≡ lentJudged write n → j ≡ judgedWith sound write list n
-        unfolding judgedWith
-        lent e k = rw (s, le-ltb 512 (n .count) f, le-ltb 16 (n .codes) g, e) k
+        module _ (e : endsAfter list (n .count) ≡ true) where
+          -- the blocks in use do not fit the arena
+          pub short-arena : ltb (n .arena) (16 * n .used) ≡ true → NotFit ShortArena ≡ judgedWith sound write list n
+          unfolding judgedWith
+          short-arena h = rw (s, f, g, e, h)
+
+          module _ (a : ltb (n .arena) (16 * n .used) ≡ false) {j : Judged} where
+            -- then what is lent to a write
+            pub to-write : write ≡ true → j ≡ writeJudged n → j ≡ judgedWith sound write list n
+            unfolding judgedWith writeJudged readJudged
+            to-write w k = rw (s, f, g, e, a, w) k
+
+            -- or to a read
+            pub to-read : write ≡ false → j ≡ readJudged n → j ≡ judgedWith sound write list n
+            unfolding judgedWith writeJudged readJudged
+            to-read w k = rw (s, f, g, e, a, w) k

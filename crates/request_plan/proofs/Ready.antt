@@ -1,6 +1,6 @@
 -- Where a card is sound and all elements passed, each names a block of a store that lies among the blocks in use.
 use mathlib.Core.Path.{_≡_}
-use mathlib.Core.Bool.{Bool, true, false, not, _&&_}
+use mathlib.Core.Bool.{Bool, true, false, not}
 use mathlib.Core.List.{List, [], _∷_}
 use Prim.Native.Nat.{ℕ, zero, suc, _+_, _*_, _≤_, _<_}
 use native.Mathlib.Omega.{arith}
@@ -31,7 +31,7 @@ use Rattle.request_runs.specs.Ready.{Ready, AllReady}
 use Rattle.request_plan.specs.declared.Sizes.{Sizes}
 use Rattle.request_plan.specs.declared.Judged.the-variants.{Refused as NotFit, ShortData as NoData, Fit}
 use Rattle.request_plan.specs.Request.{Request}
-use Rattle.request_plan.specs.Plan.{lentJudged, judgedWith, judgedOf}
+use Rattle.request_plan.specs.Plan.{writeJudged, readJudged, judgedWith, judgedOf}
 use Rattle.request_plan.proofs.Tests.{passed-over}
 
 -- the blocks up to the end of a row's store
@@ -105,19 +105,18 @@ no-data : NoData ≡ Fit → ⊥
 no-data e = let z : _≡_ {A = ℕ} 0 1 = cc in omega arith
 
 module _ (n : Sizes) where
-  -- what is lent, where it fits
-  lent-fits : (write : Bool) → lentJudged write n ≡ Fit →
-      (16 * n .used ≤ n .arena) × (write ≡ true → (16 * n .used ≤ n .room) × (16 * n .count ≤ n .«data»)) × (write ≡ false → 16 * n .count ≤ n .room)
-  unfolding lentJudged
-  lent-fits write e =
-      let a = passed-over (not-fit {r = ShortArena}) (ltb (n .arena) (16 * n .used)) _ e in
-      let s = passed-over (not-fit {r = ShortStaging}) (write && ltb (n .room) (16 * n .used)) _ (a .1) in
-      let o = passed-over (not-fit {r = ShortOutput}) (not write && ltb (n .room) (16 * n .count)) _ (s .1) in
-      let d = passed-over no-data (write && ltb (n .«data») (16 * n .count)) _ (o .1) in (
-        ltb-false (n .arena) (16 * n .used) (a .0),
-        (λ w. (ltb-false (n .room) (16 * n .used) (rw w at (s .0)), ltb-false (n .«data») (16 * n .count) (rw w at (d .0)))),
-        (λ w. ltb-false (n .room) (16 * n .count) (rw w at (o .0))),
-      )
+  -- what is lent to a write, where it fits
+  write-fits : writeJudged n ≡ Fit → (16 * n .used ≤ n .room) × (16 * n .count ≤ n .«data»)
+  unfolding writeJudged
+  write-fits e =
+      let s = passed-over (not-fit {r = ShortStaging}) (ltb (n .room) (16 * n .used)) _ e in
+      let d = passed-over no-data (ltb (n .«data») (16 * n .count)) Fit (s .1) in
+      (ltb-false (n .room) (16 * n .used) (s .0), ltb-false (n .«data») (16 * n .count) (d .0))
+
+  -- and to a read
+  read-fits : readJudged n ≡ Fit → 16 * n .count ≤ n .room
+  unfolding readJudged
+  read-fits e = ltb-false (n .room) (16 * n .count) (passed-over (not-fit {r = ShortOutput}) (ltb (n .room) (16 * n .count)) Fit e .0)
 
 -- a request that is judged to fit
 pub fits : (c : Card) (arenaLen : ℕ) (r : Request) → judgedOf c arenaLen r ≡ Fit → Fitting c arenaLen r
@@ -127,14 +126,14 @@ fits c arenaLen r e =
     let m = passed-over (not-fit {r = TooManyElements}) (ltb 512 (r .count)) _ (s .1) in
     let k = passed-over (not-fit {r = TooManyCodes}) (ltb 16 (length (r .codes))) _ (m .1) in
     let l = passed-over (not-fit {r = ListLength}) (not (endsAfter (r .list) (r .count))) _ (k .1) in
-    let p = lent-fits _ (r .write) (l .1) in
+    let a = passed-over (not-fit {r = ShortArena}) (ltb arenaLen (16 * c .used)) _ (l .1) in
     record {
       sound = not-false (isSound c) (s .0);
       few = ltb-false 512 (r .count) (m .0);
       codes = ltb-false 16 (length (r .codes)) (k .0);
       ends = not-false (endsAfter (r .list) (r .count)) (l .0);
-      arena = p .0;
-      staging = λ w. p .1 w .0;
-      «data» = λ w. p .1 w .1;
-      output = λ w. p .2 w;
+      arena = ltb-false arenaLen (16 * c .used) (a .0);
+      staging = λ w. write-fits _ (rw w at (a .1)) .0;
+      «data» = λ w. write-fits _ (rw w at (a .1)) .1;
+      output = λ w. read-fits _ (rw w at (a .1));
     }

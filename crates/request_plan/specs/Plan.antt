@@ -1,7 +1,7 @@
 -- All that is settled before a stored byte is read. Of the arena only its length is asked, so no stored byte can change a refusal.
 use Prim.Native.Nat.{ℕ, _*_}
 use mathlib.Core.List.{List}
-use mathlib.Core.Bool.{Bool, cond, not, _&&_}
+use mathlib.Core.Bool.{Bool, cond, not}
 use lib.Dec.{ltb}
 use lib.ListN.{length}
 use Rattle.block_list.specs.declared.element.BlockListElement.{BlockListElement}
@@ -42,23 +42,28 @@ mostElements = 512
 abbrev pub mostCodes : ℕ
 mostCodes = 16
 
--- 7; on a write 4 (staging: 16 bytes per block in use); on a read 5 (output: 16 bytes per element); on a write FF AC (16 bytes per element)
-unfoldable pub lentJudged : Bool → Sizes → Judged
-lentJudged write n =
-    cond (ltb (n .arena) (16 * n .used)) (NotFit ShortArena)
-    (cond (write && ltb (n .room) (16 * n .used)) (NotFit ShortStaging)
-    (cond (not write && ltb (n .room) (16 * n .count)) (NotFit ShortOutput)
-    (cond (write && ltb (n .«data») (16 * n .count)) NoData
-    Fit)))
+-- 4 (staging: 16 bytes per block in use), then FF AC (data: 16 bytes per element)
+unfoldable pub writeJudged : Sizes → Judged
+writeJudged n =
+    cond (ltb (n .room) (16 * n .used)) (NotFit ShortStaging)
+    (cond (ltb (n .«data») (16 * n .count)) NoData
+    Fit)
 
--- 8, 1, 2, 3 ahead of those; of the card it is asked whether it is sound and how many blocks are in use
+-- 5 (output: 16 bytes per element)
+unfoldable pub readJudged : Sizes → Judged
+readJudged n =
+    cond (ltb (n .room) (16 * n .count)) (NotFit ShortOutput)
+    Fit
+
+-- 8, 1, 2, 3, 7, then what is lent to a write or a read; of the card it is asked whether it is sound and how many blocks are in use
 unfoldable pub judgedWith : Bool → Bool → List ℕ → Sizes → Judged
 judgedWith sound write list n =
     cond (not sound) (NotFit NotBuilt)
     (cond (ltb mostElements (n .count)) (NotFit TooManyElements)
     (cond (ltb mostCodes (n .codes)) (NotFit TooManyCodes)
     (cond (not (endsAfter list (n .count))) (NotFit ListLength)
-    (lentJudged write n))))
+    (cond (ltb (n .arena) (16 * n .used)) (NotFit ShortArena)
+    (cond write (writeJudged n) (readJudged n))))))
 
 -- how a request is judged on an arena of so many bytes
 abbrev pub judgedOf : Card → ℕ → Request → Judged

@@ -5,7 +5,9 @@ use answers::status::Fault;
 use block_list::reader;
 ghost use mathlib.Core.Path.{_≡_};
 ghost use Rattle.request_plan.specs.Request.{flag1, flag2, responseOf};
-ghost use Rattle.request_plan.specs.Plan.{lentJudged, judgedWith};
+ghost use Prim.Native.Nat.{_*_};
+ghost use lib.Dec.{ltb};
+ghost use Rattle.request_plan.specs.Plan.{mostElements, mostCodes, writeJudged, readJudged, judgedWith};
 
 // The reply to a request. Only `Done` is a request carried out.
 pub enum Reply {
@@ -82,7 +84,7 @@ pub enum Judged {
 // the arena, of a write's data, and of the output (read) or staging (write) that is lent.
 pub struct Sizes {
     pub used: usize,
-    pub count: u32,
+    pub count: usize,
     pub codes: usize,
     pub arena: usize,
     pub data: usize,
@@ -93,48 +95,83 @@ pub struct Sizes {
 const BLOCK: usize = 16;
 
 // More elements are refusal 1.
-const MOST_ELEMENTS: u32 = 512;
+const MOST_ELEMENTS: usize = 512;
 
 // More codes are refusal 2.
 const MOST_CODES: usize = 16;
 
-// Judges what is lent to a write or a read: 7, then 4 or 5, then FF AC.
-fn lent_judged(write: bool, sizes: Sizes) -> Judged
-    ensures { λ r. ⌜ r ≡ lentJudged write sizes ⌝ }
+// Tells whether a request has too many elements.
+fn many_elements(count: usize) -> bool
+    ensures { λ r. ⌜ r ≡ ltb mostElements count ⌝ }
 {
-    if sizes.arena / BLOCK < sizes.used {
-        return Judged::Refused(Refusal::ShortArena); // 7
+    MOST_ELEMENTS < count
+}
+
+// Tells whether a request has too many codes.
+fn many_codes(codes: usize) -> bool
+    ensures { λ r. ⌜ r ≡ ltb mostCodes codes ⌝ }
+{
+    MOST_CODES < codes
+}
+
+// Tells whether so many bytes are too few for a number of blocks.
+fn too_short(bytes: usize, blocks: usize) -> bool
+    ensures { λ r. ⌜ r ≡ ltb bytes (16 * blocks) ⌝ }
+{
+    bytes / BLOCK < blocks
+}
+
+// Judges the buffer and the data of a write: 4, then FF AC. Surplus data are ignored.
+fn write_judged(sizes: Sizes) -> Judged
+    ensures { λ r. ⌜ r ≡ writeJudged sizes ⌝ }
+{
+    let short_staging = too_short(sizes.room, sizes.used);
+    let short_data = too_short(sizes.data, sizes.count);
+    if short_staging {
+        return Judged::Refused(Refusal::ShortStaging); // 4
     }
-    if write {
-        if sizes.room / BLOCK < sizes.used {
-            return Judged::Refused(Refusal::ShortStaging); // 4: a block for each in use
-        }
-        if sizes.data / BLOCK < sizes.count as usize {
-            return Judged::ShortData; // FF AC, ahead of all elements; surplus data are ignored
-        }
-        return Judged::Fit;
-    }
-    if sizes.room / BLOCK < sizes.count as usize {
-        return Judged::Refused(Refusal::ShortOutput); // 5: a block for each element
+    if short_data {
+        return Judged::ShortData; // FF AC, ahead of all elements
     }
     Judged::Fit
 }
 
-// Judges a request of a card that is `sound` or not: 8, 1, 2, 3, then what is lent. No stored byte is looked at.
+// Judges the buffer of a read: 5.
+fn read_judged(sizes: Sizes) -> Judged
+    ensures { λ r. ⌜ r ≡ readJudged sizes ⌝ }
+{
+    if too_short(sizes.room, sizes.count) {
+        return Judged::Refused(Refusal::ShortOutput); // 5
+    }
+    Judged::Fit
+}
+
+// Judges a request of a card that is `sound` or not: 8, 1, 2, 3, 7, then what is lent to a write or a read. No stored byte is looked at.
 pub fn judge(sound: bool, write: bool, list: &[u8], sizes: Sizes) -> Judged
     ensures { λ r. ⌜ r ≡ judgedWith sound write (now (list .entry)) sizes ⌝ }
 {
+    let elements = many_elements(sizes.count);
+    let codes = many_codes(sizes.codes);
+    let ends = reader::list_ends(list, sizes.count);
+    let short_arena = too_short(sizes.arena, sizes.used);
     if !sound {
         return Judged::Refused(Refusal::NotBuilt); // 8
     }
-    if MOST_ELEMENTS < sizes.count {
+    if elements {
         return Judged::Refused(Refusal::TooManyElements); // 1
     }
-    if MOST_CODES < sizes.codes {
+    if codes {
         return Judged::Refused(Refusal::TooManyCodes); // 2
     }
-    if !reader::list_ends(list, sizes.count as usize) {
+    if !ends {
         return Judged::Refused(Refusal::ListLength); // 3: the list ends early, or runs on
     }
-    lent_judged(write, sizes)
+    if short_arena {
+        return Judged::Refused(Refusal::ShortArena); // 7
+    }
+    if write {
+        write_judged(sizes)
+    } else {
+        read_judged(sizes)
+    }
 }

@@ -54,7 +54,7 @@ pub fn read(
     let sound = card.is_sound();
     let sizes = Sizes {
         used: card.used,
-        count,
+        count: count as usize,
         codes: codes.len(),
         arena: arena.len(),
         data: 0,

@@ -101,7 +101,7 @@ pub fn write(
     let sound = card.is_sound();
     let sizes = Sizes {
         used: card.used,
-        count,
+        count: count as usize,
         codes: codes.len(),
         arena: arena.len(),
         data: data.len(),
