@@ -91,14 +91,15 @@ fn service_check(
 fn row_check(row: Row, write: bool, open: bool, number: u16, mode: u8) -> Check
     ensures { λ r. ⌜ r ≡ rowCheck row write «open» number mode ⌝ }
 {
+    let decoded = row.attribute;
+    let found = row.found;
     if !mode_allowed(write, mode) {
         return Check::Failed(Fault::AccessMode); // A7
     }
-    let decoded = row.attribute;
     let Decoded::Defined(attribute) = decoded else {
         return Check::Failed(Fault::Attribute); // A4: undefined, or FFFF
     };
-    if !row.found {
+    if !found {
         return Check::Failed(Fault::NoService); // A6
     }
     service_check(row, attribute, write, open, number, mode)

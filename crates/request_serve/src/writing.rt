@@ -110,7 +110,7 @@ pub fn write(
     match request_plan::judge(sound, true, list, sizes) {
         Judged::Refused(refusal) => Reply::Refused(refusal),
         Judged::ShortData => {
-            spans::zero(staging, 0, 16 * card.used);
+            spans::zero(staging, 0, 16 * card.used); // as after every status pair
             Reply::ShortData
         }
         Judged::Fit => {

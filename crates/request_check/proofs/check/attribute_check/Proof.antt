@@ -14,7 +14,7 @@ writes c = not-false (c .before .args .write) (c .if1 .left)
 
 -- the attribute may be written
 writable : (c : tie.Else2) → allowsWrite (c .before .before .before .args .attribute) ≡ true
-writable c = sym (c .before .allows-write .ensures) ∙ not-false _ (c .if2 .left)
+writable c = sym (c .before .allows-write .ensures) ∙ not-false (c .before .allows-write .result) (c .if2 .left)
 
 returns : tie.Need-returns
 unfolding attributeCheck
@@ -22,7 +22,7 @@ returns c = search (not-true (c .before .args .write) (c .if1 .taken))
 
 returns-2 : tie.Need-returns-2
 unfolding attributeCheck
-returns-2 c = let w = c .before in search (writes (w .before), sym (w .allows-write .ensures) ∙ not-true _ (c .if2 .taken))
+returns-2 c = let w = c .before in search (writes (w .before), sym (w .allows-write .ensures) ∙ not-true (w .allows-write .result) (c .if2 .taken))
 
 returns-3 : tie.Need-returns-3
 unfolding attributeCheck
@@ -39,7 +39,7 @@ returns-4 c =
       writes (w .before),
       writable (e .before),
       eq-eqb (w .before .before .args .mode) 1 (e .if3 .left),
-      sym (c .before .allows-cashback .ensures) ∙ not-true _ (c .if4 .taken),
+      sym (c .before .allows-cashback .ensures) ∙ not-true (c .before .allows-cashback .result) (c .if4 .taken),
     )
 
 returns-5 : tie.Need-returns-5
@@ -51,7 +51,7 @@ returns-5 c =
       writes (w .before),
       writable (e .before),
       eq-eqb (w .before .before .args .mode) 1 (e .if3 .left),
-      sym (c .before .allows-cashback .ensures) ∙ not-false _ (c .if4 .left),
+      sym (c .before .allows-cashback .ensures) ∙ not-false (c .before .allows-cashback .result) (c .if4 .left),
     )
 
 pub attribute-check-spec : {M : Type 1} → statement M
