@@ -15,12 +15,13 @@ static uint8_t card[ULUVOLI_CARD_SIZE];
 static uint8_t arena[1024];
 static uint8_t staging[1024];
 
-/* Prints who did what, and how the call ended. */
+/* Prints who did what, and how the call ended: a refusal has no status pair. */
 static uint32_t tell(const char *what, uint32_t answer) {
-    if (uluvoli_refusal(answer) != 0) {
-        printf("%-28s refused, %u\n", what, (unsigned)uluvoli_refusal(answer));
+    uint8_t sf1, sf2;
+    if (uluvoli_pair(answer, &sf1, &sf2)) {
+        printf("%-28s %02X %02X\n", what, (unsigned)sf1, (unsigned)sf2);
     } else {
-        printf("%-28s %02X %02X\n", what, (unsigned)uluvoli_sf1(answer), (unsigned)uluvoli_sf2(answer));
+        printf("%-28s refused, %u\n", what, (unsigned)uluvoli_refusal(answer));
     }
     return answer;
 }
@@ -38,11 +39,15 @@ static void build(void) {
     tell("limit -50 to 200", uluvoli_set_limit(card, sizeof card, 200, -50, 0));
 }
 
-/* Writes blocks 0 and 1 in one request: both or none. */
-static uint32_t write_lanes(const uint16_t *codes, const char *lanes) {
+/* Writes blocks 0 and 1 in one request, both or none, with so many bytes of staging. */
+static uint32_t write_lanes_by(size_t staging_len, const uint16_t *codes, const char *lanes) {
     static const uint8_t list[] = {0x80, 0, 0x80, 1};
-    return uluvoli_write(card, sizeof card, arena, sizeof arena, staging, sizeof staging, true, codes, 1, 2, list,
+    return uluvoli_write(card, sizeof card, arena, sizeof arena, staging, staging_len, true, codes, 1, 2, list,
                          sizeof list, (const uint8_t *)lanes, strlen(lanes));
+}
+
+static uint32_t write_lanes(const uint16_t *codes, const char *lanes) {
+    return write_lanes_by(sizeof staging, codes, lanes);
 }
 
 /* Reads both lanes and prints them. */
@@ -93,6 +98,7 @@ int main(void) {
     read_lanes();
     tell("tower tries to write", write_lanes(tower_code, "lane 1: TOWER   lane 2: TOWER   "));
     tell("marshal sends one lane", write_lanes(marshal_code, "lane 1: NEPTUNE "));
+    tell("marshal stages too little", write_lanes_by(16, marshal_code, "lane 1: NEPTUNE lane 2: NEPTUNE "));
     read_lanes();
     spend(50, 1);
     spend(1, 2);

@@ -6,10 +6,10 @@
  * together: save and restore both, or neither.
  *
  * What every call returns
- *   0                      done
- *   SF1 << 8 | SF2         a status pair of a read or a write, not 00 00 (uluvoli_sf1, uluvoli_sf2)
- *   number << 16           a refusal (uluvoli_refusal)
- * A refusal leaves every byte that the caller lent as it was; a pair other than 00 00 leaves card, arena and output as
+ *   0                      done; of a read or a write that is the status pair 00 00
+ *   SF1 << 8 | SF2         another status pair, of a read or a write (uluvoli_pair)
+ *   number << 16           a refusal (uluvoli_refusal): it has no status pair
+ * uluvoli_end_of says which of the three it is. A refusal leaves every byte that the caller lent as it was; a pair other than 00 00 leaves card, arena and output as
  * they were. A number or flag that a call answers is written through its last pointer, only where it returns 0. Each
  * call below lists the refusals that it can give: the first that holds is given.
  *
@@ -19,7 +19,8 @@
  *   too, and no call reads or writes past the lengths given to it.
  *   It cannot check the pointers: each must be valid for as many elements as the length after it says, aligned for its
  *   type, and not null, even where the length is 0. A part that a call writes may overlap no other part of that call.
- *   Two calls may run at once only if neither writes what the other is lent.
+ *   Two calls may run at once only if neither writes what the other is lent. No call takes over ULUVOLI_STACK bytes of
+ *   stack, on any card and with any request; what a signal handler takes on the same stack comes on top.
  */
 #ifndef ULUVOLI_H
 #define ULUVOLI_H
@@ -41,6 +42,7 @@ enum {
     ULUVOLI_DIRECTORY_MOST = 128,    /* numbers of a directory: a pair for each node */
     ULUVOLI_ELEMENTS_MOST = 512,     /* elements of a request */
     ULUVOLI_CODES_MOST = 16,         /* service codes of a request */
+    ULUVOLI_STACK = 65536,           /* bytes of stack that a call takes, at most */
     ULUVOLI_SYSTEM = 0xffff          /* the code that names the system */
 };
 
@@ -85,12 +87,30 @@ enum {
     ULUVOLI_SF2_CYCLIC_TOO_LONG = 0xaf       /* a cyclic run longer than the store */
 };
 
-/* The refusal's number, or 0. */
+/* How a call ended. */
+enum uluvoli_end {
+    ULUVOLI_DONE,      /* done */
+    ULUVOLI_PAIR,      /* a status pair other than 00 00 */
+    ULUVOLI_REFUSED    /* a refusal */
+};
+
+/* How the call that gave this answer ended. */
+static inline enum uluvoli_end uluvoli_end_of(uint32_t answer) {
+    return answer == 0 ? ULUVOLI_DONE : answer >> 16 == 0 ? ULUVOLI_PAIR : ULUVOLI_REFUSED;
+}
+
+/* The number of a refusal; 0 for every other answer. */
 static inline uint32_t uluvoli_refusal(uint32_t answer) { return answer >> 16; }
 
-/* The status flags of an answer that is no refusal. */
-static inline uint8_t uluvoli_sf1(uint32_t answer) { return (uint8_t)(answer >> 8 & 0xff); }
-static inline uint8_t uluvoli_sf2(uint32_t answer) { return (uint8_t)(answer & 0xff); }
+/* Gives the status pair of a read or a write, 00 00 too, and true. A refusal has none: false, and the flags stay. */
+static inline bool uluvoli_pair(uint32_t answer, uint8_t *sf1, uint8_t *sf2) {
+    if (uluvoli_end_of(answer) == ULUVOLI_REFUSED) {
+        return false;
+    }
+    *sf1 = (uint8_t)(answer >> 8);
+    *sf2 = (uint8_t)(answer & 0xff);
+    return true;
+}
 
 /* ---- building: uluvoli_set_block apart, each call writes the card's bytes anew where it is done */
 
@@ -114,19 +134,19 @@ uint32_t uluvoli_set_limit(uint8_t *card, size_t card_len, int32_t upper, int32_
 uint32_t uluvoli_set_block(const uint8_t *card, size_t card_len, uint8_t *arena, size_t arena_len, uint16_t code,
                            uint32_t number, const uint8_t *block, size_t block_len);
 
-/* ---- requests: `keyless` is true for an open request, which no service that needs a key serves; false in a session.
+/* ---- requests: `open` is true for an open request, which no service that needs a key serves; false in a session.
  * `count` is the number of elements in `list`: each two bytes (80h + 16 * mode + index, number) or three (16 * mode +
  * index, number low byte first), index into `codes`. */
 
 /* Reads the elements' blocks to the front of `out`, 16 bytes for each element. Refusals: 8, 1, 2, 3, 7, 5. */
 uint32_t uluvoli_read(const uint8_t *card, size_t card_len, const uint8_t *arena, size_t arena_len, uint8_t *out,
-                      size_t out_len, bool keyless, const uint16_t *codes, size_t codes_len, uint32_t count,
+                      size_t out_len, bool open, const uint16_t *codes, size_t codes_len, uint32_t count,
                       const uint8_t *list, size_t list_len);
 
 /* Writes `data`, 16 bytes for each element, to the elements' blocks: all of it or nothing. `staging` holds 16 bytes for
  * each block in use; they are zero after every status pair, 00 00 too. Refusals: 8, 1, 2, 3, 7, 4. */
 uint32_t uluvoli_write(const uint8_t *card, size_t card_len, uint8_t *arena, size_t arena_len, uint8_t *staging,
-                       size_t staging_len, bool keyless, const uint16_t *codes, size_t codes_len, uint32_t count,
+                       size_t staging_len, bool open, const uint16_t *codes, size_t codes_len, uint32_t count,
                        const uint8_t *list, size_t list_len, const uint8_t *data, size_t data_len);
 
 /* ---- questions */

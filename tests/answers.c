@@ -1,5 +1,6 @@
 /* Puts the oracle's lists of trees and requests (oracle/README.md) to the library and compares every answer, and every
- * byte that was lent. Each call is lent memory of its own, of just the lengths that it is told (lent.h). */
+ * byte that was lent, the card's among them (layout.h). Each call is lent memory of its own, of just the lengths that it is
+ * told (lent.h). What a call answers through a pointer holds something else before, and a refusal has to leave it. */
 #define _GNU_SOURCE
 #include <signal.h>
 #include <stdio.h>
@@ -8,13 +9,16 @@
 #include <unistd.h>
 
 #include "fields.h"
+#include "layout.h"
 #include "lent.h"
 #include "uluvoli.h"
 
 enum { ARENA_SIZE = 70000, ROOM_SIZE = 140000, MARK = 0xa5 };
 
-/* The card, the arena as it should be, how much of it is lent, and the blocks in use. */
+/* The card as calls left it and as it should be, the arena as it should be, how much of it is lent, and the blocks in
+ * use. */
 static uint8_t card[ULUVOLI_CARD_SIZE];
+static uint8_t card_wanted[LAYOUT_SIZE];
 static uint8_t arena[ARENA_SIZE];
 static size_t arena_len;
 static size_t used;
@@ -55,6 +59,17 @@ static void touched(int signal_number) {
 
 static const uint8_t *lent_card(void) { return lend(CARD, card, sizeof card); }
 
+/* The card with a count of records that none has, which every call refuses. */
+static const uint8_t *lent_unbuilt(void) {
+    uint8_t unbuilt[sizeof card];
+    memcpy(unbuilt, card, sizeof card);
+    unbuilt[1] = 0xff;
+    return lend(CARD, unbuilt, sizeof unbuilt);
+}
+
+/* Refusal 8, as a call returns it. */
+enum { UNBUILT = ULUVOLI_NOT_BUILT << 16 };
+
 /* Marks an output or a staging of this length, and what it should be. */
 static void mark_room(size_t length) {
     room_len = length;
@@ -78,41 +93,47 @@ static bool arena_agrees(void) { return memcmp(arena, arena_after, arena_len) ==
 
 /* ---- building */
 
-/* Whether a call that may change the card ended as it should: a refusal changes nothing. */
-static void added(uint32_t got, const char *field, const uint8_t before[sizeof card]) {
-    uint32_t wanted = number(field) << 16;
+/* Whether a call that may change the card ended as it should: the card's bytes are those wanted, and a refusal changes
+ * none. */
+static void added(uint32_t got, const char *field) {
     take_back();
-    check(got == wanted && (got == 0 || memcmp(card, before, sizeof card) == 0), "an addition");
+    check(got == number(field) << 16, "an addition");
+    check(memcmp(card, card_wanted, sizeof card) == 0, "the card after an addition");
 }
 
 static void new_card(char *f[FIELDS]) {
+    uint16_t system = (uint16_t)number(f[1]), version = (uint16_t)number(f[2]);
     arena_len = number(f[3]);
     used = 0;
     memset(arena, MARK, sizeof arena);
-    uint8_t *own = lend_writable(CARD, card, sizeof card);
-    uint32_t got = uluvoli_new(own, sizeof card, (uint16_t)number(f[1]), (uint16_t)number(f[2]));
-    take_back();
-    check(got == 0, "a new card");
+    layout_new(card_wanted, system, version);
+    for (size_t length = sizeof card - 1; length <= sizeof card + 1; length += 2) {
+        mark_room(length);
+        check(uluvoli_new(lend_writable(ROOM, room, length), length, system, version) == UNBUILT, "a card's length");
+        take_back();
+        check(room_agrees(), "bytes of another length than a card's");
+    }
+    added(uluvoli_new(lend_writable(CARD, card, sizeof card), sizeof card, system, version), "00");
 }
 
 static void area(char *f[FIELDS]) {
-    uint8_t before[sizeof card];
-    memcpy(before, card, sizeof card);
-    uint8_t *own = lend_writable(CARD, card, sizeof card);
-    added(uluvoli_add_area(own, sizeof card, number(f[1]), (uint16_t)number(f[2]), (uint16_t)number(f[3]),
-                           (uint16_t)number(f[4])),
-          f[5], before);
+    uint32_t depth = number(f[1]);
+    uint16_t code = (uint16_t)number(f[2]), end = (uint16_t)number(f[3]), version = (uint16_t)number(f[4]);
+    if (number(f[5]) == 0) {
+        layout_area(card_wanted, depth, code, end, version);
+    }
+    added(uluvoli_add_area(lend_writable(CARD, card, sizeof card), sizeof card, depth, code, end, version), f[5]);
 }
 
 /* A service: a new store is zeroed, and no other byte of the arena changes. */
 static void service(char *f[FIELDS]) {
-    uint8_t before[sizeof card];
-    size_t next = number(f[6]);
-    memcpy(before, card, sizeof card);
+    uint32_t depth = number(f[1]), blocks = number(f[3]), next = number(f[6]);
+    uint16_t code = (uint16_t)number(f[2]), version = (uint16_t)number(f[4]);
+    if (number(f[5]) == 0) {
+        layout_service(card_wanted, depth, code, version, next);
+    }
     uint8_t *own = lend_writable(CARD, card, sizeof card);
-    added(uluvoli_add_service(own, sizeof card, lent_arena(), arena_len, number(f[1]), (uint16_t)number(f[2]), number(f[3]),
-                              (uint16_t)number(f[4])),
-          f[5], before);
+    added(uluvoli_add_service(own, sizeof card, lent_arena(), arena_len, depth, code, blocks, version), f[5]);
     if (next > used) {
         memset(arena + 16 * used, 0, 16 * (next - used));
         used = next;
@@ -121,27 +142,51 @@ static void service(char *f[FIELDS]) {
 }
 
 static void limit(char *f[FIELDS]) {
-    uint8_t before[sizeof card];
-    memcpy(before, card, sizeof card);
+    uint32_t upper = number(f[1]), lower = number(f[2]);
+    uint8_t generation = (uint8_t)number(f[3]);
+    if (number(f[4]) == 0) {
+        layout_limit(card_wanted, upper, lower, generation);
+    }
     uint8_t *own = lend_writable(CARD, card, sizeof card);
-    added(uluvoli_set_limit(own, sizeof card, (int32_t)number(f[1]), (int32_t)number(f[2]), (uint8_t)number(f[3])),
-          f[4], before);
+    added(uluvoli_set_limit(own, sizeof card, (int32_t)upper, (int32_t)lower, generation), f[4]);
+}
+
+/* Sets block number `at` of a service to the data. */
+static uint32_t set(uint16_t code, uint32_t at, size_t length) {
+    const uint8_t *own = lent_card();
+    uint32_t got = uluvoli_set_block(own, sizeof card, lent_arena(), arena_len, code, at, lend(DATA, data, length),
+                                     length);
+    take_back();
+    return got;
+}
+
+/* Where block number `at` of a service lies. */
+static uint32_t stored(const uint8_t *own, uint16_t code, uint32_t at, size_t *offset) {
+    uint32_t got = uluvoli_stored_block(own, sizeof card, lend(ARENA, arena, arena_len), arena_len, code, at,
+                                        lend_writable(TOLD, offset, sizeof *offset));
+    take_back();
+    return got;
+}
+
+/* A block that is not there, or is not sixteen bytes: the refusal that is first, and nothing is written. */
+static void block_refused(uint16_t code, uint32_t at, size_t length) {
+    size_t offset = MARK;
+    bool right = set(code, at, length - 1) == ULUVOLI_NOT_A_BLOCK << 16 && arena_agrees();
+    right = right && set(code, UINT32_MAX, length) == ULUVOLI_NO_SUCH_BLOCK << 16 && arena_agrees();
+    right = right && set(code, UINT32_MAX, length - 1) == ULUVOLI_NO_SUCH_BLOCK << 16 && arena_agrees();
+    right = right && stored(lent_card(), code, UINT32_MAX, &offset) == ULUVOLI_NO_SUCH_BLOCK << 16;
+    right = right && stored(lent_unbuilt(), code, at, &offset) == UNBUILT;
+    check(right && offset == MARK, "a block refused");
 }
 
 /* Sets a block, and asks where it lies. */
 static void block(char *f[FIELDS]) {
     uint16_t code = (uint16_t)number(f[1]);
     uint32_t at = number(f[2]);
-    size_t length = bytes(f[3], data, sizeof data);
-    size_t offset = 0;
-    const uint8_t *own = lent_card();
-    uint32_t got = uluvoli_set_block(own, sizeof card, lent_arena(), arena_len, code, at, lend(DATA, data, length),
-                                     length);
-    take_back();
-    own = lent_card();
-    uint32_t told = uluvoli_stored_block(own, sizeof card, lend(ARENA, arena_after, arena_len), arena_len, code, at,
-                                         lend_writable(TOLD, &offset, sizeof offset));
-    take_back();
+    size_t length = bytes(f[3], data, sizeof data), offset = SIZE_MAX;
+    block_refused(code, at, length);
+    uint32_t got = set(code, at, length);
+    uint32_t told = stored(lent_card(), code, at, &offset);
     if (offset <= sizeof arena - length) {
         memcpy(arena + offset, data, length);
     }
@@ -150,44 +195,64 @@ static void block(char *f[FIELDS]) {
 
 /* ---- questions */
 
+/* A directory, and the same on a card that no calls build: then as on a refusal the pairs and their number stay. */
 static void directory(char *f[FIELDS]) {
-    size_t many = number(f[1]), nodes = 0, wanted_nodes = 0;
+    size_t many = number(f[1]), nodes = MARK, wanted_nodes = MARK;
     uint32_t wanted = *f[2] == '!' ? answer(f[2]) : 0;
     mark_room(2 * many);
+    const uint8_t *own = lent_unbuilt();
+    uint16_t *out = lend_writable(ROOM, room, 2 * many);
+    uint32_t got = uluvoli_directory(own, sizeof card, out, many, lend_writable(TOLD, &nodes, sizeof nodes));
+    take_back();
+    check(got == UNBUILT && nodes == MARK && room_agrees(), "a directory of no card");
     if (wanted == 0) {
         wanted_nodes = halves(f[2], (uint16_t *)(void *)room_wanted, sizeof room / 2) / 2;
     }
-    const uint8_t *own = lent_card();
-    uint16_t *out = lend_writable(ROOM, room, 2 * many);
-    uint32_t got = uluvoli_directory(own, sizeof card, out, many, lend_writable(TOLD, &nodes, sizeof nodes));
+    own = lent_card();
+    out = lend_writable(ROOM, room, 2 * many);
+    got = uluvoli_directory(own, sizeof card, out, many, lend_writable(TOLD, &nodes, sizeof nodes));
     take_back();
     check(got == wanted && nodes == wanted_nodes && room_agrees(), "a directory");
 }
 
-/* A total or a key version. */
+/* A total or a key version; on a card that no calls build the number stays. */
 static void told(char *f[FIELDS], uint32_t (*ask)(const uint8_t *, size_t, uint16_t, uint16_t *)) {
-    uint16_t value = 0;
-    const uint8_t *own = lent_card();
-    uint32_t got = ask(own, sizeof card, (uint16_t)number(f[1]), lend_writable(TOLD, &value, sizeof value));
+    uint16_t code = (uint16_t)number(f[1]), wanted = (uint16_t)number(f[2]), before = (uint16_t)(wanted ^ MARK);
+    uint16_t value = before;
+    const uint8_t *own = lent_unbuilt();
+    uint32_t got = ask(own, sizeof card, code, lend_writable(TOLD, &value, sizeof value));
     take_back();
-    check(got == 0 && value == number(f[2]), "a number");
+    check(got == UNBUILT && value == before, "a number of no card");
+    own = lent_card();
+    got = ask(own, sizeof card, code, lend_writable(TOLD, &value, sizeof value));
+    take_back();
+    check(got == 0 && value == wanted, "a number");
 }
 
-/* An area list or a service list. */
+/* An area list or a service list; on a card that no calls build the flag stays, whatever it was. */
 static void formed(char *f[FIELDS], uint32_t (*ask)(const uint8_t *, size_t, const uint16_t *, size_t, bool *)) {
-    bool well = false;
+    bool wanted = number(f[2]) == 1;
     size_t many = halves(f[1], codes, sizeof codes / sizeof *codes);
-    const uint8_t *own = lent_card();
-    uint32_t got = ask(own, sizeof card, lend(CODES, codes, 2 * many), many, lend_writable(TOLD, &well, sizeof well));
-    take_back();
-    check(got == 0 && well == (number(f[2]) == 1), "a list");
+    for (int before = 0; before < 2; before++) {
+        bool well = before == 1;
+        const uint8_t *own = lent_unbuilt();
+        const uint16_t *list_asked = lend(CODES, codes, 2 * many);
+        uint32_t got = ask(own, sizeof card, list_asked, many, lend_writable(TOLD, &well, sizeof well));
+        take_back();
+        check(got == UNBUILT && well == (before == 1), "a list for no card");
+        own = lent_card();
+        list_asked = lend(CODES, codes, 2 * many);
+        got = ask(own, sizeof card, list_asked, many, lend_writable(TOLD, &well, sizeof well));
+        take_back();
+        check(got == 0 && well == wanted, "a list");
+    }
 }
 
 /* ---- requests */
 
 /* Serves the request of a line on the card's bytes as they are; what it wrote is in room and arena_after. */
 static uint32_t serve(char *f[FIELDS]) {
-    bool keyless = *f[1] == 'O';
+    bool open = *f[1] == 'O';
     size_t codes_len = halves(f[2], codes, sizeof codes / sizeof *codes);
     uint32_t count = number(f[3]);
     size_t list_len = bytes(f[4], list, sizeof list);
@@ -200,11 +265,11 @@ static uint32_t serve(char *f[FIELDS]) {
     const uint8_t *elements = lend(LIST, list, list_len);
     uint8_t *lent = lend_writable(ROOM, room, room_len);
     if (*f[0] == 'R') {
-        got = uluvoli_read(own, sizeof card, lend(ARENA, arena, arena_len), arena_len, lent, room_len, keyless, asked,
+        got = uluvoli_read(own, sizeof card, lend(ARENA, arena, arena_len), arena_len, lent, room_len, open, asked,
                            codes_len, count, elements, list_len);
     } else {
         got = uluvoli_write(own, sizeof card, lent_arena(), arena_len, lent, room_len,
-                            keyless, asked, codes_len, count, elements, list_len, lend(DATA, data, data_len), data_len);
+                            open, asked, codes_len, count, elements, list_len, lend(DATA, data, data_len), data_len);
     }
     take_back();
     return got;

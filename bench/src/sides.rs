@@ -162,7 +162,7 @@ impl Side for Library<'_> {
     fn ask(&mut self, turn: usize) -> Pair {
         let asked = &self.row.request;
         let request = Request {
-            keyless: asked.open,
+            open: asked.open,
             codes: &asked.codes,
             count: asked.count,
             list: &asked.list,
@@ -180,7 +180,7 @@ impl Side for Library<'_> {
         };
         match told {
             Ok(()) => (0, 0),
-            Err(Failure::Status { sf1, sf2 }) => (sf1, sf2),
+            Err(Failure::Pair { sf1, sf2 }) => (sf1, sf2),
             Err(Failure::Refused(refusal)) => panic!("a row's request was refused: {refusal:?}"),
         }
     }

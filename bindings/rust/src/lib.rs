@@ -9,6 +9,8 @@ mod ffi;
 
 /// Bytes of a card.
 pub const CARD_SIZE: usize = 1288;
+/// Bytes of stack that a call takes, at most.
+pub const STACK: usize = 65536;
 /// Bytes of a block.
 pub const BLOCK_SIZE: usize = 16;
 /// The code that names the system.
@@ -18,13 +20,14 @@ pub const SYSTEM: u16 = 0xffff;
 #[derive(Clone, Copy, Debug, PartialEq, Eq)]
 pub struct Refusal(pub u32);
 
-/// Why a request was not carried out. The arena and the output are as they were.
+/// Why a request was not carried out: a refusal, which has no status pair, or a pair. The arena and the output are as they
+/// were.
 #[derive(Clone, Copy, Debug, PartialEq, Eq)]
 pub enum Failure {
     /// It was refused.
     Refused(Refusal),
     /// It got a status pair other than 00 00.
-    Status {
+    Pair {
         /// Status flag 1: the place of the element that failed, or FF.
         sf1: u8,
         /// Status flag 2: the cause.
@@ -36,7 +39,7 @@ pub enum Failure {
 #[derive(Clone, Copy, Debug)]
 pub struct Request<'a> {
     /// True for an open request, which no service that needs a key serves; false in a session.
-    pub keyless: bool,
+    pub open: bool,
     /// The service codes, at most 16.
     pub codes: &'a [u16],
     /// How many elements the list has, at most 512.
@@ -62,7 +65,7 @@ fn replied(answer: u32) -> Result<(), Failure> {
     done(answer).map_err(Failure::Refused)?;
     match answer.to_be_bytes() {
         [_, _, 0, 0] => Ok(()),
-        [_, _, sf1, sf2] => Err(Failure::Status { sf1, sf2 }),
+        [_, _, sf1, sf2] => Err(Failure::Pair { sf1, sf2 }),
     }
 }
 
@@ -140,14 +143,14 @@ impl Card {
         number: u32,
         block: &[u8; BLOCK_SIZE],
     ) -> Result<(), Refusal> {
-        let (lent, long) = (arena.as_mut_ptr(), arena.len());
+        let (lent, arena_len) = (arena.as_mut_ptr(), arena.len());
         // SAFETY: the pointers are valid for their lengths; the arena is lent for writing, and apart.
         done(unsafe {
             ffi::uluvoli_set_block(
                 self.0.as_ptr(),
                 CARD_SIZE,
                 lent,
-                long,
+                arena_len,
                 code,
                 number,
                 block.as_ptr(),
@@ -167,7 +170,7 @@ impl Card {
                 arena.len(),
                 out.as_mut_ptr(),
                 out.len(),
-                request.keyless,
+                request.open,
                 request.codes.as_ptr(),
                 request.codes.len(),
                 request.count,
@@ -195,7 +198,7 @@ impl Card {
                 arena.len(),
                 staging.as_mut_ptr(),
                 staging.len(),
-                request.keyless,
+                request.open,
                 request.codes.as_ptr(),
                 request.codes.len(),
                 request.count,

@@ -21,7 +21,7 @@ fn race(arena: &mut [u8]) -> Card {
 fn blocks<'a>(codes: &'a [u16], count: usize) -> Request<'a> {
     const LIST: [u8; 6] = [0x80, 0, 0x80, 1, 0x80, 2];
     Request {
-        keyless: true,
+        open: true,
         codes,
         count: count as u32,
         list: &LIST[..2 * count],
@@ -55,7 +55,7 @@ fn what_fails_changes_nothing() {
         .unwrap();
     let before = arena;
     let tower = card.write(&mut arena, &mut staging, &blocks(&[TOWER], 2), &[b'x'; 32]);
-    assert_eq!(tower, Err(Failure::Status { sf1: 1, sf2: 0xa5 }));
+    assert_eq!(tower, Err(Failure::Pair { sf1: 1, sf2: 0xa5 }));
     let short = card.write(
         &mut arena,
         &mut staging,
@@ -64,13 +64,20 @@ fn what_fails_changes_nothing() {
     );
     assert_eq!(
         short,
-        Err(Failure::Status {
+        Err(Failure::Pair {
             sf1: 0xff,
             sf2: 0xac
         })
     );
     let beyond = card.read(&arena, &mut [0; 48], &blocks(&[TOWER], 3));
-    assert_eq!(beyond, Err(Failure::Status { sf1: 3, sf2: 0xa8 }));
+    assert_eq!(beyond, Err(Failure::Pair { sf1: 3, sf2: 0xa8 }));
+    let staged = card.write(
+        &mut arena,
+        &mut [0; 16],
+        &blocks(&[MARSHAL], 2),
+        &[b'x'; 32],
+    );
+    assert_eq!(staged, Err(Failure::Refused(Refusal(4))));
     let room = card.read(&arena, &mut [0; 31], &blocks(&[TOWER], 2));
     assert_eq!(room, Err(Failure::Refused(Refusal(5))));
     assert_eq!(arena, before);
@@ -86,7 +93,7 @@ fn a_purse_stays_within_its_limits() {
         card.write(&mut arena, &mut staging, &blocks(&[CREDIT], 1), &data)
     };
     assert_eq!(spend(50, 1), Ok(()));
-    assert_eq!(spend(1, 2), Err(Failure::Status { sf1: 1, sf2: 0x03 }));
+    assert_eq!(spend(1, 2), Err(Failure::Pair { sf1: 1, sf2: 0x03 }));
     assert_eq!(
         card.stored_block(&arena, CREDIT, 0).unwrap()[..4],
         (-50i32).to_le_bytes()

@@ -18,8 +18,8 @@ unfitAfter Done = Refused MalformedImage
 unfitAfter (Refused r) = Refused r
 
 unfoldable pub setAnswer : Card → ℕ → ℕ → ℕ → List ℕ → Answer
-setAnswer c long code number block =
-    cond (eqb (length block) 16) (blockJudged c long code number) (unfitAfter (blockJudged c long code number))
+setAnswer c arenaLen code number block =
+    cond (eqb (length block) 16) (blockJudged c arenaLen code number) (unfitAfter (blockJudged c arenaLen code number))
 
 unfoldable pub setAfter : Card → List ℕ → ℕ → ℕ → List ℕ → List ℕ
 setAfter c arena code number block = cond (eqb (length block) 16) (arenaSet c arena code number block) arena
@@ -30,4 +30,4 @@ placeBy old place Done = place
 placeBy old place (Refused r) = old
 
 unfoldable pub placeAfter : ℕ → Card → ℕ → ℕ → ℕ → ℕ
-placeAfter old c long code number = placeBy old (blockPlace (rowOf (nodesOf c) code) number) (blockJudged c long code number)
+placeAfter old c arenaLen code number = placeBy old (blockPlace (rowOf (nodesOf c) code) number) (blockJudged c arenaLen code number)

@@ -1,4 +1,4 @@
-// Stored blocks of a card in the caller's bytes, one by one: calls for programs in C and Rust.
+// Stored blocks of a card in the caller's bytes, one by one.
 use crate::outcome;
 use answers::refusal::Answer;
 use answers::refusal::Refusal;
@@ -12,17 +12,8 @@ ghost use Rattle.handset_bytes.specs.Card.{decodedOf};
 ghost use Rattle.handset.specs.Outcome.{answerAs};
 ghost use Rattle.handset.specs.Block.{unfitAfter, setAnswer, setAfter, placeAfter};
 
-// How a call ended.
-fn answered(answer: Answer) -> u32
-    ensures { λ r. ⌜ r ≡ answerAs answer ⌝ }
-{
-    match answer {
-        Answer::Done => 0,
-        Answer::Refused(refusal) => outcome::refused(refusal),
-    }
-}
-
-// How a call ended to which a block of another length than sixteen was lent: its own refusals come first.
+// The number that setting a block of another length than sixteen returns: 30, after the refusals in `answer` that the call
+// gives for a block of sixteen.
 fn unfit(answer: Answer) -> u32
     ensures { λ r. ⌜ r ≡ answerAs (unfitAfter answer) ⌝ }
 {
@@ -32,7 +23,7 @@ fn unfit(answer: Answer) -> u32
     }
 }
 
-// Sixteen bytes as an array.
+// The sixteen bytes of `block` as an array.
 fn sixteen(block: &[u8]) -> [u8; 16]
     requires { ⌜ length (now block) ≡ 16 ⌝ }
     ensures { λ r. ⌜ r ≡ now (block .entry) ⌝ }
@@ -42,7 +33,7 @@ fn sixteen(block: &[u8]) -> [u8; 16]
     own
 }
 
-// Sets a stored block to sixteen bytes.
+// Sets block `number` of the service `code` to the sixteen bytes of `block`. Their length is tested after 8, 7 and 23.
 #[no_mangle]
 pub extern "C" fn uluvoli_set_block(
     card: &[u8],
@@ -59,10 +50,10 @@ pub extern "C" fn uluvoli_set_block(
         return unfit(request_block::judge_block(own, arena.len(), code, number));
     }
     let bytes = sixteen(block);
-    answered(request_block::set_block(own, arena, code, number, bytes))
+    outcome::answered(request_block::set_block(own, arena, code, number, bytes))
 }
 
-// Where a stored block lies in the arena.
+// Tells in `offset` where block `number` of the service `code` lies in the arena.
 #[no_mangle]
 pub extern "C" fn uluvoli_stored_block(
     card: &[u8],

@@ -1,4 +1,4 @@
-// Building a card in the caller's bytes: calls for programs in C and Rust.
+// Building a card in the caller's bytes.
 use crate::outcome;
 use answers::refusal::Answer;
 use answers::refusal::Refusal;
@@ -18,7 +18,7 @@ ghost use Rattle.handset_bytes.specs.Card.{cardSize, cardPut, decodedOf};
 ghost use Rattle.handset.specs.Outcome.{refusedAs, answerAs};
 ghost use Rattle.handset.specs.Kept.{cardAfter};
 
-// Writes a card with nothing but its root. Bytes of another length than a card's are refusal 8.
+// Writes a card with nothing but its root to `card`. Bytes of another length than a card's are refusal 8.
 #[no_mangle]
 pub extern "C" fn uluvoli_new(card: &mut [u8], system: u16, version: u16) -> u32
     ensures { λ r. ⌜ r ≡ cond (eqb (length (now (card .entry))) cardSize) 0 (refusedAs NotBuilt) ⌝ }
@@ -31,7 +31,7 @@ pub extern "C" fn uluvoli_new(card: &mut [u8], system: u16, version: u16) -> u32
     0
 }
 
-// An addition: the card's bytes are written anew where it was accepted.
+// Writes the card of an accepted addition to `card`, which a refused one leaves, and gives what the call returns.
 fn kept(added: Added, card: &mut [u8]) -> u32
     ensures { λ r. ⌜ r ≡ answerAs (added .answer) ⌝ }
     ensures { λ _. ⌜ now (card .exit) ≡ cardAfter (now (card .entry)) added ⌝ }
@@ -46,7 +46,7 @@ fn kept(added: Added, card: &mut [u8]) -> u32
     }
 }
 
-// Adds an area.
+// Adds an area from `code` to `end` at `depth` to the card that the bytes of `card` encode.
 #[no_mangle]
 pub extern "C" fn uluvoli_add_area(
     card: &mut [u8],
@@ -62,7 +62,7 @@ pub extern "C" fn uluvoli_add_area(
     kept(own.add_area(depth, code, end, version), card)
 }
 
-// Adds a service. The first of its number makes a zeroed store in the arena.
+// Adds a service at `depth`. The first of its number makes a store of `blocks` zeroed blocks in the arena.
 #[no_mangle]
 pub extern "C" fn uluvoli_add_service(
     card: &mut [u8],

@@ -1,4 +1,4 @@
-// Whether lists for a card in the caller's bytes are well formed: calls for programs in C and Rust.
+// Whether lists of a mutual authentication are well formed for a card in the caller's bytes.
 use crate::outcome;
 use card_questions::keys;
 use card_questions::keys::Checked;
@@ -8,7 +8,7 @@ ghost use Rattle.card_questions.specs.Keys.{areaListAnswer, serviceListAnswer};
 ghost use Rattle.handset_bytes.specs.Card.{decodedOf};
 ghost use Rattle.handset.specs.Checked.{checkedAs, checkedAfter};
 
-// Whether a list is well formed.
+// Writes to `out` whether a list is well formed, unless the check was refused, and gives what the call returns.
 fn checked(answer: Checked, out: &mut bool) -> u32
     ensures { λ r. ⌜ r ≡ checkedAs answer ⌝ }
     ensures { λ _. ⌜ now (out .exit) ≡ checkedAfter (now (out .entry)) answer ⌝ }
@@ -26,7 +26,7 @@ fn checked(answer: Checked, out: &mut bool) -> u32
     }
 }
 
-// Whether an area list is well formed.
+// Tells in `well_formed` whether `areas` is a well formed area list.
 #[no_mangle]
 pub extern "C" fn uluvoli_area_list(card: &[u8], areas: &[u16], well_formed: &mut bool) -> u32
     ensures { λ r. ⌜ r ≡ checkedAs (areaListAnswer (decodedOf (now (card .entry))) (now (areas .entry))) ⌝ }
@@ -36,7 +36,7 @@ pub extern "C" fn uluvoli_area_list(card: &[u8], areas: &[u16], well_formed: &mu
     checked(keys::area_list_well_formed(own, areas), well_formed)
 }
 
-// Whether a service list is well formed.
+// Tells in `well_formed` whether `services` is a well formed service list.
 #[no_mangle]
 pub extern "C" fn uluvoli_service_list(card: &[u8], services: &[u16], well_formed: &mut bool) -> u32
     ensures { λ r. ⌜ r ≡ checkedAs (serviceListAnswer (decodedOf (now (card .entry))) (now (services .entry))) ⌝ }

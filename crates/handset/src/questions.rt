@@ -1,4 +1,4 @@
-// What can be asked of the tree of a card in the caller's bytes: calls for programs in C and Rust.
+// What can be asked of the tree of a card in the caller's bytes.
 use crate::outcome;
 use answers::refusal::Told;
 use card_questions::keys;
@@ -14,7 +14,7 @@ ghost use Rattle.card_questions.specs.Keys.{versionAnswer};
 ghost use Rattle.handset_bytes.specs.Card.{decodedOf};
 ghost use Rattle.handset.specs.Told.{toldAs, toldAfter, listedAs, listedAfter};
 
-// How many nodes a directory lists.
+// Writes to `out` how many nodes a directory lists, unless it was refused, and gives what the call returns.
 fn listed(answer: Listing, out: &mut usize) -> u32
     ensures { λ r. ⌜ r ≡ listedAs answer ⌝ }
     ensures { λ _. ⌜ now (out .exit) ≡ listedAfter (now (out .entry)) answer ⌝ }
@@ -28,7 +28,7 @@ fn listed(answer: Listing, out: &mut usize) -> u32
     }
 }
 
-// Writes the directory as pairs of 16-bit numbers, and how many nodes it lists.
+// Writes the directory to the front of `out`, a pair of numbers a node, and to `nodes` how many nodes it lists.
 #[no_mangle]
 pub extern "C" fn uluvoli_directory(card: &[u8], out: &mut [u16], nodes: &mut usize) -> u32
     ensures { λ r. ⌜ r ≡ listedAs (directoryAnswer (decodedOf (now (card .entry))) (length (now (out .entry)))) ⌝ }
@@ -39,7 +39,7 @@ pub extern "C" fn uluvoli_directory(card: &[u8], out: &mut [u16], nodes: &mut us
     listed(listing::directory(own, out), nodes)
 }
 
-// A number of 16 bits, or why there is none.
+// Writes to `out` the number that a question is answered with, unless it was refused, and gives what the call returns.
 fn told(answer: Told, out: &mut u16) -> u32
     ensures { λ r. ⌜ r ≡ toldAs answer ⌝ }
     ensures { λ _. ⌜ now (out .exit) ≡ toldAfter (now (out .entry)) answer ⌝ }
@@ -53,7 +53,7 @@ fn told(answer: Told, out: &mut u16) -> u32
     }
 }
 
-// The block total of a node.
+// Tells in `blocks` the block total of the node `code`.
 #[no_mangle]
 pub extern "C" fn uluvoli_total(card: &[u8], code: u16, blocks: &mut u16) -> u32
     ensures { λ r. ⌜ r ≡ toldAs (totalAnswer (decodedOf (now (card .entry))) code) ⌝ }
@@ -63,7 +63,7 @@ pub extern "C" fn uluvoli_total(card: &[u8], code: u16, blocks: &mut u16) -> u32
     told(totals::block_count_for_node(own, code), blocks)
 }
 
-// The key version of a node.
+// Tells in `version` the key version of the node `code`.
 #[no_mangle]
 pub extern "C" fn uluvoli_key_version(card: &[u8], code: u16, version: &mut u16) -> u32
     ensures { λ r. ⌜ r ≡ toldAs (versionAnswer (decodedOf (now (card .entry))) code) ⌝ }

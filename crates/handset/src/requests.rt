@@ -1,8 +1,8 @@
-// Whole requests to a card in the caller's bytes: calls for programs in C and Rust.
+// Whole requests to a card in the caller's bytes.
 use crate::outcome;
-use answers::status;
 use handset_bytes::decoding;
 use request_plan::Reply;
+use request_plan::Response;
 use request_serve::reading;
 use request_serve::writing;
 ghost use mathlib.Core.Path.{_≡_};
@@ -13,21 +13,17 @@ ghost use Rattle.request_plan.specs.Serve.{serve, outputAfter, stagingBy};
 ghost use Rattle.handset_bytes.specs.Card.{decodedOf};
 ghost use Rattle.handset.specs.Reply.{replyAs};
 
-// The reply to a request.
+// The number that a request returns: its status pair, or its refusal.
 fn replied(reply: Reply) -> u32
     ensures { λ r. ⌜ r ≡ replyAs reply ⌝ }
 {
-    match reply {
-        Reply::Refused(refusal) => outcome::refused(refusal),
-        Reply::Done => 0,
-        Reply::ShortData => 0xffac,
-        Reply::Failed { index, fault } => {
-            256 * (status::list_error_index(index) as u32) + fault.status_flag2() as u32
-        }
+    match reply.response() {
+        Response::Pair { flag1, flag2 } => 256 * (flag1 as u32) + flag2 as u32,
+        Response::Refusal(number) => outcome::numbered(number),
     }
 }
 
-// A whole read.
+// Carries out a read on the card that the bytes of `card` encode.
 #[no_mangle]
 pub extern "C" fn uluvoli_read(
     card: &[u8],
@@ -45,7 +41,7 @@ pub extern "C" fn uluvoli_read(
     replied(reading::read(own, arena, out, open, codes, count, list))
 }
 
-// A whole write.
+// Carries out a write on the card that the bytes of `card` encode: all of it, or nothing.
 #[no_mangle]
 pub extern "C" fn uluvoli_write(
     card: &[u8],

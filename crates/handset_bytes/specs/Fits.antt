@@ -28,7 +28,7 @@ pub record NodeFits (n : Node) : Type 0 where
 
 pub record Fits (c : Card) : Type 0 where
   pub nodes : (i : ℕ) → NodeFits (getD (c .nodes) i rootNode)
-  pub long : length (c .nodes) ≡ 64
+  pub records : length (c .nodes) ≡ 64
   pub count : c .count < 2 ^ 16
   pub used : c .used < 2 ^ 16
   pub system : c .system < 2 ^ 16

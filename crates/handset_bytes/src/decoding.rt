@@ -1,13 +1,13 @@
-// The card that bytes encode.
+// A card read from its bytes.
 use crate::half;
-use crate::layout::SIZE;
+use crate::layout;
 use crate::node;
 use card_build::card::Card;
 use card_nodes::node::Node;
 ghost use mathlib.Core.Path.{_≡_};
 ghost use Rattle.handset_bytes.specs.Card.{noCard, decodedOf};
 
-// What stands for the card of bytes that encode none: it has not even a root, so every call on it is refused with 8.
+// What stands for the card of bytes that encode none. It has not even a root, so that every call on it is refusal 8.
 fn none() -> Card
     ensures { λ r. ⌜ r ≡ noCard ⌝ }
 {
@@ -21,19 +21,19 @@ fn none() -> Card
     }
 }
 
-// The card that bytes encode.
+// The card that `bytes` encode: 1,288 of them, each record a node's. Whether accepted calls build it is not looked at here.
 pub fn decode(bytes: &[u8]) -> Card
     ensures { λ r. ⌜ r ≡ decodedOf (now (bytes .entry)) ⌝ }
 {
-    if bytes.len() != SIZE {
+    if bytes.len() != layout::SIZE {
         return none();
     }
     let root = Node::root();
     let mut nodes = [root; 64];
     let mut i = 0;
     while i < 64 {
-        let at = 8 + 20 * i;
-        let own = &bytes[at..at + 20];
+        let at = layout::HEADER + layout::RECORD * i;
+        let own = &bytes[at..at + layout::RECORD];
         if !node::is_record(own) {
             return none();
         }

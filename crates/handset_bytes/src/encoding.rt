@@ -1,7 +1,7 @@
-// A card, written to its bytes.
-use crate::encoding_half;
-use crate::encoding_node;
-use crate::layout::SIZE;
+// A card written to its bytes.
+use crate::half;
+use crate::layout;
+use crate::node;
 use card_build::card::Card;
 ghost use mathlib.Core.Path.{_≡_};
 ghost use Prim.Native.Nat.{_≤_};
@@ -9,29 +9,29 @@ ghost use lib.ListN.{length};
 ghost use Rattle.byte_parts.specs.Part.{put};
 ghost use Rattle.handset_bytes.specs.Card.{headBytes, cardPut};
 
-// Writes the header of a card.
+// Writes the header of `card`: count, blocks in use, system code, key version.
 fn write_head(card: Card, bytes: &mut [u8])
     requires { ⌜ 8 ≤ length (now bytes) ⌝ }
     ensures { λ _. ⌜ now (bytes .exit) ≡ put (now (bytes .entry)) 0 8 (headBytes (card .count) (card .used) (card .system) (card .version)) ⌝ }
 {
-    encoding_half::put_half(bytes, 0, card.count);
-    encoding_half::put_half(bytes, 2, card.used);
-    encoding_half::put_half(bytes, 4, card.system as usize);
-    encoding_half::put_half(bytes, 6, card.version as usize);
+    half::put_half(bytes, 0, card.count);
+    half::put_half(bytes, 2, card.used);
+    half::put_half(bytes, 4, card.system as usize);
+    half::put_half(bytes, 6, card.version as usize);
 }
 
-// Writes a card to its bytes. Bytes of another length stay as they were.
+// Writes `card` to its bytes. Bytes of another length than a card's stay as they were.
 pub fn encode(card: Card, bytes: &mut [u8])
     ensures { λ _. ⌜ now (bytes .exit) ≡ cardPut card (now (bytes .entry)) ⌝ }
 {
-    if bytes.len() != SIZE {
+    if bytes.len() != layout::SIZE {
         return;
     }
     write_head(card, bytes);
     let mut i = 0;
     while i < 64 {
-        let at = 8 + 20 * i;
-        encoding_node::write(card.nodes[i], &mut bytes[at..at + 20]);
+        let at = layout::HEADER + layout::RECORD * i;
+        node::write(card.nodes[i], &mut bytes[at..at + layout::RECORD]);
         i += 1;
     }
 }

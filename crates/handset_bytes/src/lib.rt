@@ -1,10 +1,7 @@
-// A card as bytes, in a layout of 1,288: a header of 8, then 64 records of 20 (specs/Card.antt, specs/Node.antt).
-// The card that bytes encode.
-// A card, written to its bytes.
+// A card as 1,288 bytes, in which it crosses to programs in C and Rust: numbers of 16 bits in `half`, records in `node`, and
+// the whole card, read by `decoding` and written by `encoding`, each with its definition in specs/.
 pub mod decoding;
 pub mod encoding;
-mod encoding_half;
-mod encoding_node;
 mod half;
 pub mod layout;
 mod node;

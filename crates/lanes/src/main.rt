@@ -1,7 +1,9 @@
 // A race's card: the marshal writes lane 1 through a read/write service, the finish tower reads it through a read-only
-// service of the same number. A late redraw in between is what the tower then reads.
+// service of the same number. A late redraw in between is what the tower then reads; a write with too short a staging is
+// refused, and the tower reads the lane as it was.
 use card_build::card::Card;
 use request_plan::Reply;
+use request_plan::Response;
 use request_serve::reading;
 use request_serve::writing;
 
@@ -15,21 +17,28 @@ fn race(arena: &mut [u8]) -> Card {
     both
 }
 
-// Prints what was done and the two status bytes of its reply.
+// Prints what was done and what it was told: two status bytes, or the number of a refusal.
 fn print_reply(what: &[u8], reply: Reply) {
     io::write_all(1, what);
-    io::write_all(1, b" ");
-    io::print_hex(1, reply.status_flag1() as u64, 2);
-    io::write_all(1, b" ");
-    io::print_hex(1, reply.status_flag2() as u64, 2);
+    match reply.response() {
+        Response::Pair { flag1, flag2 } => {
+            io::write_all(1, b" ");
+            io::print_hex(1, flag1 as u64, 2);
+            io::write_all(1, b" ");
+            io::print_hex(1, flag2 as u64, 2);
+        }
+        Response::Refusal(number) => {
+            io::write_all(1, b" refused, ");
+            io::print_decimal(1, number as u64);
+        }
+    }
 }
 
-// The marshal's write of lane 1, which is block 0: sixteen bytes.
-fn marshal(card: Card, arena: &mut [u8], block: &[u8]) {
-    let mut staging = [0u8; 32];
+// The marshal's write of lane 1, which is block 0: sixteen bytes. The staging has to hold all blocks in use.
+fn marshal(card: Card, arena: &mut [u8], staging: &mut [u8], block: &[u8]) {
     let codes = [0x1049u16];
     let list = [0x80u8, 0];
-    let reply = writing::write(card, arena, &mut staging, true, &codes, 1, &list, block);
+    let reply = writing::write(card, arena, staging, true, &codes, 1, &list, block);
     print_reply(b"marshal", reply);
     io::write_all(1, b"\n");
 }
@@ -48,9 +57,12 @@ fn tower(card: Card, arena: &[u8]) {
 
 fn main() {
     let mut arena = [0u8; 256];
+    let mut staging = [0u8; 32];
     let card = race(&mut arena);
-    marshal(card, &mut arena, b"lane 1: LEANDER ");
+    marshal(card, &mut arena, &mut staging, b"lane 1: LEANDER ");
     tower(card, &arena);
-    marshal(card, &mut arena, b"lane 1: THAMES  ");
+    marshal(card, &mut arena, &mut staging, b"lane 1: THAMES  ");
+    tower(card, &arena);
+    marshal(card, &mut arena, &mut staging[0..16], b"lane 1: NEPTUNE ");
     tower(card, &arena);
 }

@@ -94,7 +94,7 @@ nodes-count (suc n) s = ap suc (nodes-count n (drop 20 s))
 pub card-fits : (s : List ℕ) → Bytes s → Fits (cardIn s)
 card-fits s b = record {
   nodes = nodes-fit 64 (drop 8 s) (bytes-drop 8 s b);
-  long = nodes-count 64 (drop 8 s);
+  records = nodes-count 64 (drop 8 s);
   count = half-fits s 0 b;
   used = half-fits s 2 b;
   system = half-fits s 4 b;
@@ -105,7 +105,7 @@ card-fits s b = record {
 pub new-fits : (system version : ℕ) → system < 2 ^ 16 → version < 2 ^ 16 → Fits (newCard system version)
 new-fits system version s v = record {
   nodes = roots 64;
-  long = refl;
+  records = refl;
   count = omega arith;
   used = omega arith;
   system = s;
@@ -121,7 +121,7 @@ new-fits system version s v = record {
 none-fits : Fits noCard
 none-fits = record {
   nodes = new-fits 0 0 (omega arith) (omega arith) .nodes;
-  long = refl;
+  records = refl;
   count = omega arith;
   used = omega arith;
   system = omega arith;
@@ -141,7 +141,7 @@ decoded-fits s b = by (isCard s)
 pub built-fits : {c : Card} → Built c → ((i : ℕ) → NodeFits (getD (c .nodes) i rootNode)) → c .system < 2 ^ 16 → c .version < 2 ^ 16 → Fits c
 built-fits b n s v =
     let z = sized b in
-    record { nodes = n; long = z .long; count = omega (arith, z .few); used = omega (arith, z .most); system = s; version = v }
+    record { nodes = n; records = z .long; count = omega (arith, z .few); used = omega (arith, z .most); system = s; version = v }
 
 -- one record anew
 set-fits : (ns : List Node) (k : ℕ) (n : Node) → ((i : ℕ) → NodeFits (getD ns i rootNode)) → NodeFits n →
@@ -167,8 +167,8 @@ not-accepted e = let a : Refused _ ≡ Done = ap (λ (x : Added). x .answer) e i
 grown-fits : {c : Card} {n : Node} {used : ℕ} → Fits c → NodeFits n → length (nodesOf c) < 64 → used ≤ 4096 → Fits (grown c n used)
 grown-fits {c = c} {n = n} f h few most = record {
   nodes = set-fits (c .nodes) (c .count) n (f .nodes) h;
-  long = length-set (c .nodes) (c .count) n ∙ f .long;
-  count = omega (arith, simp length-take at few, f .long);
+  records = length-set (c .nodes) (c .count) n ∙ f .records;
+  count = omega (arith, simp length-take at few, f .records);
   used = omega arith;
   system = f .system;
   version = f .version;
@@ -180,7 +180,7 @@ module _ {c c′ : Card} (f : Fits c) where
       areaAdded c depth code end version ≡ accepted c′ → Fits c′
   unfolding areaAdded addArea
   area-fits depth code end version h k l e =
-      let p = past-eight c (f .long) e in
+      let p = past-eight c (f .records) e in
       by (areaJudged (nodesOf c) depth code end) refl (sized (p .0) .most) (p .1)
     where
       n : Node
@@ -194,44 +194,44 @@ module _ {c c′ : Card} (f : Fits c) where
       by (Refused r) j m e = not-accepted e
 
   -- an accepted service
-  pub service-fits : (long depth code blocks version : ℕ) → code < 2 ^ 16 → version < 2 ^ 16 →
-      serviceAdded c long depth code blocks version ≡ accepted c′ → Fits c′
+  pub service-fits : (arenaLen depth code blocks version : ℕ) → code < 2 ^ 16 → version < 2 ^ 16 →
+      serviceAdded c arenaLen depth code blocks version ≡ accepted c′ → Fits c′
   unfolding serviceAdded addService
-  service-fits long depth code blocks version h l e =
-      let p = past-eight c (f .long) e in
-      short (ltb long (16 * c .used)) (sized (p .0) .most) (p .1)
+  service-fits arenaLen depth code blocks version h l e =
+      let p = past-eight c (f .records) e in
+      short (ltb arenaLen (16 * c .used)) (sized (p .0) .most) (p .1)
     where
       store : (e : Entry) → EntryFits e → (startOf e < 2 ^ 16) × (blocksOf e < 2 ^ 16)
       store (Area end) g = (omega arith, omega arith)
       store (Service s b l) g = (g .0, g .1)
 
-      by : (a : Placed) → placedOf (nodesOf c) (c .used) long depth code blocks ≡ a → c .used ≤ 4096 →
+      by : (a : Placed) → placedOf (nodesOf c) (c .used) arenaLen depth code blocks ≡ a → c .used ≤ 4096 →
           serviceBy c depth code version a ≡ accepted c′ → Fits c′
       by (Store s b u) j m e =
-          let d = service-known (nodesOf c) (c .used) long depth code blocks j in
-          let least = used-most (nodesOf c) depth code (c .used) long blocks j m in
+          let d = service-known (nodesOf c) (c .used) arenaLen depth code blocks j in
+          let least = used-most (nodesOf c) depth code (c .used) arenaLen blocks j m in
           let own : (s < 2 ^ 16) × (b < 2 ^ 16) =
           ⊎-elim
           (λ o.
           let g = store (getD (nodesOf c) (o .first) rootNode .entry) (few-fit (c .count) (o .first) (c .nodes) (f .nodes) .entry) in
           (omega arith, omega arith))
           (λ o. (omega arith, omega arith))
-          (stored (nodesOf c) depth code (c .used) long blocks j) in
+          (stored (nodesOf c) depth code (c .used) arenaLen blocks j) in
           let x : NodeFits (nodeAs depth code version (Service s b Unlimited)) =
           record { depth = omega arith; code = h; version = l; entry = (own .0, own .1, tt) } in
-          subst Fits (ap (λ (x : Added). x .card) e) (grown-fits f x (allowed (nodesOf c) depth code (c .used) long blocks j .room) least)
+          subst Fits (ap (λ (x : Added). x .card) e) (grown-fits f x (allowed (nodesOf c) depth code (c .used) arenaLen blocks j .room) least)
       by (NotPlaced r) j m e = not-accepted e
 
       short : (t : Bool) → c .used ≤ 4096 → cond t (refused c ShortArena)
-          (serviceBy c depth code version (placedOf (nodesOf c) (c .used) long depth code blocks)) ≡ accepted c′ → Fits c′
+          (serviceBy c depth code version (placedOf (nodesOf c) (c .used) arenaLen depth code blocks)) ≡ accepted c′ → Fits c′
       short true m e = not-accepted e
-      short false m e = by (placedOf (nodesOf c) (c .used) long depth code blocks) refl m e
+      short false m e = by (placedOf (nodesOf c) (c .used) arenaLen depth code blocks) refl m e
 
   -- an accepted limit
   pub limit-fits : (upper lower : ℤ) (generation : ℕ) → LimitFits (Limited upper lower generation) →
       limitAdded c upper lower generation ≡ accepted c′ → Fits c′
   unfolding limitAdded setLimit
-  limit-fits upper lower generation h e = by (lastOf c .entry) (f .nodes (c .count - 1) .entry) (past-eight c (f .long) e .1)
+  limit-fits upper lower generation h e = by (lastOf c .entry) (f .nodes (c .count - 1) .entry) (past-eight c (f .records) e .1)
     where
       by : (t : Entry) → EntryFits t → limitBy c (Limited upper lower generation) t ≡ accepted c′ → Fits c′
       by (Area end) g e = not-accepted e
@@ -241,7 +241,7 @@ module _ {c c′ : Card} (f : Fits c) where
           record { depth = o .depth; code = o .code; version = o .version; entry = (g .0, g .1, h) } in
           subst Fits (ap (λ (x : Added). x .card) e) (record {
             nodes = set-fits (c .nodes) (c .count - 1) _ (f .nodes) x;
-            long = length-set (c .nodes) (c .count - 1) _ ∙ f .long;
+            records = length-set (c .nodes) (c .count - 1) _ ∙ f .records;
             count = f .count;
             used = f .used;
             system = f .system;

@@ -48,16 +48,16 @@ module _ (s : List ℕ) (b : Bytes s) {c′ : Card} where
   unfolding areaAdded
   area-left depth code end version h k l e =
       let f = decoded-fits s b in
-      left (built-sound (past-eight (decodedOf s) (f .long) e .0)) e (area-fits f depth code end version h k l e)
+      left (built-sound (past-eight (decodedOf s) (f .records) e .0)) e (area-fits f depth code end version h k l e)
 
   -- a service
-  pub service-left : (long depth code blocks version : ℕ) → code < 2 ^ 16 → version < 2 ^ 16 →
-      serviceAdded (decodedOf s) long depth code blocks version ≡ accepted c′ →
-      decodedOf (cardAfter s (serviceAdded (decodedOf s) long depth code blocks version)) ≡ c′
+  pub service-left : (arenaLen depth code blocks version : ℕ) → code < 2 ^ 16 → version < 2 ^ 16 →
+      serviceAdded (decodedOf s) arenaLen depth code blocks version ≡ accepted c′ →
+      decodedOf (cardAfter s (serviceAdded (decodedOf s) arenaLen depth code blocks version)) ≡ c′
   unfolding serviceAdded
-  service-left long depth code blocks version h l e =
+  service-left arenaLen depth code blocks version h l e =
       let f = decoded-fits s b in
-      left (built-sound (past-eight (decodedOf s) (f .long) e .0)) e (service-fits f long depth code blocks version h l e)
+      left (built-sound (past-eight (decodedOf s) (f .records) e .0)) e (service-fits f arenaLen depth code blocks version h l e)
 
   -- a limit
   pub limit-left : (upper lower : ℤ) (generation : ℕ) → LimitFits (Limited upper lower generation) →
@@ -66,4 +66,4 @@ module _ (s : List ℕ) (b : Bytes s) {c′ : Card} where
   unfolding limitAdded
   limit-left upper lower generation h e =
       let f = decoded-fits s b in
-      left (built-sound (past-eight (decodedOf s) (f .long) e .0)) e (limit-fits f upper lower generation h e)
+      left (built-sound (past-eight (decodedOf s) (f .records) e .0)) e (limit-fits f upper lower generation h e)

@@ -27,10 +27,10 @@ module _ (s : List ℕ) (no : isCard s ≡ false) where
   unfolding areaAdded
   area-none depth code end version = rw (unsound s no)
 
-  pub service-none : (long depth code blocks version : ℕ) →
-      serviceAdded (decodedOf s) long depth code blocks version ≡ refused (decodedOf s) NotBuilt
+  pub service-none : (arenaLen depth code blocks version : ℕ) →
+      serviceAdded (decodedOf s) arenaLen depth code blocks version ≡ refused (decodedOf s) NotBuilt
   unfolding serviceAdded
-  service-none long depth code blocks version = rw (unsound s no)
+  service-none arenaLen depth code blocks version = rw (unsound s no)
 
   pub limit-none : (upper lower : ℤ) (generation : ℕ) → limitAdded (decodedOf s) upper lower generation ≡ refused (decodedOf s) NotBuilt
   unfolding limitAdded
@@ -56,9 +56,9 @@ module _ (s : List ℕ) (no : isCard s ≡ false) where
   unfolding serviceListAnswer
   service-list-none services = rw (unsound s no)
 
-  pub block-none : (long code number : ℕ) → blockJudged (decodedOf s) long code number ≡ Refused NotBuilt
+  pub block-none : (arenaLen code number : ℕ) → blockJudged (decodedOf s) arenaLen code number ≡ Refused NotBuilt
   unfolding blockJudged
-  block-none long code number = rw (unsound s no)
+  block-none arenaLen code number = rw (unsound s no)
 
   pub request-none : (arena : List ℕ) (r : Request) → serve (decodedOf s) arena r ≡ told arena (NotServed NotBuilt)
   unfolding serve planOf judgedWith

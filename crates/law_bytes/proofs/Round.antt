@@ -57,14 +57,14 @@ card-long c h = omega (arith, nodes-long (c .nodes))
 pub written-is : (c : Card) → Fits c → isCard (cardBytes c) ≡ true
 unfolding cardBytes halfBytes isCard
 written-is c f =
-    let ok : areRecords 64 (nodesBytes (c .nodes)) ≡ true = rw (f .long) at (nodes-record (c .nodes)) in
-    rw (eq-eqb _ 1288 (card-long c (f .long)), ok)
+    let ok : areRecords 64 (nodesBytes (c .nodes)) ≡ true = rw (f .records) at (nodes-record (c .nodes)) in
+    rw (eq-eqb _ 1288 (card-long c (f .records)), ok)
 
 -- and is read back
 pub read-back : (c : Card) → Fits c → decodedOf (cardBytes c) ≡ c
 unfolding cardBytes halfBytes halfAt decodedOf
 read-back c f =
-    let same : nodesIn 64 (nodesBytes (c .nodes)) ≡ c .nodes = rw (f .long) at (nodes-back (c .nodes) (f .nodes)) in
+    let same : nodesIn 64 (nodesBytes (c .nodes)) ≡ c .nodes = rw (f .records) at (nodes-back (c .nodes) (f .nodes)) in
     rw (written-is c f)
     (rw (same, half-back (c .count) (f .count), half-back (c .used) (f .used), half-back (c .system) (f .system), half-back (c .version) (f .version)))
 

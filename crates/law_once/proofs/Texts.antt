@@ -27,6 +27,8 @@ use Rattle.text_numbers.proofs.codes.read_codes as text_numbers·read-codes
 use Rattle.text_numbers.proofs.decimals.read_dec as text_numbers·read-dec
 use Rattle.text_numbers.proofs.decimals.read_signed as text_numbers·read-signed
 use Rattle.text_numbers.proofs.decimals.put_dec as text_numbers·put-dec
+use Rattle.test_stored.proofs.before_all as test_stored·before-all
+use Rattle.test_stored.proofs.one_more as test_stored·one-more
 use Rattle.test_stored.proofs.number16 as test_stored·number16
 use Rattle.test_stored.proofs.number32 as test_stored·number32
 
@@ -78,6 +80,12 @@ module _ {M : Type 1} (𝓤 : URA M) (H : Heap 𝓤) (A : Atoms 𝓤) (mem : Mem
 
   pub text_numbers·put-dec-once : OneAnswer 𝓤 text_numbers·put-dec.ended (text_numbers·put-dec.clauses 𝓤 H A mem run)
   text_numbers·put-dec-once κs a g r r′ ws ws′ = of-two 𝓤 (λ p p′ q q′. (once p q, λ i. (tt, (once p′ q′ i, (tt, tt)))))
+
+  pub test_stored·before-all-once : OneAnswer 𝓤 test_stored·before-all.ended (test_stored·before-all.clauses 𝓤 H A mem run)
+  test_stored·before-all-once κs a g r r′ ws ws′ = result 𝓤 refl
+
+  pub test_stored·one-more-once : OneAnswer 𝓤 test_stored·one-more.ended (test_stored·one-more.clauses 𝓤 H A mem run)
+  test_stored·one-more-once κs a g r r′ ws ws′ = result 𝓤 refl
 
   pub test_stored·number16-once : OneAnswer 𝓤 test_stored·number16.ended (test_stored·number16.clauses 𝓤 H A mem run)
   test_stored·number16-once κs a g r r′ ws ws′ = result 𝓤 refl

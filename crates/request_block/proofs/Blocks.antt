@@ -1,12 +1,12 @@
 -- What `blockJudged` is in each of its cases, and where a block lies.
 use mathlib.Core.Path.{_≡_, _∙_}
-use mathlib.Core.Bool.{true, false}
+use mathlib.Core.Bool.{true, false, not}
 use mathlib.Core.List.{List, []}
 use Prim.Native.Nat.{ℕ, _+_, _-_, _*_, _/_, _≤_, _<_}
 use native.Mathlib.Omega.{arith}
 use lib.Dec.{ltb}
 use lib.ListN.{length, take, drop}
-use borrow.Author.Tests.{lt-ltb, le-ltb, ltb-true, ltb-false}
+use borrow.Author.Tests.{lt-ltb, le-ltb, le-leb, lt-leb, ltb-false, leb-false, not-false}
 use Rattle.answers.specs.declared.refusal.Refusal.{Refusal}
 use Rattle.answers.specs.declared.refusal.Refusal.the-variants.{ShortArena, NoSuchBlock, NotBuilt}
 use Rattle.byte_parts.specs.Part.{part, put}
@@ -16,48 +16,48 @@ use Rattle.card_build.specs.declared.card.Card.{Card}
 use Rattle.card_build.specs.Card.{nodesOf, isSound}
 use Rattle.request_check.specs.declared.table.Row.{Row}
 use Rattle.request_check.specs.Row.{rowOf}
-use Rattle.request_block.specs.Block.{blockPlace, hasBlock, blockJudged, storedBlock, arenaSet}
-use Rattle.request_plan.proofs.Tests.{held, unheld}
+use Rattle.request_block.specs.Block.{blockPlace, lacksBlock, blockJudged, storedBlock, arenaSet}
+use Rattle.request_plan.proofs.Tests.{passed-over}
 use Rattle.request_plan.proofs.Ready.{row-within, sound-laid}
 
-module _ (c : Card) (long code number : ℕ) where
+module _ (c : Card) (arenaLen code number : ℕ) where
   -- a card that was not built
-  pub not-built : isSound c ≡ false → Refused NotBuilt ≡ blockJudged c long code number
+  pub not-built : isSound c ≡ false → Refused NotBuilt ≡ blockJudged c arenaLen code number
   unfolding blockJudged
   not-built s = rw s
 
   module _ (s : isSound c ≡ true) where
     -- too short an arena
-    pub short-arena : long / 16 < c .used → Refused ShortArena ≡ blockJudged c long code number
+    pub short-arena : arenaLen / 16 < c .used → Refused ShortArena ≡ blockJudged c arenaLen code number
     unfolding blockJudged
-    short-arena h = rw (s, lt-ltb long (16 * c .used) (omega arith))
+    short-arena h = rw (s, lt-ltb arenaLen (16 * c .used) (omega arith))
 
-    module _ {w : Row} (a : c .used ≤ long / 16) (r : w ≡ rowOf (nodesOf c) code) where
+    module _ {w : Row} (a : c .used ≤ arenaLen / 16) (r : w ≡ rowOf (nodesOf c) code) where
       -- a block that is there
-      pub there : number < w .blocks → Done ≡ blockJudged c long code number
+      pub there : number < w .blocks → Done ≡ blockJudged c arenaLen code number
       unfolding blockJudged
-      there h = rw (s, le-ltb long (16 * c .used) (omega arith), ← r, lt-ltb number (w .blocks) h)
+      there h = rw (s, le-ltb arenaLen (16 * c .used) (omega arith), ← r, lt-leb (w .blocks) number h)
 
       -- one that is not
-      pub not-there : w .blocks ≤ number → Refused NoSuchBlock ≡ blockJudged c long code number
+      pub not-there : w .blocks ≤ number → Refused NoSuchBlock ≡ blockJudged c arenaLen code number
       unfolding blockJudged
-      not-there h = rw (s, le-ltb long (16 * c .used) (omega arith), ← r, le-ltb number (w .blocks) h)
+      not-there h = rw (s, le-ltb arenaLen (16 * c .used) (omega arith), ← r, le-leb (w .blocks) number h)
 
 -- a refusal is not done
 not-done : {r : Refusal} → Refused r ≡ Done → ⊥
 not-done e = let z : _≡_ {A = ℕ} 0 1 = cc in omega arith
 
 -- a block that is there lies in the arena
-pub block-inside : (c : Card) (long code number : ℕ) → length (c .nodes) ≡ 64 → blockJudged c long code number ≡ Done →
-    blockPlace (rowOf (nodesOf c) code) number + 16 ≤ long
+pub block-inside : (c : Card) (arenaLen code number : ℕ) → length (c .nodes) ≡ 64 → blockJudged c arenaLen code number ≡ Done →
+    blockPlace (rowOf (nodesOf c) code) number + 16 ≤ arenaLen
 unfolding blockJudged
-block-inside c long code number h e =
-    let s = held (not-done {r = NotBuilt}) (isSound c) _ e in
-    let a = unheld (not-done {r = ShortArena}) (ltb long (16 * c .used)) _ (s .1) in
-    let b = held (not-done {r = NoSuchBlock}) (hasBlock (rowOf (nodesOf c) code) number) Done (a .1) in
-    let n = ltb-true number (rowOf (nodesOf c) code .blocks) (b .0) in
-    let l = ltb-false long (16 * c .used) (a .0) in
-    let w = row-within (sound-laid c h (s .0)) code in
+block-inside c arenaLen code number h e =
+    let s = passed-over (not-done {r = NotBuilt}) (not (isSound c)) _ e in
+    let a = passed-over (not-done {r = ShortArena}) (ltb arenaLen (16 * c .used)) _ (s .1) in
+    let b = passed-over (not-done {r = NoSuchBlock}) (lacksBlock (rowOf (nodesOf c) code) number) Done (a .1) in
+    let n = leb-false (rowOf (nodesOf c) code .blocks) number (b .0) in
+    let l = ltb-false arenaLen (16 * c .used) (a .0) in
+    let w = row-within (sound-laid c h (not-false (isSound c) (s .0))) code in
     omega arith
 
 module _ (c : Card) (a : List ℕ) (code number : ℕ) where

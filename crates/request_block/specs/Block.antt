@@ -1,8 +1,8 @@
 -- One stored block: as the caller's own arena bytes, and set.
 use Prim.Native.Nat.{ℕ, _+_, _*_}
 use mathlib.Core.List.{List, []}
-use mathlib.Core.Bool.{Bool, true, false, cond, _&&_}
-use lib.Dec.{ltb}
+use mathlib.Core.Bool.{Bool, cond, not}
+use lib.Dec.{ltb, leb}
 use lib.ListN.{length}
 use Rattle.answers.specs.declared.refusal.Refusal.the-variants.{ShortArena, NoSuchBlock, NotBuilt}
 use Rattle.byte_parts.specs.Part.{part, put}
@@ -18,17 +18,18 @@ abbrev pub blockPlace : Row → ℕ → ℕ
 blockPlace w number = 16 * (w .start + number)
 
 -- a row has no block of a number not below its count; an unknown service has none
-abbrev pub hasBlock : Row → ℕ → Bool
-hasBlock w number = ltb number (w .blocks)
+abbrev pub lacksBlock : Row → ℕ → Bool
+lacksBlock w number = leb (w .blocks) number
 
--- 8, 7, 23
+-- whether a service has a block, in an arena of so many bytes: 8, 7, 23
 unfoldable pub blockJudged : Card → ℕ → ℕ → ℕ → Answer
-blockJudged c long code number =
-    cond (isSound c)
-    (cond (ltb long (16 * c .used)) (Refused ShortArena)
-    (cond (hasBlock (rowOf (nodesOf c) code) number) Done (Refused NoSuchBlock)))
-    (Refused NotBuilt)
+blockJudged c arenaLen code number =
+    cond (not (isSound c)) (Refused NotBuilt)
+    (cond (ltb arenaLen (16 * c .used)) (Refused ShortArena)
+    (cond (lacksBlock (rowOf (nodesOf c) code) number) (Refused NoSuchBlock)
+    Done))
 
+-- the block's bytes, once it is judged
 abbrev pub blockBy : Card → List ℕ → ℕ → ℕ → Answer → List ℕ
 blockBy c a code number Done = part a (blockPlace (rowOf (nodesOf c) code) number) 16
 blockBy c a code number (Refused r) = []
@@ -37,6 +38,7 @@ blockBy c a code number (Refused r) = []
 unfoldable pub storedBlock : Card → List ℕ → ℕ → ℕ → List ℕ
 storedBlock c a code number = blockBy c a code number (blockJudged c (length a) code number)
 
+-- the arena, once the block is judged
 abbrev pub setBy : Card → List ℕ → ℕ → ℕ → List ℕ → Answer → List ℕ
 setBy c a code number block Done = put a (blockPlace (rowOf (nodesOf c) code) number) 16 block
 setBy c a code number block (Refused r) = a

@@ -8,23 +8,22 @@ ghost use mathlib.Core.Path.{_≡_};
 ghost use lib.ListN.{length};
 ghost use Rattle.request_block.specs.Block.{blockJudged, storedBlock, arenaSet};
 
-// Whether a service has a block of a number, in an arena of `long` bytes.
-pub fn judge_block(card: Card, long: usize, code: u16, number: u32) -> Answer
-    ensures { λ r. ⌜ r ≡ blockJudged card long code number ⌝ }
+// Judges whether a service has a block of a number, in an arena of `arena_len` bytes: 8, 7, 23.
+pub fn judge_block(card: Card, arena_len: usize, code: u16, number: u32) -> Answer
+    ensures { λ r. ⌜ r ≡ blockJudged card «arena_len» code number ⌝ }
 {
     if !card.is_sound() {
         return Answer::Refused(Refusal::NotBuilt);
     }
-    if long / 16 < card.used {
+    if arena_len / 16 < card.used {
         return Answer::Refused(Refusal::ShortArena);
     }
     let nodes = card.nodes;
     let own = table::row_of(nodes, card.count, code);
-    if number < own.blocks as u32 {
-        Answer::Done
-    } else {
-        Answer::Refused(Refusal::NoSuchBlock)
+    if own.blocks as u32 <= number {
+        return Answer::Refused(Refusal::NoSuchBlock);
     }
+    Answer::Done
 }
 
 // The sixteen bytes of a stored block, which are the arena's own, or none.

@@ -1,4 +1,4 @@
--- What `elementCheck` and `rowCheck` are in each of their cases.
+-- What `elementCheck`, `rowCheck` and `serviceCheck` are in each of their cases.
 use mathlib.Core.Path.{_≡_, refl}
 use mathlib.Core.Bool.{Bool, true, false, cond, _&&_}
 use mathlib.Core.List.{List}
@@ -6,7 +6,7 @@ use Prim.Native.Nat.{ℕ, _≤_, _<_}
 use native.Mathlib.Omega.{arith}
 use lib.Dec.{leb}
 use lib.ListN.{length, take, getD, length-take}
-use borrow.Author.Tests.{leb-true, leb-false, le-leb, lt-leb, lt-ltb, le-ltb}
+use borrow.Author.Tests.{leb-true, leb-false, le-leb, lt-leb}
 use Rattle.block_list.specs.declared.element.BlockListElement.{BlockListElement}
 use Rattle.service_code.specs.declared.code.Decoded.the-variants.{Defined, Undefined}
 use Rattle.service_code.specs.declared.code.ServiceAttribute.{ServiceAttribute}
@@ -14,10 +14,11 @@ use Rattle.service_code.specs.Code.{requiresKey}
 use Rattle.answers.specs.declared.status.Fault.{Fault}
 use Rattle.answers.specs.declared.status.Fault.the-variants.{ListIndex, AccessMode, Attribute, NoService, KeyNeeded, BlockNumber}
 use Rattle.request_check.specs.declared.table.Row.{Row}
+use Rattle.request_check.specs.declared.check.Check.{Check}
 use Rattle.request_check.specs.declared.check.Check.the-variants.{Passed, Failed}
 use Rattle.request_check.specs.Row.{rowIn}
 use Rattle.request_check.proofs.Rows.{within}
-use Rattle.request_check.specs.Check.{modeAllowed, attributeCheck, rowCheck, namedCheck, elementCheck}
+use Rattle.request_check.specs.Check.{modeAllowed, attributeCheck, serviceCheck, rowCheck, namedCheck, elementCheck}
 
 -- what stands at an index below sixteen is checked as the row that the index names, or as none
 pub named : (rows : List Row) (n : ℕ) (write «open» : Bool) (e : BlockListElement) (z : Row) → length rows ≡ 16 → e .index < 16 →
@@ -37,6 +38,29 @@ named rows n write «open» e z l h = by-count (leb n (e .index)) refl
         let c : e .index < length (take n rows) = simp length-take (omega arith) in
         rw (lt-leb (length (take n rows)) (e .index) c, within rows n (e .index) z below (omega arith))
 
+module _ (w : Row) (a : ServiceAttribute) (write «open» : Bool) (number mode : ℕ) where
+  -- a key is needed
+  pub no-key : («open» && requiresKey (w .code)) ≡ true → Failed KeyNeeded ≡ serviceCheck w a write «open» number mode
+  unfolding serviceCheck
+  no-key h = rw h
+
+  module _ (k : («open» && requiresKey (w .code)) ≡ false) where
+    -- a write that the attribute does not allow
+    pub no-write : {g : Fault} → attributeCheck write a mode ≡ Failed g → Failed g ≡ serviceCheck w a write «open» number mode
+    unfolding serviceCheck
+    no-write h = rw (k, h)
+
+    module _ (p : attributeCheck write a mode ≡ Passed) where
+      -- a block that is not there
+      pub no-block : w .blocks ≤ number → Failed BlockNumber ≡ serviceCheck w a write «open» number mode
+      unfolding serviceCheck
+      no-block h = rw (k, p, le-leb (w .blocks) number h)
+
+      -- one that is
+      pub passed : number < w .blocks → Passed ≡ serviceCheck w a write «open» number mode
+      unfolding serviceCheck
+      passed h = rw (k, p, lt-leb (w .blocks) number h)
+
 module _ (w : Row) (write «open» : Bool) (number mode : ℕ) where
   -- a mode that the request may not use
   pub no-mode : modeAllowed write mode ≡ false → Failed AccessMode ≡ rowCheck w write «open» number mode
@@ -55,25 +79,7 @@ module _ (w : Row) (write «open» : Bool) (number mode : ℕ) where
       unfolding rowCheck
       no-service h = rw (m, d, h)
 
-      module _ (f : w .found ≡ true) where
-        -- a key is needed
-        pub no-key : («open» && requiresKey (w .code)) ≡ true → Failed KeyNeeded ≡ rowCheck w write «open» number mode
-        unfolding rowCheck
-        no-key h = rw (m, d, f, h)
-
-        module _ (k : («open» && requiresKey (w .code)) ≡ false) where
-          -- a write that the attribute does not allow
-          pub no-write : {g : Fault} → attributeCheck write a mode ≡ Failed g → Failed g ≡ rowCheck w write «open» number mode
-          unfolding rowCheck
-          no-write h = rw (m, d, f, k, h)
-
-          module _ (p : attributeCheck write a mode ≡ Passed) where
-            -- a block that is not there
-            pub no-block : w .blocks ≤ number → Failed BlockNumber ≡ rowCheck w write «open» number mode
-            unfolding rowCheck
-            no-block h = rw (m, d, f, k, p, le-ltb number (w .blocks) h)
-
-            -- one that is
-            pub passed : number < w .blocks → Passed ≡ rowCheck w write «open» number mode
-            unfolding rowCheck
-            passed h = rw (m, d, f, k, p, lt-ltb number (w .blocks) h)
+      -- the rest is the service's
+      pub of-service : {c : Check} → w .found ≡ true → c ≡ serviceCheck w a write «open» number mode → c ≡ rowCheck w write «open» number mode
+      unfolding rowCheck serviceCheck
+      of-service f e = rw (m, d, f) e

@@ -1,12 +1,12 @@
 -- What callers cite: what is known once all elements passed.
 use mathlib.Core.Path.{_≡_, refl, _∙_}
-use mathlib.Core.Bool.{Bool, true, false, cond, _&&_}
+use mathlib.Core.Bool.{Bool, true, false, cond, not, _&&_}
 use mathlib.Core.List.{List, [], _∷_}
 use Prim.Native.Nat.{ℕ, _+_, _<_}
 use native.Mathlib.Omega.{arith}
-use lib.Dec.{leb, ltb}
+use lib.Dec.{leb}
 use lib.ListN.{length}
-use borrow.Author.Tests.{leb-false, ltb-true}
+use borrow.Author.Tests.{leb-false, not-false}
 use Rattle.service_code.specs.declared.code.Decoded.{Decoded}
 use Rattle.service_code.specs.declared.code.Decoded.the-variants.{Defined, Undefined}
 use Rattle.service_code.specs.declared.code.ServiceAttribute.{ServiceAttribute}
@@ -19,7 +19,7 @@ use Rattle.request_check.specs.declared.check.Check.{Check}
 use Rattle.request_check.specs.declared.check.Check.the-variants.{Passed, Failed}
 use Rattle.request_check.specs.declared.check.Checked.the-variants.{Passed as AllPassed}
 use Rattle.request_check.specs.Row.{rowIn}
-use Rattle.request_check.specs.Check.{modeAllowed, attributeCheck, thenCheck, definedCheck, rowCheck, elementCheck, nextCheck, checkedFrom}
+use Rattle.request_check.specs.Check.{modeAllowed, attributeCheck, thenCheck, serviceCheck, definedCheck, rowCheck, elementCheck, nextCheck, checkedFrom}
 
 -- each element passes its check
 abbrev pub AllPass : List Row → Bool → Bool → List BlockListElement → Type 0
@@ -46,11 +46,6 @@ all-pass rows write «open» i (e ∷ es) h =
 never : {A : Type 0} {f : Fault} → Failed f ≡ Passed → A
 never e = absurd (let z : _≡_ {A = ℕ} 0 1 = cc in (omega arith))
 
--- a test that must hold, held
-must : (f : Fault) (b : Bool) (more : Check) → cond b more (Failed f) ≡ Passed → (b ≡ true) × (more ≡ Passed)
-must f true more e = (refl, e)
-must f false more e = never e
-
 -- a test that must not hold, did not
 must-not : (f : Fault) (b : Bool) (more : Check) → cond b (Failed f) more ≡ Passed → (b ≡ false) × (more ≡ Passed)
 must-not f true more e = never e
@@ -74,26 +69,27 @@ pub record Good (rows : List Row) (write : Bool) (e : BlockListElement) : Type 0
 -- what a write passes may be written
 writes : (write : Bool) (a : ServiceAttribute) (mode : ℕ) → attributeCheck write a mode ≡ Passed → write ≡ true → allowsWrite a ≡ true
 unfolding attributeCheck
-writes true a mode e h = must ReadOnly (allowsWrite a) _ e .0
+writes true a mode e h = not-false (allowsWrite a) (must-not ReadOnly (not (allowsWrite a)) _ e .0)
 writes false a mode e h = absurd (let z : _≡_ {A = ℕ} 0 1 = cc in (omega arith))
 
 module _ (rows : List Row) (write «open» : Bool) (e : BlockListElement) where
   -- by the attribute of its row
   good-row : (d : Decoded) → e .index < length rows → modeAllowed write (e .mode) ≡ true → rowIn rows e .attribute ≡ d →
       definedCheck (rowIn rows e) write «open» (e .number) (e .mode) d ≡ Passed → Good rows write e
+  unfolding serviceCheck
   good-row Undefined k m a h = never h
   good-row (Defined attribute) k m a h =
       let w = rowIn rows e in
-      let f = must NoService (w .found) _ h in
+      let f = must-not NoService (not (w .found)) _ h in
       let p = must-not KeyNeeded («open» && requiresKey (w .code)) _ (f .1) in
       let r = both (attributeCheck write attribute (e .mode)) _ (p .1) in
-      let n = must BlockNumber (ltb (e .number) (w .blocks)) Passed (r .1) in
+      let n = must-not BlockNumber (leb (w .blocks) (e .number)) Passed (r .1) in
       record {
         known = k;
-        found = f .0;
+        found = not-false (w .found) (f .0);
         attribute = attribute;
         defined = a;
-        number = ltb-true (e .number) (w .blocks) (n .0);
+        number = leb-false (w .blocks) (e .number) (n .0);
         allowed = m;
         writable = writes write attribute (e .mode) (r .0);
       }
@@ -103,5 +99,5 @@ module _ (rows : List Row) (write «open» : Bool) (e : BlockListElement) where
   unfolding elementCheck rowCheck
   good h =
       let i = must-not ListIndex (leb (length rows) (e .index)) _ h in
-      let m = must AccessMode (modeAllowed write (e .mode)) _ (i .1) in
-      good-row (rowIn rows e .attribute) (leb-false (length rows) (e .index) (i .0)) (m .0) refl (m .1)
+      let m = must-not AccessMode (not (modeAllowed write (e .mode))) _ (i .1) in
+      good-row (rowIn rows e .attribute) (leb-false (length rows) (e .index) (i .0)) (not-false (modeAllowed write (e .mode)) (m .0)) refl (m .1)

@@ -1,7 +1,7 @@
 -- The checks of an element, in the order of RULES.md, "One element's check". Manual, sections 4.4.5 (read) and 4.4.6 (write).
 use Prim.Native.Nat.{ℕ, _+_}
 use mathlib.Core.List.{List, [], _∷_}
-use mathlib.Core.Bool.{Bool, cond, _&&_}
+use mathlib.Core.Bool.{Bool, cond, not, _&&_}
 use lib.Dec.{eqb, ltb, leb}
 use lib.ListN.{length}
 use Rattle.service_code.specs.declared.code.Decoded.{Decoded}
@@ -21,42 +21,50 @@ use Rattle.request_check.specs.Row.{rowIn}
 unfoldable pub modeAllowed : Bool → ℕ → Bool
 modeAllowed write mode = cond write (ltb mode 2) (eqb mode 0)
 
--- on a write: read-only, then mode 1 without cashback
+-- on a write A5: read-only, then mode 1 without cashback
 unfoldable pub attributeCheck : Bool → ServiceAttribute → ℕ → Check
 attributeCheck write a mode =
-    cond write
-    (cond (allowsWrite a)
-    (cond (eqb mode 1) (cond (allowsCashback a) Passed (Failed NoCashback)) Passed)
-    (Failed ReadOnly))
-    Passed
+    cond (write && not (allowsWrite a)) (Failed ReadOnly)
+    (cond (write && (eqb mode 1 && not (allowsCashback a))) (Failed NoCashback)
+    Passed)
 
 -- a check, then another if it passed
 abbrev pub thenCheck : Check → Check → Check
 thenCheck Passed more = more
 thenCheck (Failed f) more = Failed f
 
--- what follows a defined attribute
+-- A5 (key), on a write A5 (read-only, no cashback), A8
+unfoldable pub serviceCheck : Row → ServiceAttribute → Bool → Bool → ℕ → ℕ → Check
+serviceCheck w a write «open» number mode =
+    cond («open» && requiresKey (w .code)) (Failed KeyNeeded)
+    (thenCheck (attributeCheck write a mode)
+    (cond (leb (w .blocks) number) (Failed BlockNumber)
+    Passed))
+
+-- A4, A6, then those of the service
 abbrev pub definedCheck : Row → Bool → Bool → ℕ → ℕ → Decoded → Check
 definedCheck w write «open» number mode Undefined = Failed Attribute
 definedCheck w write «open» number mode (Defined a) =
-    cond (w .found)
-    (cond («open» && requiresKey (w .code)) (Failed KeyNeeded)
-    (thenCheck (attributeCheck write a mode) (cond (ltb number (w .blocks)) Passed (Failed BlockNumber))))
-    (Failed NoService)
+    cond (not (w .found)) (Failed NoService)
+    (serviceCheck w a write «open» number mode)
 
+-- A7, then those by the row's attribute
 unfoldable pub rowCheck : Row → Bool → Bool → ℕ → ℕ → Check
 rowCheck w write «open» number mode =
-    cond (modeAllowed write mode) (definedCheck w write «open» number mode (w .attribute)) (Failed AccessMode)
+    cond (not (modeAllowed write mode)) (Failed AccessMode)
+    (definedCheck w write «open» number mode (w .attribute))
 
--- an index below the count names a row
+-- A3: an index not below the count of codes names no row
 abbrev pub namedCheck : ℕ → Row → Bool → Bool → BlockListElement → Check
 namedCheck count w write «open» e =
-    cond (leb count (e .index)) (Failed ListIndex) (rowCheck w write «open» (e .number) (e .mode))
+    cond (leb count (e .index)) (Failed ListIndex)
+    (rowCheck w write «open» (e .number) (e .mode))
 
--- A3, A7, A4, A6, A5 (key), on a write A5 (read-only), A5 (no cashback), A8
+-- one element: A3, A7, A4, A6, A5 (key), on a write A5 (read-only), A5 (no cashback), A8
 unfoldable pub elementCheck : List Row → Bool → Bool → BlockListElement → Check
 elementCheck rows write «open» e = namedCheck (length rows) (rowIn rows e) write «open» e
 
+-- the first that fails, number i, answers for all
 abbrev pub nextCheck : ℕ → Check → Checked → Checked
 nextCheck i Passed more = more
 nextCheck i (Failed f) more = FailedAt i f

@@ -13,7 +13,7 @@ ghost use mathlib.Core.Bool.{_&&_};
 ghost use lib.ListN.{take};
 ghost use Rattle.service_code.specs.Code.{requiresKey};
 ghost use Rattle.block_list.specs.Element.{elementsFrom};
-ghost use Rattle.request_check.specs.Check.{modeAllowed, attributeCheck, rowCheck, namedCheck, checkedFrom};
+ghost use Rattle.request_check.specs.Check.{modeAllowed, attributeCheck, serviceCheck, rowCheck, namedCheck, checkedFrom};
 
 // How an element's check ended.
 pub enum Check {
@@ -27,14 +27,14 @@ pub enum Checked {
     Failed { index: usize, fault: Fault },
 }
 
-// Whether a request may use an access mode: 0, or 1 too on a write.
+// Tells whether a read, or a write, may use an access mode: 0, and on a write 1 too.
 fn mode_allowed(write: bool, mode: u8) -> bool
     ensures { λ r. ⌜ r ≡ modeAllowed write mode ⌝ }
 {
     if write { mode < 2 } else { mode == 0 }
 }
 
-// What a write may do with an attribute in an access mode.
+// Checks what a service's attribute lets a write do in an access mode; a read may do anything.
 fn attribute_check(write: bool, attribute: ServiceAttribute, mode: u8) -> Check
     ensures { λ r. ⌜ r ≡ attributeCheck write attribute mode ⌝ }
 {
@@ -42,19 +42,18 @@ fn attribute_check(write: bool, attribute: ServiceAttribute, mode: u8) -> Check
         return Check::Passed;
     }
     if !attribute.allows_write() {
-        return Check::Failed(Fault::ReadOnly);
+        return Check::Failed(Fault::ReadOnly); // A5
     }
     if mode != 1 {
         return Check::Passed;
     }
-    if attribute.allows_cashback() {
-        Check::Passed
-    } else {
-        Check::Failed(Fault::NoCashback)
+    if !attribute.allows_cashback() {
+        return Check::Failed(Fault::NoCashback); // A5
     }
+    Check::Passed
 }
 
-// Whether a request without a key meets a service that needs one.
+// Tells whether an open request meets a service whose code says that it needs a key.
 fn key_missing(open: bool, code: u16) -> bool
     ensures { λ r. ⌜ r ≡ («open» && requiresKey code) ⌝ }
 {
@@ -65,44 +64,58 @@ fn key_missing(open: bool, code: u16) -> bool
     }
 }
 
-// The checks of an element against the row that it names.
-fn row_check(row: Row, write: bool, open: bool, number: u16, mode: u8) -> Check
-    ensures { λ r. ⌜ r ≡ rowCheck row write «open» number mode ⌝ }
+// Checks what the service of a row lets a request do, and that its store has the block.
+fn service_check(
+    row: Row,
+    attribute: ServiceAttribute,
+    write: bool,
+    open: bool,
+    number: u16,
+    mode: u8,
+) -> Check
+    ensures { λ r. ⌜ r ≡ serviceCheck row attribute write «open» number mode ⌝ }
 {
-    if !mode_allowed(write, mode) {
-        return Check::Failed(Fault::AccessMode);
-    }
-    let decoded = row.attribute;
-    let Decoded::Defined(attribute) = decoded else {
-        return Check::Failed(Fault::Attribute);
-    };
-    if !row.found {
-        return Check::Failed(Fault::NoService);
-    }
     if key_missing(open, row.code) {
-        return Check::Failed(Fault::KeyNeeded);
+        return Check::Failed(Fault::KeyNeeded); // A5
     }
     if let Check::Failed(fault) = attribute_check(write, attribute, mode) {
         return Check::Failed(fault);
     }
-    if number < row.blocks {
-        Check::Passed
-    } else {
-        Check::Failed(Fault::BlockNumber)
+    if row.blocks <= number {
+        return Check::Failed(Fault::BlockNumber); // A8
     }
+    Check::Passed
 }
 
-// The check of one element against what stands at its index, where `count` rows are the codes'.
+// Checks an element's mode and number against the row that it names.
+fn row_check(row: Row, write: bool, open: bool, number: u16, mode: u8) -> Check
+    ensures { λ r. ⌜ r ≡ rowCheck row write «open» number mode ⌝ }
+{
+    let decoded = row.attribute;
+    let found = row.found;
+    if !mode_allowed(write, mode) {
+        return Check::Failed(Fault::AccessMode); // A7
+    }
+    let Decoded::Defined(attribute) = decoded else {
+        return Check::Failed(Fault::Attribute); // A4: undefined, or FFFF
+    };
+    if !found {
+        return Check::Failed(Fault::NoService); // A6
+    }
+    service_check(row, attribute, write, open, number, mode)
+}
+
+// Checks one element against the row at its index, of which the first `count` are the codes'.
 fn element_check(row: Row, count: usize, write: bool, open: bool, e: BlockListElement) -> Check
     ensures { λ r. ⌜ r ≡ namedCheck count row write «open» e ⌝ }
 {
     if count <= e.index as usize {
-        return Check::Failed(Fault::ListIndex);
+        return Check::Failed(Fault::ListIndex); // A3
     }
     row_check(row, write, open, e.number, e.mode)
 }
 
-// The check of the counted elements of a list, in order.
+// Checks the counted elements of a list in order, and stops at the first that fails.
 pub fn check_all(table: Table, write: bool, open: bool, list: &[u8], count: usize) -> Checked
     ensures { λ r. ⌜ r ≡ checkedFrom (take (table .count) (table .rows)) write «open» 0 (elementsFrom (now (list .entry)) count 0) ⌝ }
 {

@@ -3,7 +3,7 @@ use Prim.Native.Nat.{ℕ, _≤_, _<_}
 use native.Mathlib.Omega.{arith}
 use native.Mathlib.Decide.{decLt}
 use mathlib.Core.Path.{_≡_, refl, sym, _∙_}
-use mathlib.Core.Bool.{Bool, true, false, cond}
+use mathlib.Core.Bool.{Bool, true, false, cond, not}
 use mathlib.Core.List.{List}
 use lib.Dec.{ltb}
 use lib.ListN.{length, take, length-take}
@@ -28,7 +28,7 @@ manyRefusal false e = NotBuilt
 
 -- It is refused so.
 many-judged
-    : (s e : Bool) → cond s (cond e (NotFit TooManyElements) (NotFit TooManyCodes)) (NotFit NotBuilt) ≡ NotFit (manyRefusal s e)
+    : (s e : Bool) → cond (not s) (NotFit NotBuilt) (cond e (NotFit TooManyElements) (NotFit TooManyCodes)) ≡ NotFit (manyRefusal s e)
 many-judged true true = refl
 many-judged true false = refl
 many-judged false true = refl

@@ -12,13 +12,13 @@ use Rattle.request_check.specs.declared.check.Checked.{Checked}
 use Rattle.request_check.specs.Check.{checkedFrom}
 use Rattle.request_plan.specs.declared.Judged.the-variants.{Fit}
 use Rattle.request_plan.specs.Request.{Request}
-use Rattle.request_plan.specs.Plan.{lengthsOf, judgedOf, rowsIn, elementsIn}
+use Rattle.request_plan.specs.Plan.{judgedOf, rowsIn, elementsIn}
 use Rattle.request_plan.proofs.Ready.{Fitting, fits}
 
 module _ (c : Card) (a : List ℕ) (r : Request) (j : judgedOf c (length a) r ≡ Fit) where
   -- what fits
-  pub fit : Fitting c (r .write) (r .count) (r .list) (lengthsOf (length a) r)
-  fit = fits c (r .write) (r .count) (r .list) (lengthsOf (length a) r) j
+  pub fit : Fitting c (length a) r
+  fit = fits c (length a) r j
 
   module _ {t : Table} (made : t ≡ tableOf (nodesOf c) (r .codes)) where
     -- the table's rows are the request's

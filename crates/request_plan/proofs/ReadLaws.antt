@@ -23,7 +23,7 @@ use Rattle.request_runs.specs.Ready.{Ready, AllReady}
 use Rattle.request_plan.specs.declared.Judged.{Judged}
 use Rattle.request_plan.specs.declared.Judged.the-variants.{Refused as NotFit, ShortData as NoData, Fit}
 use Rattle.request_plan.specs.Request.{Request, readRequest, writeRequest}
-use Rattle.request_plan.specs.Plan.{lengthsOf, judgedOf, rowsIn, elementsIn, checkedPlan, judgedPlan, planOf}
+use Rattle.request_plan.specs.Plan.{judgedOf, rowsIn, elementsIn, checkedPlan, judgedPlan, planOf}
 use Rattle.request_plan.specs.Serve.{Served, storeIn, blocksRead, committed, carried, planServed, serve, readLong}
 use Rattle.request_plan.proofs.Ready.{fits, all-ready}
 use Rattle.request_plan.proofs.Accepted.{nothing}
@@ -78,7 +78,7 @@ module _ (c : Card) (a : List ℕ) («open» : Bool) (codes : List ℕ) (count :
   unfolding carried endsAfter
   by-check j (FailedAt i f) e = record { kept = refl; long = refl; room = omega arith; most = omega arith }
   by-check j Passed e =
-      let f = fits c false count list (lengthsOf (length a) reading) j in
+      let f = fits c (length a) reading j in
       let es = elementsIn reading in
       let g = all-ready c h (f .sound) codes false «open» es e (length a) (f .arena) in
       let n = ends-count list count 0 (f .ends) in

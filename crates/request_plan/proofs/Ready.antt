@@ -1,12 +1,12 @@
 -- Where a card is sound and all elements passed, each names a block of a store that lies among the blocks in use.
-use mathlib.Core.Path.{_≡_, refl, sym}
-use mathlib.Core.Bool.{Bool, true, false, false≢true}
+use mathlib.Core.Path.{_≡_}
+use mathlib.Core.Bool.{Bool, true, false, not}
 use mathlib.Core.List.{List, [], _∷_}
 use Prim.Native.Nat.{ℕ, zero, suc, _+_, _*_, _≤_, _<_}
 use native.Mathlib.Omega.{arith}
 use lib.Dec.{ltb}
 use lib.ListN.{length, getD}
-use borrow.Author.Tests.{ltb-false}
+use borrow.Author.Tests.{ltb-false, not-false}
 use Rattle.answers.specs.declared.refusal.Refusal.{Refusal}
 use Rattle.answers.specs.declared.refusal.Refusal.the-variants.{TooManyElements, TooManyCodes, ListLength, ShortStaging, ShortOutput, ShortArena, NotBuilt}
 use Rattle.block_list.specs.declared.element.BlockListElement.{BlockListElement}
@@ -28,10 +28,11 @@ use Rattle.request_check.specs.Row.{rowBy, rowAt, rowOf, rowsOf, rowAtIndex}
 use Rattle.request_check.specs.Check.{checkedFrom}
 use Rattle.request_check.proofs.Laws.{AllPass, all-pass, good}
 use Rattle.request_runs.specs.Ready.{Ready, AllReady}
-use Rattle.request_plan.specs.declared.Lengths.{Lengths}
+use Rattle.request_plan.specs.declared.Sizes.{Sizes}
 use Rattle.request_plan.specs.declared.Judged.the-variants.{Refused as NotFit, ShortData as NoData, Fit}
-use Rattle.request_plan.specs.Plan.{lentJudged, judgedWith, judgedBy}
-use Rattle.request_plan.proofs.Tests.{held, unheld}
+use Rattle.request_plan.specs.Request.{Request}
+use Rattle.request_plan.specs.Plan.{writeJudged, readJudged, judgedWith, judgedOf}
+use Rattle.request_plan.proofs.Tests.{passed-over}
 
 -- the blocks up to the end of a row's store
 abbrev pub rowEnd : Row → ℕ
@@ -84,16 +85,16 @@ module _ (c : Card) (h : length (c .nodes) ≡ 64) (s : isSound c ≡ true) wher
   all-ready codes write «open» es e long k =
       pass-ready sound-laid codes write «open» long k es (all-pass (rowsOf (nodesOf c) codes) write «open» 0 es e)
 
--- a request that fits, judged by its card and lengths
-pub record Fitting (c : Card) (write : Bool) (count : ℕ) (list : List ℕ) (n : Lengths) : Type 0 where
+-- a request that fits, on an arena of so many bytes
+pub record Fitting (c : Card) (arenaLen : ℕ) (r : Request) : Type 0 where
   pub sound : isSound c ≡ true
-  pub few : count ≤ 512
-  pub codes : n .codes ≤ 16
-  pub ends : endsAfter list count ≡ true
-  pub arena : 16 * c .used ≤ n .arena
-  pub staging : write ≡ true → 16 * c .used ≤ n .room
-  pub «data» : write ≡ true → 16 * count ≤ n .«data»
-  pub output : write ≡ false → 16 * count ≤ n .room
+  pub few : r .count ≤ 512
+  pub codes : length (r .codes) ≤ 16
+  pub ends : endsAfter (r .list) (r .count) ≡ true
+  pub arena : 16 * c .used ≤ arenaLen
+  pub staging : r .write ≡ true → 16 * c .used ≤ r .room
+  pub «data» : r .write ≡ true → 16 * r .count ≤ length (r .«data»)
+  pub output : r .write ≡ false → 16 * r .count ≤ r .room
 
 -- a refusal is no fit
 not-fit : {r : Refusal} → NotFit r ≡ Fit → ⊥
@@ -103,44 +104,36 @@ not-fit e = let z : _≡_ {A = ℕ} 0 1 = cc in omega arith
 no-data : NoData ≡ Fit → ⊥
 no-data e = let z : _≡_ {A = ℕ} 0 1 = cc in omega arith
 
--- a read is no write
-other : {A : Type 0} → _≡_ {A = Bool} false true → A
-other h = absurd (false≢true h)
+module _ (n : Sizes) where
+  -- what is lent to a write, where it fits
+  write-fits : writeJudged n ≡ Fit → (16 * n .used ≤ n .room) × (16 * n .count ≤ n .«data»)
+  unfolding writeJudged
+  write-fits e =
+      let s = passed-over (not-fit {r = ShortStaging}) (ltb (n .room) (16 * n .used)) _ e in
+      let d = passed-over no-data (ltb (n .«data») (16 * n .count)) Fit (s .1) in
+      (ltb-false (n .room) (16 * n .used) (s .0), ltb-false (n .«data») (16 * n .count) (d .0))
 
-module _ (used count arena «data» room : ℕ) where
-  -- what is lent, where it fits
-  lent-fits : (write : Bool) → lentJudged used write count arena «data» room ≡ Fit →
-      (16 * used ≤ arena) × (write ≡ true → (16 * used ≤ room) × (16 * count ≤ «data»)) × (write ≡ false → 16 * count ≤ room)
-  unfolding lentJudged
-  lent-fits true e =
-      let a = unheld (not-fit {r = ShortArena}) (ltb arena (16 * used)) _ e in
-      let s = unheld (not-fit {r = ShortStaging}) (ltb room (16 * used)) _ (a .1) in (
-        ltb-false arena (16 * used) (a .0),
-        (λ w. (ltb-false room (16 * used) (s .0), ltb-false «data» (16 * count) (unheld no-data (ltb «data» (16 * count)) Fit (s .1) .0))),
-        (λ w. other (sym w)),
-      )
-  lent-fits false e =
-      let a = unheld (not-fit {r = ShortArena}) (ltb arena (16 * used)) _ e in
-      let o = unheld (not-fit {r = ShortOutput}) (ltb room (16 * count)) _ (a .1) in
-      (ltb-false arena (16 * used) (a .0), (λ w. other w), (λ w. ltb-false room (16 * count) (o .0)))
+  -- and to a read
+  read-fits : readJudged n ≡ Fit → 16 * n .count ≤ n .room
+  unfolding readJudged
+  read-fits e = ltb-false (n .room) (16 * n .count) (passed-over (not-fit {r = ShortOutput}) (ltb (n .room) (16 * n .count)) Fit e .0)
 
 -- a request that is judged to fit
-pub fits : (c : Card) (write : Bool) (count : ℕ) (list : List ℕ) (n : Lengths) → judgedBy c write count list n ≡ Fit →
-    Fitting c write count list n
+pub fits : (c : Card) (arenaLen : ℕ) (r : Request) → judgedOf c arenaLen r ≡ Fit → Fitting c arenaLen r
 unfolding judgedWith
-fits c write count list n e =
-    let s = held (not-fit {r = NotBuilt}) (isSound c) _ e in
-    let m = unheld (not-fit {r = TooManyElements}) (ltb 512 count) _ (s .1) in
-    let k = unheld (not-fit {r = TooManyCodes}) (ltb 16 (n .codes)) _ (m .1) in
-    let l = held (not-fit {r = ListLength}) (endsAfter list count) _ (k .1) in
-    let p = lent-fits (c .used) count (n .arena) (n .«data») (n .room) write (l .1) in
+fits c arenaLen r e =
+    let s = passed-over (not-fit {r = NotBuilt}) (not (isSound c)) _ e in
+    let m = passed-over (not-fit {r = TooManyElements}) (ltb 512 (r .count)) _ (s .1) in
+    let k = passed-over (not-fit {r = TooManyCodes}) (ltb 16 (length (r .codes))) _ (m .1) in
+    let l = passed-over (not-fit {r = ListLength}) (not (endsAfter (r .list) (r .count))) _ (k .1) in
+    let a = passed-over (not-fit {r = ShortArena}) (ltb arenaLen (16 * c .used)) _ (l .1) in
     record {
-      sound = s .0;
-      few = ltb-false 512 count (m .0);
-      codes = ltb-false 16 (n .codes) (k .0);
-      ends = l .0;
-      arena = p .0;
-      staging = λ w. p .1 w .0;
-      «data» = λ w. p .1 w .1;
-      output = λ w. p .2 w;
+      sound = not-false (isSound c) (s .0);
+      few = ltb-false 512 (r .count) (m .0);
+      codes = ltb-false 16 (length (r .codes)) (k .0);
+      ends = not-false (endsAfter (r .list) (r .count)) (l .0);
+      arena = ltb-false arenaLen (16 * c .used) (a .0);
+      staging = λ w. write-fits _ (rw w at (a .1)) .0;
+      «data» = λ w. write-fits _ (rw w at (a .1)) .1;
+      output = λ w. read-fits _ (rw w at (a .1));
     }

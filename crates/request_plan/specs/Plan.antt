@@ -1,7 +1,7 @@
 -- All that is settled before a stored byte is read. Of the arena only its length is asked, so no stored byte can change a refusal.
 use Prim.Native.Nat.{ℕ, _*_}
 use mathlib.Core.List.{List}
-use mathlib.Core.Bool.{Bool, cond}
+use mathlib.Core.Bool.{Bool, cond, not}
 use lib.Dec.{ltb}
 use lib.ListN.{length}
 use Rattle.block_list.specs.declared.element.BlockListElement.{BlockListElement}
@@ -16,7 +16,7 @@ use Rattle.request_check.specs.Row.{rowsOf}
 use Rattle.request_check.specs.Check.{checkedFrom}
 use Rattle.request_plan.specs.declared.Reply.{Reply}
 use Rattle.request_plan.specs.declared.Reply.the-variants.{Refused, ShortData, Failed}
-use Rattle.request_plan.specs.declared.Lengths.{Lengths}
+use Rattle.request_plan.specs.declared.Sizes.{Sizes}
 use Rattle.request_plan.specs.declared.Judged.{Judged}
 use Rattle.request_plan.specs.declared.Judged.the-variants.{Refused as NotFit, ShortData as NoData, Fit}
 use Rattle.request_plan.specs.Request.{Request}
@@ -30,35 +30,55 @@ pub data Plan : Type 0 where
 abbrev pub rowsIn : Card → Request → List Row
 rowsIn c r = rowsOf (nodesOf c) (r .codes)
 
+-- the elements of its list
 abbrev pub elementsIn : Request → List BlockListElement
 elementsIn r = elementsFrom (r .list) (r .count) 0
 
--- 7, then 4 (staging: 16 bytes per block in use) or 5 (output: 16 bytes per element), then FF AC (16 bytes per element)
-unfoldable pub lentJudged : ℕ → Bool → ℕ → ℕ → ℕ → ℕ → Judged
-lentJudged used write count arena «data» room =
-    cond (ltb arena (16 * used)) (NotFit ShortArena)
-    (cond write
-    (cond (ltb room (16 * used)) (NotFit ShortStaging) (cond (ltb «data» (16 * count)) NoData Fit))
-    (cond (ltb room (16 * count)) (NotFit ShortOutput) Fit))
+-- more elements are refusal 1
+abbrev pub mostElements : ℕ
+mostElements = 512
 
--- 8, 1, 2, 3 ahead of those; of the card it is asked whether it is sound and how many blocks are in use
-unfoldable pub judgedWith : Bool → ℕ → Bool → ℕ → List ℕ → Lengths → Judged
-judgedWith sound used write count list n =
-    cond sound
-    (cond (ltb 512 count) (NotFit TooManyElements)
-    (cond (ltb 16 (n .codes)) (NotFit TooManyCodes)
-    (cond (endsAfter list count) (lentJudged used write count (n .arena) (n .«data») (n .room)) (NotFit ListLength))))
-    (NotFit NotBuilt)
+-- more codes are refusal 2
+abbrev pub mostCodes : ℕ
+mostCodes = 16
 
-abbrev pub judgedBy : Card → Bool → ℕ → List ℕ → Lengths → Judged
-judgedBy c write count list n = judgedWith (isSound c) (c .used) write count list n
+-- 4 (staging: 16 bytes per block in use), then FF AC (data: 16 bytes per element)
+unfoldable pub writeJudged : Sizes → Judged
+writeJudged n =
+    cond (ltb (n .room) (16 * n .used)) (NotFit ShortStaging)
+    (cond (ltb (n .«data») (16 * n .count)) NoData
+    Fit)
 
-abbrev pub lengthsOf : ℕ → Request → Lengths
-lengthsOf long r = record { arena = long; codes = length (r .codes); «data» = length (r .«data»); room = r .room }
+-- 5 (output: 16 bytes per element)
+unfoldable pub readJudged : Sizes → Judged
+readJudged n =
+    cond (ltb (n .room) (16 * n .count)) (NotFit ShortOutput)
+    Fit
 
+-- 8, 1, 2, 3, 7, then what is lent to a write or a read; of the card it is asked whether it is sound and how many blocks are in use
+unfoldable pub judgedWith : Bool → Bool → List ℕ → Sizes → Judged
+judgedWith sound write list n =
+    cond (not sound) (NotFit NotBuilt)
+    (cond (ltb mostElements (n .count)) (NotFit TooManyElements)
+    (cond (ltb mostCodes (n .codes)) (NotFit TooManyCodes)
+    (cond (not (endsAfter list (n .count))) (NotFit ListLength)
+    (cond (ltb (n .arena) (16 * n .used)) (NotFit ShortArena)
+    (cond write (writeJudged n) (readJudged n))))))
+
+-- how a request is judged on an arena of so many bytes
 abbrev pub judgedOf : Card → ℕ → Request → Judged
-judgedOf c long r = judgedBy c (r .write) (r .count) (r .list) (lengthsOf long r)
+judgedOf c arenaLen r =
+    judgedWith (isSound c) (r .write) (r .list)
+    (record {
+      used = c .used;
+      count = r .count;
+      codes = length (r .codes);
+      arena = arenaLen;
+      «data» = length (r .«data»);
+      room = r .room;
+    })
 
+-- the first element that fails is told, else all are carried out
 abbrev pub checkedPlan : List BlockListElement → Checked → Plan
 checkedPlan es AllPassed = go es
 checkedPlan es (FailedAt i f) = stop (Failed i f)
@@ -69,5 +89,6 @@ judgedPlan c r (NotFit x) = stop (Refused x)
 judgedPlan c r NoData = stop ShortData
 judgedPlan c r Fit = checkedPlan (elementsIn r) (checkedFrom (rowsIn c r) (r .write) (r .«open») 0 (elementsIn r))
 
+-- a request's plan, on an arena of so many bytes
 unfoldable pub planOf : Card → ℕ → Request → Plan
-planOf c long r = judgedPlan c r (judgedOf c long r)
+planOf c arenaLen r = judgedPlan c r (judgedOf c arenaLen r)

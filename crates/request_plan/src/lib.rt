@@ -4,8 +4,10 @@ use answers::status;
 use answers::status::Fault;
 use block_list::reader;
 ghost use mathlib.Core.Path.{_≡_};
-ghost use Rattle.request_plan.specs.Request.{flag1, flag2};
-ghost use Rattle.request_plan.specs.Plan.{lentJudged, judgedWith};
+ghost use Rattle.request_plan.specs.Request.{flag1, flag2, responseOf};
+ghost use Prim.Native.Nat.{_*_};
+ghost use lib.Dec.{ltb};
+ghost use Rattle.request_plan.specs.Plan.{mostElements, mostCodes, writeJudged, readJudged, judgedWith};
 
 // The reply to a request. Only `Done` is a request carried out.
 pub enum Reply {
@@ -17,7 +19,35 @@ pub enum Reply {
     Failed { index: usize, fault: Fault },
 }
 
+// What a request is told: a status pair, or the number of a refusal.
+pub enum Response {
+    Pair { flag1: u8, flag2: u8 },
+    Refusal(u8),
+}
+
 impl Reply {
+    // Gives what a request with this reply is told, so that a refusal is never taken for a status pair.
+    pub fn response(self) -> Response
+        ensures { λ r. ⌜ r ≡ responseOf self ⌝ }
+    {
+        match self {
+            Reply::Refused(refusal) => Response::Refusal(refusal.number()),
+            Reply::Done => Response::Pair { flag1: 0, flag2: 0 },
+            Reply::ShortData => Response::Pair {
+                flag1: 0xff,
+                flag2: 0xac,
+            },
+            Reply::Failed { index, fault } => {
+                let flag1 = status::list_error_index(index);
+                let flag2 = fault.status_flag2();
+                Response::Pair {
+                    flag1: flag1,
+                    flag2: flag2,
+                }
+            }
+        }
+    }
+
     // Status flag 1.
     pub fn status_flag1(self) -> u8
         ensures { λ r. ⌜ r ≡ flag1 self ⌝ }
@@ -50,72 +80,98 @@ pub enum Judged {
     Fit,
 }
 
-// The lengths that a request comes with.
-pub struct Lengths {
-    pub arena: usize,
+// What a request is judged by, beside its list: the card's blocks in use, the counts of elements and codes, and the lengths in bytes of
+// the arena, of a write's data, and of the output (read) or staging (write) that is lent.
+pub struct Sizes {
+    pub used: usize,
+    pub count: usize,
     pub codes: usize,
+    pub arena: usize,
     pub data: usize,
     pub room: usize,
 }
 
-// 7, then 4 or 5, then FF AC.
-fn lent_judged(
-    used: usize,
-    write: bool,
-    count: usize,
-    arena: usize,
-    data: usize,
-    room: usize,
-) -> Judged
-    ensures { λ r. ⌜ r ≡ lentJudged used write count arena «data» room ⌝ }
+// A block of a store, an element's data and its output, in bytes.
+const BLOCK: usize = 16;
+
+// More elements are refusal 1.
+const MOST_ELEMENTS: usize = 512;
+
+// More codes are refusal 2.
+const MOST_CODES: usize = 16;
+
+// Tells whether a request has too many elements.
+fn many_elements(count: usize) -> bool
+    ensures { λ r. ⌜ r ≡ ltb mostElements count ⌝ }
 {
-    if arena / 16 < used {
-        return Judged::Refused(Refusal::ShortArena);
+    MOST_ELEMENTS < count
+}
+
+// Tells whether a request has too many codes.
+fn many_codes(codes: usize) -> bool
+    ensures { λ r. ⌜ r ≡ ltb mostCodes codes ⌝ }
+{
+    MOST_CODES < codes
+}
+
+// Tells whether so many bytes are too few for a number of blocks.
+fn too_short(bytes: usize, blocks: usize) -> bool
+    ensures { λ r. ⌜ r ≡ ltb bytes (16 * blocks) ⌝ }
+{
+    bytes / BLOCK < blocks
+}
+
+// Judges the buffer and the data of a write: 4, then FF AC. Surplus data are ignored.
+fn write_judged(sizes: Sizes) -> Judged
+    ensures { λ r. ⌜ r ≡ writeJudged sizes ⌝ }
+{
+    let short_staging = too_short(sizes.room, sizes.used);
+    let short_data = too_short(sizes.data, sizes.count);
+    if short_staging {
+        return Judged::Refused(Refusal::ShortStaging); // 4
     }
-    if write {
-        if room / 16 < used {
-            return Judged::Refused(Refusal::ShortStaging);
-        }
-        if data / 16 < count {
-            return Judged::ShortData;
-        }
-        return Judged::Fit;
-    }
-    if room / 16 < count {
-        return Judged::Refused(Refusal::ShortOutput);
+    if short_data {
+        return Judged::ShortData; // FF AC, ahead of all elements
     }
     Judged::Fit
 }
 
-// The refusals of a request, in their order, then whether its data are there.
-pub fn judge(
-    sound: bool,
-    used: usize,
-    write: bool,
-    count: u32,
-    list: &[u8],
-    lengths: Lengths,
-) -> Judged
-    ensures { λ r. ⌜ r ≡ judgedWith sound used write count (now (list .entry)) lengths ⌝ }
+// Judges the buffer of a read: 5.
+fn read_judged(sizes: Sizes) -> Judged
+    ensures { λ r. ⌜ r ≡ readJudged sizes ⌝ }
 {
+    if too_short(sizes.room, sizes.count) {
+        return Judged::Refused(Refusal::ShortOutput); // 5
+    }
+    Judged::Fit
+}
+
+// Judges a request of a card that is `sound` or not: 8, 1, 2, 3, 7, then what is lent to a write or a read. No stored byte is looked at.
+pub fn judge(sound: bool, write: bool, list: &[u8], sizes: Sizes) -> Judged
+    ensures { λ r. ⌜ r ≡ judgedWith sound write (now (list .entry)) sizes ⌝ }
+{
+    let elements = many_elements(sizes.count);
+    let codes = many_codes(sizes.codes);
+    let ends = reader::list_ends(list, sizes.count);
+    let short_arena = too_short(sizes.arena, sizes.used);
     if !sound {
-        return Judged::Refused(Refusal::NotBuilt);
+        return Judged::Refused(Refusal::NotBuilt); // 8
     }
-    if 512 < count {
-        return Judged::Refused(Refusal::TooManyElements);
+    if elements {
+        return Judged::Refused(Refusal::TooManyElements); // 1
     }
-    if 16 < lengths.codes {
-        return Judged::Refused(Refusal::TooManyCodes);
+    if codes {
+        return Judged::Refused(Refusal::TooManyCodes); // 2
     }
-    if !reader::list_ends(list, count as usize) {
-        return Judged::Refused(Refusal::ListLength);
+    if !ends {
+        return Judged::Refused(Refusal::ListLength); // 3: the list ends early, or runs on
     }
-    lent_judged(
-        used,
-        write,
-        count as usize,
-        lengths.arena,
-        lengths.data,
-        lengths.room,
-    )
+    if short_arena {
+        return Judged::Refused(Refusal::ShortArena); // 7
+    }
+    if write {
+        write_judged(sizes)
+    } else {
+        read_judged(sizes)
+    }
 }

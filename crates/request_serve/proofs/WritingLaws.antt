@@ -1,6 +1,6 @@
 -- What a whole write comes to: the stores are staged, the runs work on them, the arena takes them over, the staging is zeroed.
 use mathlib.Core.Path.{_≡_, refl, sym, ap, _∙_}
-use mathlib.Core.Bool.{true}
+use mathlib.Core.Bool.{true, not}
 use mathlib.Core.List.{List, _++_}
 use Prim.Native.Nat.{ℕ, _+_, _-_, _*_, _≤_}
 use native.Mathlib.Omega.{arith}
@@ -29,14 +29,13 @@ use Rattle.request_runs.specs.declared.run.Applied.the-variants.{Done as AllDon
 use Rattle.request_runs.specs.Runs.{Walked, bad, good}
 use Rattle.request_runs.specs.Staged.{staged}
 use Rattle.request_runs.specs.Ready.{AllReady, walkedTo}
-use Rattle.request_plan.specs.declared.Lengths.{Lengths}
 use Rattle.request_plan.specs.declared.Judged.the-variants.{Refused as NotFit, ShortData as NoData, Fit}
 use Rattle.request_plan.specs.declared.Reply.{Reply}
 use Rattle.request_plan.specs.declared.Reply.the-variants.{Done, Failed}
 use Rattle.request_plan.specs.Request.{Request}
-use Rattle.request_plan.specs.Plan.{lentJudged, judgedWith, judgedBy, judgedOf, rowsIn, elementsIn, checkedPlan, planOf}
+use Rattle.request_plan.specs.Plan.{writeJudged, judgedWith, judgedOf, rowsIn, elementsIn, checkedPlan, planOf}
 use Rattle.request_plan.specs.Serve.{committed, carried, planServed, serve, stagingBy}
-use Rattle.request_plan.proofs.Tests.{held, unheld}
+use Rattle.request_plan.proofs.Tests.{passed-over}
 use Rattle.request_plan.proofs.Ready.{rows-within, sound-laid, all-ready}
 use Rattle.request_plan.proofs.Serves.{failed, passed, unchanged}
 use Rattle.request_plan.proofs.Fits.{fit, rows, checked}
@@ -191,12 +190,14 @@ not-short : (r : Refusal) → NotFit r ≡ NoData → ⊥
 not-short r e = let z : _≡_ {A = ℕ} 0 1 = cc in (omega arith)
 
 -- a write with too few data has room for its stores
-pub short-fits : (c : Card) (count : ℕ) (list : List ℕ) (n : Lengths) → judgedBy c true count list n ≡ NoData →
-    (16 * c .used ≤ n .arena) × (16 * c .used ≤ n .room)
-unfolding judgedWith lentJudged
-short-fits c count list n e =
-    let m = unheld (not-short TooManyElements) (ltb 512 count) _ (held (not-short NotBuilt) (isSound c) _ e .1) in
-    let k = unheld (not-short TooManyCodes) (ltb 16 (n .codes)) _ (m .1) in
-    let a = unheld (not-short ShortArena) (ltb (n .arena) (16 * c .used)) _ (held (not-short ListLength) (endsAfter list count) _ (k .1) .1) in
-    let s = unheld (not-short ShortStaging) (ltb (n .room) (16 * c .used)) _ (a .1) in
-    (ltb-false (n .arena) (16 * c .used) (a .0), ltb-false (n .room) (16 * c .used) (s .0))
+pub short-fits : (c : Card) (arenaLen : ℕ) (r : Request) → r .write ≡ true → judgedOf c arenaLen r ≡ NoData →
+    (16 * c .used ≤ arenaLen) × (16 * c .used ≤ r .room)
+unfolding judgedWith writeJudged
+short-fits c arenaLen r w e =
+    let b = passed-over (not-short NotBuilt) (not (isSound c)) _ e in
+    let m = passed-over (not-short TooManyElements) (ltb 512 (r .count)) _ (b .1) in
+    let k = passed-over (not-short TooManyCodes) (ltb 16 (length (r .codes))) _ (m .1) in
+    let l = passed-over (not-short ListLength) (not (endsAfter (r .list) (r .count))) _ (k .1) in
+    let a = passed-over (not-short ShortArena) (ltb arenaLen (16 * c .used)) _ (l .1) in
+    let s = passed-over (not-short ShortStaging) (ltb (r .room) (16 * c .used)) _ (rw w at (a .1)) in
+    (ltb-false arenaLen (16 * c .used) (a .0), ltb-false (r .room) (16 * c .used) (s .0))

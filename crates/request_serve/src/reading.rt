@@ -8,8 +8,8 @@ use request_check::check::Checked;
 use request_check::table;
 use request_check::table::Table;
 use request_plan::Judged;
-use request_plan::Lengths;
 use request_plan::Reply;
+use request_plan::Sizes;
 ghost use mathlib.Core.Path.{_≡_};
 ghost use Prim.Native.Nat.{_*_, _≤_};
 ghost use lib.ListN.{length, take};
@@ -38,7 +38,8 @@ fn copy_blocks(out: &mut [u8], arena: &[u8], table: Table, list: &[u8], count: u
     }
 }
 
-// A whole read. The output is written only where the reply is `Done`.
+// Reads the blocks that the counted elements of `list` name, by the service `codes` that their indices choose, in an `open` request or one
+// in a session, to the front of `out`. All elements are checked first: the output is written only where the reply is `Done`.
 pub fn read(
     card: Card,
     arena: &[u8],
@@ -48,17 +49,18 @@ pub fn read(
     count: u32,
     list: &[u8],
 ) -> Reply
-    ensures { λ r. ⌜ r ≡ serve card (now (arena .entry)) (readRequest «open» (now (codes .entry)) count (now (list .entry)) (length (now (out .entry)))) .reply ⌝ }
-    ensures { λ _. ⌜ now (out .exit) ≡ outputAfter (now (out .entry)) (serve card (now (arena .entry)) (readRequest «open» (now (codes .entry)) count (now (list .entry)) (length (now (out .entry))))) ⌝ }
+    ensures { λ r. ⌜ (let x = serve card (now (arena .entry)) (readRequest «open» (now (codes .entry)) count (now (list .entry)) (length (now (out .entry)))) in (r ≡ x .reply) × (now (out .exit) ≡ outputAfter (now (out .entry)) x)) ⌝ }
 {
     let sound = card.is_sound();
-    let lengths = Lengths {
-        arena: arena.len(),
+    let sizes = Sizes {
+        used: card.used,
+        count: count as usize,
         codes: codes.len(),
+        arena: arena.len(),
         data: 0,
         room: out.len(),
     };
-    match request_plan::judge(sound, card.used, false, count, list, lengths) {
+    match request_plan::judge(sound, false, list, sizes) {
         Judged::Refused(refusal) => Reply::Refused(refusal),
         Judged::ShortData => Reply::ShortData,
         Judged::Fit => {

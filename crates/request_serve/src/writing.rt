@@ -7,8 +7,8 @@ use request_check::check::Checked;
 use request_check::table;
 use request_check::table::Table;
 use request_plan::Judged;
-use request_plan::Lengths;
 use request_plan::Reply;
+use request_plan::Sizes;
 use request_runs::run;
 use request_runs::run::Applied;
 ghost use mathlib.Core.Path.{_≡_};
@@ -37,7 +37,8 @@ fn copy_stores(to: &mut [u8], from: &[u8], table: Table)
     }
 }
 
-// The runs on the staged stores; the arena takes them over if every run passes.
+// Stages the stores of the table's rows, walks the runs on them, and puts them back into the arena if every run passed. `size` bytes of
+// arena and staging hold the blocks in use.
 fn carry_out(
     arena: &mut [u8],
     staging: &mut [u8],
@@ -48,9 +49,7 @@ fn carry_out(
     data: &[u8],
 ) -> Reply
     requires { ⌜ (size ≤ length (now arena)) × (size ≤ length (now staging)) × (16 * count ≤ length (now «data»)) × AllReady (take (table .count) (table .rows)) size (elementsFrom (now list) count 0) × (table .count ≤ 16) × AllIn (take (table .count) (table .rows)) size ⌝ }
-    ensures { λ r. ⌜ r ≡ committed size (now (arena .entry)) (staged (take (table .count) (table .rows)) (now («data» .entry)) (elementsFrom (now (list .entry)) count 0) (take size (now (arena .entry)))) .reply ⌝ }
-    ensures { λ _. ⌜ now (arena .exit) ≡ committed size (now (arena .entry)) (staged (take (table .count) (table .rows)) (now («data» .entry)) (elementsFrom (now (list .entry)) count 0) (take size (now (arena .entry)))) .arena ⌝ }
-    ensures { λ _. ⌜ drop size (now (staging .exit)) ≡ drop size (now (staging .entry)) ⌝ }
+    ensures { λ r. ⌜ (let x = committed size (now (arena .entry)) (staged (take (table .count) (table .rows)) (now («data» .entry)) (elementsFrom (now (list .entry)) count 0) (take size (now (arena .entry)))) in (r ≡ x .reply) × ((now (arena .exit) ≡ x .arena) × (drop size (now (staging .exit)) ≡ drop size (now (staging .entry))))) ⌝ }
 {
     copy_stores(staging, arena, table);
     match run::apply(&mut staging[0..size], table, list, count, data) {
@@ -62,7 +61,7 @@ fn carry_out(
     }
 }
 
-// The elements' checks, then the runs.
+// Checks the elements of a write that fits, then carries it out.
 fn checked_write(
     card: Card,
     arena: &mut [u8],
@@ -74,9 +73,7 @@ fn checked_write(
     data: &[u8],
 ) -> Reply
     requires { ⌜ judgedOf card (length (now arena)) (writeRequest «open» (now codes) count (now list) (now «data») (length (now staging))) ≡ Fit ⌝ }
-    ensures { λ r. ⌜ r ≡ serve card (now (arena .entry)) (writeRequest «open» (now (codes .entry)) count (now (list .entry)) (now («data» .entry)) (length (now (staging .entry)))) .reply ⌝ }
-    ensures { λ _. ⌜ now (arena .exit) ≡ serve card (now (arena .entry)) (writeRequest «open» (now (codes .entry)) count (now (list .entry)) (now («data» .entry)) (length (now (staging .entry)))) .arena ⌝ }
-    ensures { λ _. ⌜ drop (16 * card .used) (now (staging .exit)) ≡ drop (16 * card .used) (now (staging .entry)) ⌝ }
+    ensures { λ r. ⌜ (let x = serve card (now (arena .entry)) (writeRequest «open» (now (codes .entry)) count (now (list .entry)) (now («data» .entry)) (length (now (staging .entry)))) in (r ≡ x .reply) × ((now (arena .exit) ≡ x .arena) × (drop (16 * card .used) (now (staging .exit)) ≡ drop (16 * card .used) (now (staging .entry))))) ⌝ }
 {
     let nodes = card.nodes;
     let table = table::table_of(nodes, card.count, codes);
@@ -86,8 +83,9 @@ fn checked_write(
     }
 }
 
-// A whole write. The arena changes only where the reply is `Done`; after a refusal the staging is as it was, else zero
-// for all blocks in use.
+// Writes `data`, sixteen bytes for each counted element of `list`, to the blocks that the elements name by the service `codes` that their
+// indices choose. The arena changes only where the reply is `Done`; after a refusal the staging is as it was, else zero for all blocks
+// in use, so that no other card's bytes stay in it.
 pub fn write(
     card: Card,
     arena: &mut [u8],
@@ -98,21 +96,21 @@ pub fn write(
     list: &[u8],
     data: &[u8],
 ) -> Reply
-    ensures { λ r. ⌜ r ≡ serve card (now (arena .entry)) (writeRequest «open» (now (codes .entry)) count (now (list .entry)) (now («data» .entry)) (length (now (staging .entry)))) .reply ⌝ }
-    ensures { λ _. ⌜ now (arena .exit) ≡ serve card (now (arena .entry)) (writeRequest «open» (now (codes .entry)) count (now (list .entry)) (now («data» .entry)) (length (now (staging .entry)))) .arena ⌝ }
-    ensures { λ r. ⌜ now (staging .exit) ≡ stagingBy r (16 * card .used) (now (staging .entry)) ⌝ }
+    ensures { λ r. ⌜ (let x = serve card (now (arena .entry)) (writeRequest «open» (now (codes .entry)) count (now (list .entry)) (now («data» .entry)) (length (now (staging .entry)))) in (r ≡ x .reply) × ((now (arena .exit) ≡ x .arena) × (now (staging .exit) ≡ stagingBy r (16 * card .used) (now (staging .entry))))) ⌝ }
 {
     let sound = card.is_sound();
-    let lengths = Lengths {
-        arena: arena.len(),
+    let sizes = Sizes {
+        used: card.used,
+        count: count as usize,
         codes: codes.len(),
+        arena: arena.len(),
         data: data.len(),
         room: staging.len(),
     };
-    match request_plan::judge(sound, card.used, true, count, list, lengths) {
+    match request_plan::judge(sound, true, list, sizes) {
         Judged::Refused(refusal) => Reply::Refused(refusal),
         Judged::ShortData => {
-            spans::zero(staging, 0, 16 * card.used);
+            spans::zero(staging, 0, 16 * card.used); // as after every status pair
             Reply::ShortData
         }
         Judged::Fit => {

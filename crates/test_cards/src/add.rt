@@ -9,15 +9,15 @@ use card_build::card::Card;
 // A card, the length of the arena that is lent, and whether the line agreed.
 pub(crate) struct Grown {
     pub(crate) card: Card,
-    pub(crate) long: usize,
+    pub(crate) arena_len: usize,
     pub(crate) agrees: bool,
 }
 
 // A new card.
-pub(crate) fn start(system: u16, version: u16, long: usize) -> Grown {
+pub(crate) fn start(system: u16, version: u16, arena_len: usize) -> Grown {
     Grown {
         card: Card::new(system, version),
-        long,
+        arena_len,
         agrees: true,
     }
 }
@@ -38,12 +38,12 @@ fn refusal(a: Answer) -> u8 {
 }
 
 // After an addition whose refusal the list gives.
-fn after(added: Added, long: usize, told: u8) -> Grown {
+fn after(added: Added, arena_len: usize, told: u8) -> Grown {
     let answer = added.answer;
     let card = added.card;
     Grown {
         card,
-        long,
+        arena_len,
         agrees: refusal(answer) == told,
     }
 }
@@ -55,7 +55,7 @@ fn area(g: Grown, b: &[u8]) -> Grown {
     }
     let card = g.card;
     let added = card.add_area(at32(b, 0), at16(b, 4), at16(b, 6), at16(b, 8));
-    after(added, g.long, b[10])
+    after(added, g.arena_len, b[10])
 }
 
 // A line `s`: depth, code, blocks, version, refusal, blocks in use after it.
@@ -63,21 +63,21 @@ fn service(g: Grown, b: &[u8], arena: &mut [u8]) -> Grown {
     if b.len() != 15 {
         return unknown(g);
     }
-    let long = g.long;
-    if arena.len() < long {
+    let arena_len = g.arena_len;
+    if arena.len() < arena_len {
         return unknown(g);
     }
     let used = at16(b, 13) as usize;
     let told = b[12];
     let card = g.card;
     let added = card.add_service(
-        &mut arena[0..long],
+        &mut arena[0..arena_len],
         at32(b, 0),
         at16(b, 4),
         at32(b, 6),
         at16(b, 10),
     );
-    let mut next = after(added, long, told);
+    let mut next = after(added, arena_len, told);
     let grown = next.card;
     if grown.used != used {
         next.agrees = false;
@@ -92,7 +92,7 @@ fn limit(g: Grown, b: &[u8]) -> Grown {
     }
     let card = g.card;
     let added = card.set_limit(word::signed32(at32(b, 0)), word::signed32(at32(b, 4)), b[8]);
-    after(added, g.long, b[9])
+    after(added, g.arena_len, b[9])
 }
 
 // A line `T`: system code, key version, arena length.
@@ -109,7 +109,7 @@ fn arena_length(g: Grown, b: &[u8]) -> Grown {
         return unknown(g);
     }
     let mut next = g;
-    next.long = at32(b, 0) as usize;
+    next.arena_len = at32(b, 0) as usize;
     next.agrees = true;
     next
 }

@@ -20,33 +20,28 @@ struct Tally {
     wrong: u64,
 }
 
-// One more, up to a number that no list reaches.
-fn more(n: u64) -> u64 {
-    if n < 1_000_000_000 { n + 1 } else { n }
-}
-
 // Counts a line of a kind.
 fn counted(t: Tally, kind: u8, agrees: bool) -> Tally {
     let mut next = t;
     if !agrees {
-        next.wrong = more(t.wrong);
+        next.wrong = test_stored::one_more(t.wrong);
         return next;
     }
     match kind {
         b'T' => {
-            next.cards = more(t.cards);
+            next.cards = test_stored::one_more(t.cards);
         }
         b'a' | b's' | b'l' | b'm' => {
-            next.additions = more(t.additions);
+            next.additions = test_stored::one_more(t.additions);
         }
         b'b' => {
-            next.blocks = more(t.blocks);
+            next.blocks = test_stored::one_more(t.blocks);
         }
         b'R' | b'W' => {
-            next.requests = more(t.requests);
+            next.requests = test_stored::one_more(t.requests);
         }
         _ => {
-            next.questions = more(t.questions);
+            next.questions = test_stored::one_more(t.questions);
         }
     }
     next
@@ -55,13 +50,13 @@ fn counted(t: Tally, kind: u8, agrees: bool) -> Tally {
 // Whether a line that leaves the card as it is agrees, with as much of the arena as is lent.
 fn asked(grown: Grown, kind: u8, line: &[u8], b: &[u8], arena: &mut [u8]) -> bool {
     let card = grown.card;
-    let long = grown.long;
-    if arena.len() < long {
+    let arena_len = grown.arena_len;
+    if arena.len() < arena_len {
         return false;
     }
     match kind {
-        b'b' => request::set(card, &mut arena[0..long], b),
-        b'R' | b'W' => request::request(card, &mut arena[0..long], line),
+        b'b' => request::set(card, &mut arena[0..arena_len], b),
+        b'R' | b'W' => request::request(card, &mut arena[0..arena_len], line),
         _ => ask::agrees(card, kind, b),
     }
 }
@@ -91,24 +86,8 @@ fn kind_of(line: &[u8]) -> u8 {
     if 0 < line.len() { line[0] } else { 0 }
 }
 
-// Counts every line of a text, which begins with a card.
-fn lines(tally: Tally, text: &[u8], arena: &mut [u8]) -> Tally {
-    let mut t = tally;
-    let mut grown = add::start(0, 0, 0);
-    let mut from = 0;
-    while from < text.len() {
-        let start = from;
-        let end = test_stored::end_of(text, start, b'\n');
-        from = end + 1;
-        let kind = kind_of(&text[start..end]);
-        grown = after(grown, kind, &text[start..end], arena);
-        t = counted(t, kind, grown.agrees);
-    }
-    t
-}
-
-// Counts every line of every file.
-fn files(arena: &mut [u8]) -> Tally {
+// Counts every line of every file; no line at all is wrong. The first line makes a card.
+fn lines(arena: &mut [u8]) -> Tally {
     let mut t = Tally {
         cards: 0,
         additions: 0,
@@ -117,22 +96,32 @@ fn files(arena: &mut [u8]) -> Tally {
         requests: 0,
         wrong: 0,
     };
+    let mut grown = add::start(0, 0, 0);
     let mut text = io::large_buffer();
-    let mut n = 1u32;
-    while n < 10000 {
-        let got = test_stored::load(n, &mut text);
-        if got == 0 {
+    let mut line = test_stored::before_all();
+    let mut read = 0u32;
+    while read < test_stored::MOST_LINES {
+        line = test_stored::next_line(line, &mut text);
+        if line.size == 0 {
             break;
         }
-        t = lines(t, &text[0..got], arena);
-        n += 1;
+        let start = line.start;
+        let end = line.end;
+        let kind = kind_of(&text[start..end]);
+        grown = after(grown, kind, &text[start..end], arena);
+        t = counted(t, kind, grown.agrees);
+        read += 1;
+    }
+    if read == 0 {
+        test_stored::report_none();
+        t.wrong = 1;
     }
     t
 }
 
 fn main() {
     let mut arena = [0u8; 70000];
-    let t = files(&mut arena);
+    let t = lines(&mut arena);
     test_stored::report(b"cards", t.cards);
     test_stored::report(b"additions", t.additions);
     test_stored::report(b"questions", t.questions);

@@ -6,6 +6,7 @@ use answers::refusal::Answer;
 use byte_parts::spans;
 use card_build::card::Card;
 use request_plan::Reply;
+use request_plan::Response;
 use request_serve::reading;
 use request_serve::writing;
 use test_stored::number16;
@@ -14,19 +15,12 @@ ghost use lib.ListN.{length};
 
 // Whether a reply is the one told: two status bytes, or the number of a refusal.
 fn told(reply: Reply, answer: &[u8]) -> bool {
-    if let Reply::Refused(refusal) = reply {
-        if answer.len() != 1 {
-            return false;
+    match reply.response() {
+        Response::Refusal(number) => answer.len() == 1 && answer[0] == number,
+        Response::Pair { flag1, flag2 } => {
+            answer.len() == 2 && answer[0] == flag1 && answer[1] == flag2
         }
-        return refusal.number() == answer[0];
     }
-    if answer.len() != 2 {
-        return false;
-    }
-    if reply.status_flag1() != answer[0] {
-        return false;
-    }
-    reply.status_flag2() == answer[1]
 }
 
 // Whether all bytes have a value.
@@ -80,7 +74,7 @@ fn read_agrees(
 
 // Whether the staging is as a reply leaves it: zero for the blocks in use after a status pair, and else the mark it held.
 fn staging_right(reply: Reply, used: usize, staging: &[u8]) -> bool {
-    if let Reply::Refused(_) = reply {
+    if let Response::Refusal(_) = reply.response() {
         return all(staging, 0xa5);
     }
     if staging.len() / 16 < used {
@@ -116,19 +110,19 @@ fn write_agrees(
     list: &[u8],
     staging: &mut [u8],
 ) -> bool {
-    let long = arena.len();
-    if 70000 < long {
+    let arena_len = arena.len();
+    if 70000 < arena_len {
         return false;
     }
     let mut copy = [0u8; 70000];
-    spans::copy(&mut copy, 0, arena, 0, long);
+    spans::copy(&mut copy, 0, arena, 0, arena_len);
     fill(staging, 0xa5);
     let open = spelt::first(line, 1) == b'O';
     let mut data = [0u8; 16384];
     let n = spelt::bytes(line, 5, &mut data);
     let count = spelt::number(line, 3);
     let reply = writing::write(card, arena, staging, open, codes, count, list, &data[0..n]);
-    written_right(card, line, reply, arena, staging, &mut copy[0..long])
+    written_right(card, line, reply, arena, staging, &mut copy[0..arena_len])
 }
 
 // Whether a write's reply, arena and staging are those of the line.

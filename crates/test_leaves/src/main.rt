@@ -15,11 +15,6 @@ struct Tally {
     wrong: u64,
 }
 
-// One more, up to a number that no list reaches.
-fn more(n: u64) -> u64 {
-    if n < 1_000_000_000 { n + 1 } else { n }
-}
-
 // Whether the answer in a line of a kind is ours.
 fn agrees(kind: u8, b: &[u8]) -> bool {
     match kind {
@@ -38,22 +33,22 @@ fn counted(t: Tally, kind: u8) -> Tally {
     let mut next = t;
     match kind {
         b'A' => {
-            next.attributes = more(t.attributes);
+            next.attributes = test_stored::one_more(t.attributes);
         }
         b'P' => {
-            next.packs = more(t.packs);
+            next.packs = test_stored::one_more(t.packs);
         }
         b'B' => {
-            next.bitmaps = more(t.bitmaps);
+            next.bitmaps = test_stored::one_more(t.bitmaps);
         }
         b'U' => {
-            next.purses = more(t.purses);
+            next.purses = test_stored::one_more(t.purses);
         }
         b'C' => {
-            next.cyclics = more(t.cyclics);
+            next.cyclics = test_stored::one_more(t.cyclics);
         }
         _ => {
-            next.indexes = more(t.indexes);
+            next.indexes = test_stored::one_more(t.indexes);
         }
     }
     next
@@ -68,24 +63,12 @@ fn one_line(t: Tally, line: &[u8]) -> Tally {
         return counted(t, kind);
     }
     let mut next = t;
-    next.wrong = more(t.wrong);
+    next.wrong = test_stored::one_more(t.wrong);
     next
 }
 
-// Counts every line of a text.
-fn lines(tally: Tally, text: &[u8]) -> Tally {
-    let mut t = tally;
-    let mut from = 0;
-    while from < text.len() {
-        let end = test_stored::end_of(text, from, b'\n');
-        t = one_line(t, &text[from..end]);
-        from = end + 1;
-    }
-    t
-}
-
-// Counts every line of every file.
-fn files() -> Tally {
+// Counts every line of every file; no line at all is wrong.
+fn lines() -> Tally {
     let mut t = Tally {
         attributes: 0,
         packs: 0,
@@ -96,20 +79,27 @@ fn files() -> Tally {
         wrong: 0,
     };
     let mut text = io::large_buffer();
-    let mut n = 1u32;
-    while n < 10000 {
-        let got = test_stored::load(n, &mut text);
-        if got == 0 {
+    let mut line = test_stored::before_all();
+    let mut read = 0u32;
+    while read < test_stored::MOST_LINES {
+        line = test_stored::next_line(line, &mut text);
+        if line.size == 0 {
             break;
         }
-        t = lines(t, &text[0..got]);
-        n += 1;
+        let start = line.start;
+        let end = line.end;
+        t = one_line(t, &text[start..end]);
+        read += 1;
+    }
+    if read == 0 {
+        test_stored::report_none();
+        t.wrong = 1;
     }
     t
 }
 
 fn main() {
-    let t = files();
+    let t = lines();
     test_stored::report(b"attributes", t.attributes);
     test_stored::report(b"packs", t.packs);
     test_stored::report(b"bitmaps", t.bitmaps);

@@ -1,9 +1,12 @@
-// Stored answers: files 0001.in, 0002.in, .. of a program's folder, and lines of hex in them.
+// Stored answers: the lines of the files 0001.in, 0002.in, .. of the folder that a program runs in, and the hex in them.
 use text_numbers::codes::Code;
 use text_numbers::codes::read_hex16;
 ghost use mathlib.Core.Path.{_≡_};
-ghost use Prim.Native.Nat.{_+_, _*_, _≤_, _<_};
+ghost use Prim.Native.Nat.{_+_, _*_, _%_, _^_, _≤_, _<_};
 ghost use lib.ListN.{length};
+
+// More lines than the stored files have.
+pub const MOST_LINES: u32 = 1_000_000_000;
 
 // The digit of a number's last decimal place.
 fn last_digit(n: u32) -> u8 {
@@ -26,7 +29,7 @@ pub fn name(n: u32) -> [u8; 7]
 }
 
 // Reads file number n, as much as the buffer holds; nothing where it is missing.
-pub fn load(n: u32, buffer: &mut [u8]) -> usize
+fn read_file(n: u32, buffer: &mut [u8]) -> usize
     ensures { λ r. ⌜ r ≤ length (now (buffer .exit)) ⌝ }
 {
     let name = name(n);
@@ -80,12 +83,65 @@ pub fn bytes_of(line: &[u8], out: &mut [u8]) -> usize
     n
 }
 
-// Where the line or field that starts at an index ends.
-pub fn end_of(text: &[u8], from: usize, separator: u8) -> usize
+// A line of the stored files: the number of its file, how long that file's text is, and where in it the line starts and ends.
+// Before the first line all are 0; after the last the text has no length.
+pub struct Line {
+    pub file: u32,
+    pub size: usize,
+    pub start: usize,
+    pub end: usize,
+}
+
+// The place before the first line of the first file.
+pub fn before_all() -> Line
+    ensures { λ r. ⌜ r ≡ record { file = 0; size = 0; start = 0; end = 0 } ⌝ }
+{
+    Line {
+        file: 0,
+        size: 0,
+        start: 0,
+        end: 0,
+    }
+}
+
+// Where the line that starts at an index ends.
+fn end_of(text: &[u8], from: usize) -> usize
     requires { ⌜ from ≤ length (now text) ⌝ }
     ensures { λ r. ⌜ (from ≤ r) × (r ≤ length (now (text .entry))) ⌝ }
 {
-    text_fields::field_end(text, from, separator)
+    text_fields::field_end(text, from, b'\n')
+}
+
+// The line of a text that starts at an index.
+fn line_from(file: u32, text: &[u8], size: usize, start: usize) -> Line
+    requires { ⌜ (start ≤ size) × (size ≤ length (now text)) ⌝ }
+    ensures { λ r. ⌜ (r .start ≤ r .end) × (r .end ≤ length (now (text .entry))) ⌝ }
+{
+    Line {
+        file,
+        size,
+        start,
+        end: end_of(&text[0..size], start),
+    }
+}
+
+// The line after a line, in its text or in that of the next file, which is then read to the buffer.
+pub fn next_line(line: Line, text: &mut [u8]) -> Line
+    ensures { λ r. ⌜ (r .start ≤ r .end) × (r .end ≤ length (now (text .exit))) ⌝ }
+{
+    if line.end < line.size && line.size <= text.len() && line.end + 1 < line.size {
+        return line_from(line.file, text, line.size, line.end + 1);
+    }
+    let file = std::num::wrapping_add_u32(line.file, 1);
+    let size = read_file(file, text);
+    line_from(file, text, size, 0)
+}
+
+// One more, for counting lines.
+pub fn one_more(n: u64) -> u64
+    ensures { λ r. ⌜ r ≡ (n + 1) % 2 ^ 64 ⌝ }
+{
+    std::num::wrapping_add_u64(n, 1)
 }
 
 // A number of 16 bits, high byte first.
@@ -108,4 +164,9 @@ pub fn report(label: &[u8], n: u64) {
     io::write_all(1, b" ");
     io::print_decimal(1, n);
     io::write_all(1, b"\n");
+}
+
+// Says on standard error that no line was read, and why: the first file is missing from the folder that the program runs in.
+pub fn report_none() {
+    os::fail(b"no stored answers in this folder: 0001.in");
 }

@@ -13,14 +13,20 @@ use Rattle.request_block.proofs.judge_block.Tie as tie
 sound : (c : tie.Else1) → isSound (c .before .before .args .card) ≡ true
 sound c = sym (c .before .is-sound .ensures) ∙ not-false _ (c .if1 .left)
 
+returns : tie.Need-returns
+returns c = not-built _ _ _ _ (sym (c .before .is-sound .ensures) ∙ not-true _ (c .if1 .taken))
+
+returns-2 : tie.Need-returns-2
+returns-2 c = short-arena _ _ _ _ (sound (c .before .before)) (omega arith)
+
+returns-3 : tie.Need-returns-3
+returns-3 c =
+    not-there _ _ _ _ (sound (c .before .before .before .before .before .before)) (omega arith) (c .before .before .row-of .ensures) (omega arith)
+
+returns-4 : tie.Need-returns-4
+returns-4 c =
+    there _ _ _ _ (sound (c .before .before .before .before .before .before)) (omega arith) (c .before .before .row-of .ensures) (omega arith)
+
 pub judge-block-spec : {M : Type 1} → statement M
 judge-block-spec =
-    tie.close
-    (tie.spec
-    (λ c κs. search needs)
-    (λ c. not-built _ _ _ _ (sym (c .before .is-sound .ensures) ∙ not-true _ (c .if1 .taken)))
-    (λ c. short-arena _ _ _ _ (sound (c .before .before)) (omega arith))
-    (λ c κs. search needs)
-    (λ c. search needs)
-    (λ c. there _ _ _ _ (sound (c .before .before .before .before .before .before)) (omega arith) (c .before .before .row-of .ensures) (omega arith))
-    (λ c. not-there _ _ _ _ (sound (c .before .before .before .before .before .before)) (omega arith) (c .before .before .row-of .ensures) (omega arith)))
+    tie.close (tie.spec (λ c κs. search needs) returns returns-2 (λ c κs. search needs) (λ c. search needs) returns-3 returns-4)

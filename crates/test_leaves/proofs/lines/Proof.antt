@@ -1,4 +1,5 @@
-use Prim.Native.Nat.{ℕ, _≤_, _<_, _-_, _+_, _*_, _/_}
+-- The buffer keeps its length, and a turn is a line more.
+use Prim.Native.Nat.{_≤_, _-_}
 use mathlib.Core.Path.{_≡_}
 use lib.ListN.{length}
 use borrow.Author.Needs.{needs}
@@ -6,10 +7,10 @@ use Rattle.test_leaves.proofs.lines.Statement.{statement}
 use Rattle.test_leaves.proofs.lines.Tie as tie
 
 abbrev Inv-loop : tie.InvT-loop
-Inv-loop text t₀ from₀ t from = from ≤ length text + 1
+Inv-loop t₀ text₀ line₀ read₀ t text line read = (read ≤ 1000000000) × (length text ≡ 65536)
 
 abbrev μ-loop : tie.MeasureT-loop
-μ-loop text t₀ from₀ t from = length text + 1 - from
+μ-loop t₀ text₀ line₀ read₀ t text line read = 1000000000 - read
 
 pub lines-spec : {M : Type 1} → statement M
 lines-spec =
@@ -17,13 +18,18 @@ lines-spec =
     (tie.spec
     Inv-loop
     μ-loop
+    (λ c κs. search needs)  -- large-buffer-requires
+    (λ c κs. search needs)  -- before-all-requires
     (λ c. search needs)  -- loop-holds
-    (λ c. search needs)  -- end-of-requires
+    (λ c. search needs)  -- slice-aggregate-next-line
+    (λ c κs. search needs)  -- next-line-requires
     (λ c. search needs)  -- sub-one-line
     (λ c. search needs)  -- part-one-line-start
     (λ c. search needs)  -- part-one-line-end
-    (λ c. search needs)  -- one-line-requires
-    (λ c. search needs)  -- add-from
+    (λ c κs. search needs)  -- one-line-requires
+    (λ c. search needs)  -- add-read
     (λ c. search needs)  -- loop-less
     (λ c. search needs)  -- loop-again
-    (λ c. search needs))  -- returns
+    (λ c κs. search needs)  -- report-none-requires
+    (λ c. search needs)  -- returns
+    (λ c. search needs))  -- returns-2

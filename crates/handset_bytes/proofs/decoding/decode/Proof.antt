@@ -5,7 +5,7 @@ use native.Mathlib.Omega.{arith}
 use borrow.Author.Needs.{needs}
 use borrow.Author.Tests.{not-true, not-false}
 use Rattle.handset_bytes.proofs.Long.{own-long}
-use Rattle.handset_bytes.proofs.Turns.{Reading, begun, misfit, bad, turn, read-all}
+use Rattle.handset_bytes.proofs.DecodeTurns.{Reading, begun, misfit, bad, turn, read-all}
 use Rattle.handset_bytes.proofs.decoding.decode.Statement.{statement}
 use Rattle.handset_bytes.proofs.decoding.decode.Tie as tie
 

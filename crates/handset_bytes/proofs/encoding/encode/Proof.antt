@@ -5,7 +5,7 @@ use native.Mathlib.Omega.{arith}
 use lib.ListN.{length, length-map}
 use denote.Ref.{now}
 use Rattle.handset_bytes.proofs.Long.{own-long}
-use Rattle.handset_bytes.proofs.EncodingTurns.{Writing, started, wrote, written, stays}
+use Rattle.handset_bytes.proofs.EncodeTurns.{Writing, started, wrote, written, stays}
 use Rattle.handset_bytes.proofs.encoding.encode.Statement.{statement}
 use Rattle.handset_bytes.proofs.encoding.encode.Tie as tie
 

@@ -4,7 +4,7 @@ use lib.ListN.{length, length-map}
 use denote.Ref.{now}
 use borrow.Author.Needs.{needs}
 use Rattle.request_plan.specs.declared.Judged.the-variants.{Fit}
-use Rattle.request_plan.specs.Request.{readRequest}
+use Rattle.request_plan.specs.Request.{Request, readRequest}
 use Rattle.request_plan.specs.Plan.{judgedOf}
 use Rattle.request_plan.proofs.Serves.{refused, short, unread}
 use Rattle.request_serve.proofs.ReadingLaws.{read-failed, read-ready, read-done}
@@ -19,14 +19,16 @@ records c = simp length-map at (c .good .0 .1 .1 .0 .1 .0 .1)
 abbrev start-of : tie.After-judge → tie.Start
 start-of c = c .before .before .before .before .before .before
 
--- how the request is judged
-judged : (c : tie.After-judge) → let a = start-of c .args in
-    judgedOf (a .card) (length (now (a .arena))) (readRequest (a .«open») (now (a .codes)) (a .count) (now (a .list)) (length (now (a .out)))) ≡ c .judge .result
+-- the request
+abbrev asked : tie.Start → Request
+asked s = let a = s .args in readRequest (a .«open») (now (a .codes)) (a .count) (now (a .list)) (length (now (a .out)))
+
+-- how it is judged
+judged : (c : tie.After-judge) → let s = start-of c in judgedOf (s .args .card) (length (now (s .args .arena))) (asked s) ≡ c .judge .result
 judged c = sym (rw (c .before .is-sound .ensures) at (c .judge .ensures))
 
 -- the request fits
-fit : (c : tie.After-enum-told2) → let a = start-of (c .before .before) .args in
-    judgedOf (a .card) (length (now (a .arena))) (readRequest (a .«open») (now (a .codes)) (a .count) (now (a .list)) (length (now (a .out)))) ≡ Fit
+fit : (c : tie.After-enum-told2) → let s = start-of (c .before .before) in judgedOf (s .args .card) (length (now (s .args .arena))) (asked s) ≡ Fit
 fit c = judged (c .before .before) ∙ c .enum-told2 .given .1
 
 ready : tie.Need-copy-blocks-requires

@@ -4,7 +4,7 @@ use native.Mathlib.Omega.{arith}
 use lib.ListN.{length, length-map}
 use denote.Ref.{now}
 use borrow.Author.Needs.{needs}
-use Rattle.request_plan.specs.Request.{writeRequest}
+use Rattle.request_plan.specs.Request.{Request, writeRequest}
 use Rattle.request_serve.proofs.WritingLaws.{stores-fit, write-failed, write-ready, write-done}
 use Rattle.request_serve.proofs.writing.checked_write.Statement.{statement}
 use Rattle.request_serve.proofs.writing.checked_write.Tie as tie
@@ -17,25 +17,29 @@ records c = simp length-map at (c .good .0 .1 .1 .0 .1 .0 .1)
 abbrev start-of : tie.After-check-all → tie.Start
 start-of c = c .before .before .before .before .before .before .before .before
 
+-- the request
+abbrev asked : tie.Start → Request
+asked s = let a = s .args in writeRequest (a .«open») (now (a .codes)) (a .count) (now (a .list)) (now (a .«data»)) (length (now (a .staging)))
+
 mul-carry-out : tie.Need-mul-carry-out
 mul-carry-out c =
     let st = start-of (c .before .before .before .before .before) in
     let a = st .args in
-    omega (arith, stores-fit (a .card) (now (a .arena)) (writeRequest (a .«open») (now (a .codes)) (a .count) (now (a .list)) (now (a .«data»)) (length (now (a .staging)))) (st .pre) refl, st .good .1 .0)
+    omega (arith, stores-fit (a .card) (now (a .arena)) (asked st) (st .pre) refl, st .good .1 .0)
 
 carry-out-requires : tie.Need-carry-out-requires
 carry-out-requires c κs =
     let k = c .before .before .before .before .before in
     let st = start-of k in
     let a = st .args in
-    write-ready (a .card) (now (a .arena)) (writeRequest (a .«open») (now (a .codes)) (a .count) (now (a .list)) (now (a .«data»)) (length (now (a .staging)))) (st .pre) (k .before .table-of .ensures) (k .check-all .ensures) refl (c .before .before .before .enum-told .given .1) (records st)
+    write-ready (a .card) (now (a .arena)) (asked st) (st .pre) (k .before .table-of .ensures) (k .check-all .ensures) refl (c .before .before .before .enum-told .given .1) (records st)
 
 returns : tie.Need-returns
 returns c =
     let k = c .before .before .before in
     let st = start-of k in
     let a = st .args in
-    let o = write-failed (a .card) (now (a .arena)) (writeRequest (a .«open») (now (a .codes)) (a .count) (now (a .list)) (now (a .«data»)) (length (now (a .staging)))) (st .pre) (k .before .table-of .ensures) (k .check-all .ensures) (c .before .index .given .1) in
+    let o = write-failed (a .card) (now (a .arena)) (asked st) (st .pre) (k .before .table-of .ensures) (k .check-all .ensures) (c .before .index .given .1) in
     (o .0, (o .1, refl))
 
 returns-2 : tie.Need-returns-2
@@ -45,7 +49,7 @@ returns-2 c =
     let st = start-of k in
     let a = st .args in
     let m = q .carry-out .ensures in
-    let o = write-done (a .card) (now (a .arena)) (writeRequest (a .«open») (now (a .codes)) (a .count) (now (a .list)) (now (a .«data»)) (length (now (a .staging)))) (st .pre) (k .before .table-of .ensures) (k .check-all .ensures) refl (q .before .before .before .before .enum-told .given .1) (m .0) (m .1 .0) in
+    let o = write-done (a .card) (now (a .arena)) (asked st) (st .pre) (k .before .table-of .ensures) (k .check-all .ensures) refl (q .before .before .before .before .enum-told .given .1) (m .0) (m .1 .0) in
     (o .0, (o .1, m .1 .1))
 
 pub checked-write-spec : {M : Type 1} → statement M

@@ -5,7 +5,7 @@ use lib.ListN.{length}
 use denote.Ref.{now}
 use borrow.Author.Needs.{needs}
 use Rattle.request_plan.specs.declared.Judged.the-variants.{ShortData as NoData, Fit}
-use Rattle.request_plan.specs.Request.{writeRequest}
+use Rattle.request_plan.specs.Request.{Request, writeRequest}
 use Rattle.request_plan.specs.Plan.{judgedOf}
 use Rattle.request_plan.proofs.Serves.{refused, short, unchanged}
 use Rattle.request_serve.proofs.WritingLaws.{stores-fit, wiped, short-fits}
@@ -16,30 +16,31 @@ use Rattle.request_serve.proofs.writing.write.Tie as tie
 abbrev start-of : tie.After-judge → tie.Start
 start-of c = c .before .before .before .before .before .before .before
 
--- how the request is judged
-judged : (c : tie.After-judge) → let a = start-of c .args in
-    judgedOf (a .card) (length (now (a .arena))) (writeRequest (a .«open») (now (a .codes)) (a .count) (now (a .list)) (now (a .«data»)) (length (now (a .staging)))) ≡ c .judge .result
+-- the request
+abbrev asked : tie.Start → Request
+asked s = let a = s .args in writeRequest (a .«open») (now (a .codes)) (a .count) (now (a .list)) (now (a .«data»)) (length (now (a .staging)))
+
+-- how it is judged
+judged : (c : tie.After-judge) → let s = start-of c in judgedOf (s .args .card) (length (now (s .args .arena))) (asked s) ≡ c .judge .result
 judged c = sym (rw (c .before .is-sound .ensures) at (c .judge .ensures))
 
 -- too few data
-no-data : (c : tie.After-enum-told) → let a = start-of (c .before .before) .args in
-    judgedOf (a .card) (length (now (a .arena))) (writeRequest (a .«open») (now (a .codes)) (a .count) (now (a .list)) (now (a .«data»)) (length (now (a .staging)))) ≡ NoData
+no-data : (c : tie.After-enum-told) → let s = start-of (c .before .before) in judgedOf (s .args .card) (length (now (s .args .arena))) (asked s) ≡ NoData
 no-data c = judged (c .before .before) ∙ c .enum-told .given .1
 
 -- the request fits
-fit : (c : tie.After-enum-told2) → let a = start-of (c .before .before) .args in
-    judgedOf (a .card) (length (now (a .arena))) (writeRequest (a .«open») (now (a .codes)) (a .count) (now (a .list)) (now (a .«data»)) (length (now (a .staging)))) ≡ Fit
+fit : (c : tie.After-enum-told2) → let s = start-of (c .before .before) in judgedOf (s .args .card) (length (now (s .args .arena))) (asked s) ≡ Fit
 fit c = judged (c .before .before) ∙ c .enum-told2 .given .1
 
 mul-zero : tie.Need-mul-zero
 mul-zero c =
     let st = start-of (c .before .before .before .before) in
-    omega (arith, short-fits (st .args .card) _ _ _ (no-data (c .before .before)), st .good .1 .0)
+    omega (arith, short-fits (st .args .card) (length (now (st .args .arena))) (asked st) refl (no-data (c .before .before)), st .good .1 .0)
 
 zero-requires : tie.Need-zero-requires
 zero-requires c κs =
     let st = start-of (c .before .before .before .before) in
-    omega (arith, short-fits (st .args .card) _ _ _ (no-data (c .before .before)))
+    omega (arith, short-fits (st .args .card) (length (now (st .args .arena))) (asked st) refl (no-data (c .before .before)))
 
 checked-write-requires : tie.Need-checked-write-requires
 checked-write-requires c κs = fit (c .before .before)
@@ -48,14 +49,13 @@ mul-zero-2 : tie.Need-mul-zero-2
 mul-zero-2 c =
     let q = c .before .before .before .before .before .before in
     let st = start-of (q .before .before .before .before .before) in
-    let a = st .args in
-    omega (arith, stores-fit (a .card) (now (a .arena)) (writeRequest (a .«open») (now (a .codes)) (a .count) (now (a .list)) (now (a .«data»)) (length (now (a .staging)))) (fit (q .before .before .before)) refl, st .good .1 .0)
+    omega (arith, stores-fit (st .args .card) (now (st .args .arena)) (asked st) (fit (q .before .before .before)) refl, st .good .1 .0)
 
 zero-requires-2 : tie.Need-zero-requires-2
 zero-requires-2 c κs =
     let q = c .before .before .before .before .before .before in
-    let a = start-of (q .before .before .before .before .before) .args in
-    omega (arith, stores-fit (a .card) (now (a .arena)) (writeRequest (a .«open») (now (a .codes)) (a .count) (now (a .list)) (now (a .«data»)) (length (now (a .staging)))) (fit (q .before .before .before)) refl, q .checked-write .kept)
+    let st = start-of (q .before .before .before .before .before) in
+    omega (arith, stores-fit (st .args .card) (now (st .args .arena)) (asked st) (fit (q .before .before .before)) refl, q .checked-write .kept)
 
 returns : tie.Need-returns
 returns c =
@@ -70,9 +70,10 @@ returns-2 c =
 returns-3 : tie.Need-returns-3
 returns-3 c =
     let q = c .before .before .before .before .before .before .before .before .before in
-    let a = start-of (q .before .before .before .before .before) .args in
+    let st = start-of (q .before .before .before .before .before) in
+    let a = st .args in
     let m = q .checked-write .ensures in
-    (m .0, (m .1 .0, wiped (a .card) (now (a .arena)) (writeRequest (a .«open») (now (a .codes)) (a .count) (now (a .list)) (now (a .«data»)) (length (now (a .staging)))) (fit (q .before .before .before)) refl (now (a .staging)) (q .checked-write .last .1 .1 .0) _ (m .0) refl (q .checked-write .kept .1 .1 .0) (m .1 .1) (c .before .before .zero2 .ensures)))
+    (m .0, (m .1 .0, wiped (a .card) (now (a .arena)) (asked st) (fit (q .before .before .before)) refl (now (a .staging)) (q .checked-write .last .1 .1 .0) _ (m .0) refl (q .checked-write .kept .1 .1 .0) (m .1 .1) (c .before .before .zero2 .ensures)))
 
 pub write-spec : {M : Type 1} → statement M
 write-spec =

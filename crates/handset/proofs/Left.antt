@@ -1,0 +1,156 @@
+-- A refusal leaves all that a call was lent as it was: the card's bytes, the arena, output and staging, and what the call answers
+-- through its last reference, whatever stood there.
+use mathlib.Core.Path.{_≡_, refl, ap}
+use mathlib.Core.Bool.{Bool, true, false, cond}
+use mathlib.Core.List.{List, []}
+use Prim.Native.Nat.{ℕ, _-_, _*_}
+use native.Mathlib.Omega.{arith}
+use lib.Dec.{eqb, ltb}
+use lib.ListN.{length, take, replicate}
+use lib.Seq.{sets}
+use Rattle.answers.specs.declared.refusal.Refusal.{Refusal}
+use Rattle.answers.specs.declared.refusal.Refusal.the-variants.{ShortArena, NotBuilt, ShortOutput}
+use Rattle.answers.specs.declared.refusal.Answer.{Answer}
+use Rattle.answers.specs.declared.refusal.Answer.the-variants.{Done as Accepted, Refused}
+use Rattle.answers.specs.declared.refusal.Told.{Told}
+use Rattle.answers.specs.declared.refusal.Told.the-variants.{Number, Refused as NotTold}
+use Rattle.byte_parts.specs.Part.{put}
+use Rattle.byte_parts.proofs.Part.{put-zero}
+use Rattle.block_list.specs.declared.element.BlockListElement.{BlockListElement}
+use Rattle.card_admit.specs.declared.Placed.{Placed}
+use Rattle.card_admit.specs.declared.Placed.the-variants.{Store, Refused as NotPlaced}
+use Rattle.card_admit.specs.Grow.{placedOf}
+use Rattle.card_build.specs.declared.card.Card.{Card}
+use Rattle.card_build.specs.declared.card.Added.{Added}
+use Rattle.card_build.specs.Card.{nodesOf, isSound, refused}
+use Rattle.card_build.specs.Grow.{addService, serviceBy}
+use Rattle.card_build.specs.Build.{serviceAdded, arenaAdded}
+use Rattle.card_questions.specs.declared.listing.Listing.{Listing}
+use Rattle.card_questions.specs.declared.listing.Listing.the-variants.{Listed, Refused as NotListed}
+use Rattle.card_questions.specs.declared.keys.Checked.{Checked}
+use Rattle.card_questions.specs.declared.keys.Checked.the-variants.{WellFormed, Malformed, Refused as NotChecked}
+use Rattle.card_questions.specs.Directory.{directoryOf, listedOf, listingOf, outAfter, directoryAnswer, directoryOut}
+use Rattle.request_check.specs.Row.{rowOf}
+use Rattle.request_runs.specs.Runs.{Walked, bad, good}
+use Rattle.request_runs.specs.Staged.{staged}
+use Rattle.request_plan.specs.declared.Reply.{Reply}
+use Rattle.request_plan.specs.declared.Reply.the-variants.{Refused as NotServed, Done, ShortData, Failed}
+use Rattle.request_plan.specs.Request.{Request}
+use Rattle.request_plan.specs.Plan.{Plan, stop, go, planOf, rowsIn}
+use Rattle.request_plan.specs.Serve.{committed, carried, planServed, serve, outputAfter, stagingBy}
+use Rattle.request_block.specs.Block.{blockPlace, blockJudged, setBy, arenaSet}
+use Rattle.handset.specs.Outcome.{answerAs}
+use Rattle.handset.specs.Kept.{cardBy, cardAfter}
+use Rattle.handset.specs.Told.{toldAs, toldAfter, listedAs, listedAfter}
+use Rattle.handset.specs.Checked.{checkedAs, checkedAfter}
+use Rattle.handset.specs.Block.{unfitAfter, setAnswer, setAfter, placeBy, placeAfter}
+
+-- the number of a question
+pub told-left : (old : ℕ) (a : Told) → (toldAs a ≡ 0 → ⊥) → toldAfter old a ≡ old
+told-left old (Number n) h = absurd (h refl)
+told-left old (NotTold r) h = refl
+
+-- how many nodes a directory lists
+pub listed-left : (old : ℕ) (a : Listing) → (listedAs a ≡ 0 → ⊥) → listedAfter old a ≡ old
+listed-left old (Listed n) h = absurd (h refl)
+listed-left old (NotListed r) h = refl
+
+-- whether a list is well formed
+pub checked-left : (old : Bool) (a : Checked) → (checkedAs a ≡ 0 → ⊥) → checkedAfter old a ≡ old
+checked-left old WellFormed h = absurd (h refl)
+checked-left old Malformed h = absurd (h refl)
+checked-left old (NotChecked r) h = refl
+
+-- the card's bytes
+pub card-left : (s : List ℕ) (a : Added) → (answerAs (a .answer) ≡ 0 → ⊥) → cardAfter s a ≡ s
+card-left s a h = by (a .answer) h
+  where
+    by : (x : Answer) → (answerAs x ≡ 0 → ⊥) → cardBy s a x ≡ s
+    by Accepted h = absurd (h refl)
+    by (Refused r) h = refl
+
+-- where a block lies
+pub place-left : (old : ℕ) (c : Card) (arenaLen code number : ℕ) →
+    (answerAs (blockJudged c arenaLen code number) ≡ 0 → ⊥) → placeAfter old c arenaLen code number ≡ old
+unfolding placeAfter
+place-left old c arenaLen code number h = by (blockJudged c arenaLen code number) h
+  where
+    by : (x : Answer) → (answerAs x ≡ 0 → ⊥) → placeBy old (blockPlace (rowOf (nodesOf c) code) number) x ≡ old
+    by Accepted h = absurd (h refl)
+    by (Refused r) h = refl
+
+-- the arena, of a block that is not set
+pub set-left : (c : Card) (arena : List ℕ) (code number : ℕ) (block : List ℕ) →
+    (answerAs (setAnswer c (length arena) code number block) ≡ 0 → ⊥) → setAfter c arena code number block ≡ arena
+unfolding setAnswer setAfter arenaSet
+set-left c arena code number block h = by (eqb (length block) 16) (blockJudged c (length arena) code number) h
+  where
+    by : (t : Bool) (x : Answer) → (answerAs (cond t x (unfitAfter x)) ≡ 0 → ⊥) →
+        cond t (setBy c arena code number block x) arena ≡ arena
+    by false x h = refl
+    by true Accepted h = absurd (h refl)
+    by true (Refused r) h = refl
+
+-- the output of a directory
+pub directory-left : (c : Card) (out : List ℕ) → (listedAs (directoryAnswer c (length out)) ≡ 0 → ⊥) → directoryOut c out ≡ out
+unfolding directoryAnswer directoryOut listingOf outAfter
+directory-left c out h = by (isSound c) (ltb (length out) (2 * length (nodesOf c))) h
+  where
+    by : (s t : Bool) → (listedAs (cond s (cond t (NotListed ShortOutput) (Listed (listedOf (nodesOf c)))) (NotListed NotBuilt)) ≡ 0 → ⊥) →
+        cond s (cond t out (sets out 0 (directoryOf (nodesOf c)))) out ≡ out
+    by true true h = refl
+    by true false h = absurd (h refl)
+    by false t h = refl
+
+-- the arena, of a service that is not added
+pub store-left : (c : Card) (arena : List ℕ) (depth code blocks version : ℕ) →
+    (answerAs (serviceAdded c (length arena) depth code blocks version .answer) ≡ 0 → ⊥) →
+    arenaAdded c (serviceAdded c (length arena) depth code blocks version) arena ≡ arena
+unfolding serviceAdded addService arenaAdded
+store-left c arena depth code blocks version h =
+    by (isSound c) (ltb (length arena) (16 * c .used)) (placedOf (nodesOf c) (c .used) (length arena) depth code blocks) h
+  where
+    kept : (a : Added) → a .card ≡ c → put arena (16 * c .used) (16 * (a .card .used - c .used)) (replicate (16 * (a .card .used - c .used)) 0) ≡ arena
+    kept a e = let z : 16 * (a .card .used - c .used) ≡ 0 = rw e (omega arith) in rw z (put-zero arena (16 * c .used) [])
+
+    by : (s t : Bool) (p : Placed) →
+        (answerAs (cond s (cond t (refused c ShortArena) (serviceBy c depth code version p)) (refused c NotBuilt) .answer) ≡ 0 → ⊥) →
+        arenaAdded c (cond s (cond t (refused c ShortArena) (serviceBy c depth code version p)) (refused c NotBuilt)) arena ≡ arena
+    by false t p h = kept (refused c NotBuilt) refl
+    by true true p h = kept (refused c ShortArena) refl
+    by true false (NotPlaced r) h = kept (refused c r) refl
+    by true false (Store s b u) h = absurd (h refl)
+
+-- how many status pairs a reply has
+abbrev pairs : Reply → ℕ
+pairs (NotServed x) = 0
+pairs Done = 1
+pairs ShortData = 1
+pairs (Failed i f) = 1
+
+-- the arena, output and staging of a request
+pub request-left : (c : Card) (a out staging : List ℕ) (r : Request) {x : Refusal} → serve c a r .reply ≡ NotServed x →
+    (serve c a r .arena ≡ a) × (outputAfter out (serve c a r) ≡ out) × (stagingBy (serve c a r .reply) (16 * c .used) staging ≡ staging)
+unfolding serve carried committed put
+request-left c a out staging r {x = x} e = by (planOf c (length a) r) e
+  where
+    none : {A : Type 0} (y : Reply) → pairs y ≡ 1 → y ≡ NotServed x → A
+    none y k e = let z : pairs y ≡ 0 = ap pairs e in absurd (omega arith)
+
+    runs : (w : Walked (List ℕ)) → committed (16 * c .used) a w .reply ≡ NotServed x →
+        (committed (16 * c .used) a w .arena ≡ a) × (outputAfter out (committed (16 * c .used) a w) ≡ out) ×
+        (stagingBy (committed (16 * c .used) a w .reply) (16 * c .used) staging ≡ staging)
+    runs (bad i f) e = none (Failed i f) refl e
+    runs (good s) e = none Done refl e
+
+    served : (w : Bool) (es : List BlockListElement) → carried w (rowsIn c r) (16 * c .used) (r .«data») a es .reply ≡ NotServed x →
+        (carried w (rowsIn c r) (16 * c .used) (r .«data») a es .arena ≡ a) ×
+        (outputAfter out (carried w (rowsIn c r) (16 * c .used) (r .«data») a es) ≡ out) ×
+        (stagingBy (carried w (rowsIn c r) (16 * c .used) (r .«data») a es .reply) (16 * c .used) staging ≡ staging)
+    served true es e = runs (staged (rowsIn c r) (r .«data») es (take (16 * c .used) a)) e
+    served false es e = none Done refl e
+
+    by : (p : Plan) → planServed c a r p .reply ≡ NotServed x → (planServed c a r p .arena ≡ a) ×
+        (outputAfter out (planServed c a r p) ≡ out) × (stagingBy (planServed c a r p .reply) (16 * c .used) staging ≡ staging)
+    by (stop y) e = (refl, refl, rw e)
+    by (go es) e = served (r .write) es e

@@ -1,0 +1,2 @@
+-- A refusal leaves all that a call was lent as it was.
+pub mod Left
