@@ -1,10 +1,11 @@
 pub mod UnderLaws
 pub mod Worded
 pub mod ListingWorded
-mod Laid
-mod Answered
 pub mod TotalsWorded
-mod Summing
+mod TableLaws
+mod Filled
+mod Columns
+mod Answered
 mod Found
 mod Version
 mod Lists

@@ -16,8 +16,8 @@ use Rattle.card_nodes.specs.declared.node.Node.{Node}
 use Rattle.card_nodes.specs.declared.find.Found.{Found}
 use Rattle.card_nodes.specs.declared.find.Found.the-variants.{At, Nothing}
 use Rattle.card_nodes.specs.Node.{rootNode, isArea, isService}
-use Rattle.card_nodes.specs.Find.{firstFrom, sharedOf, areaAt, openAt, parentFrom}
-use Rattle.card_nodes.proofs.Searches.{Below, orElse, first-below, first-found, first-append, parent-append}
+use Rattle.card_nodes.specs.Find.{firstFrom, orElse, sharedOf, areaAt, openAt, parentFrom}
+use Rattle.card_nodes.proofs.Searches.{Below, first-below, first-found, first-append, parent-append}
 use Rattle.card_admit.specs.declared.First.the-variants.{There, Missing}
 use Rattle.card_admit.specs.Grow.{parentAt, firstIn}
 use Rattle.card_sound.proofs.Laws.{passed}
