@@ -2,6 +2,7 @@ pub mod UnderLaws
 pub mod Worded
 pub mod ListingWorded
 pub mod TotalsWorded
+pub mod BuiltCards
 mod TableLaws
 mod Filled
 mod Columns

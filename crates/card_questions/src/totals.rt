@@ -56,7 +56,7 @@ fn capped(sum: u32) -> u16
     if sum < 65535 { sum as u16 } else { 65535 }
 }
 
-// The total of the first area of a code, or 0.
+// The total of the first area of `code`, or 0 where there is none.
 fn area_total(nodes: [Node; 64], count: usize, code: u16) -> u16
     ensures { λ r. ⌜ r ≡ areaTotal (take count nodes) code ⌝ }
 {
@@ -71,7 +71,7 @@ fn area_total(nodes: [Node; 64], count: usize, code: u16) -> u16
     capped(sum.blocks)
 }
 
-// The total of a code: a service's store, an area's total, or 0 for an unknown one.
+// The total of `code`: that of a service's store, else an area's, else 0.
 fn block_total(nodes: [Node; 64], count: usize, code: u16) -> u16
     ensures { λ r. ⌜ r ≡ totalOf (take count nodes) code ⌝ }
 {
@@ -85,7 +85,7 @@ fn block_total(nodes: [Node; 64], count: usize, code: u16) -> u16
     }
 }
 
-// The block total of a node.
+// The block total of the node of `code`, or refusal 8.
 pub fn block_count_for_node(card: Card, code: u16) -> Told
     ensures { λ r. ⌜ r ≡ totalAnswer card code ⌝ }
 {
