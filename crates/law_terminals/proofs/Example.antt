@@ -20,7 +20,7 @@ use Rattle.rule_purse.specs.Purse.{valueOf, insideOf, outsideOf, sumOf, storedO
 use Rattle.rule_cyclic.specs.Cyclic.{cyclicOf}
 use Rattle.rule_purse.specs.Bytes.{purseDataOf, blockOf, purseOf}
 use Rattle.card_nodes.specs.Find.{firstFrom, openAt, parentFrom}
-use Rattle.card_admit.specs.Grow.{parentAt, outside, serviceUnder, sameKind, joinedTo, usable, newStore, placedOf}
+use Rattle.card_admit.specs.Admit.{isDepth, parentAt, outside, serviceUnder, sameKind, joinedTo, usable, newStore, placedOf}
 use Rattle.card_sound.specs.Sound.{isRoot, allRoots, stepOf, stepsFrom, stepsOf, soundOf}
 use Rattle.card_build.specs.declared.card.Card.{Card}
 use Rattle.card_build.specs.Card.{newCard}
@@ -60,7 +60,7 @@ abbrev card : Card
 card = addService credit 80 1 0x10cd 2 0 .card
 
 card-built : Built card
-unfolding addService placedOf parentAt parentFrom openAt firstFrom serviceUnder outside sameKind joinedTo usable newStore numberOf attributesOf tableOf decodedOf attributeOf codeKindOf
+unfolding addService placedOf isDepth parentAt parentFrom openAt firstFrom serviceUnder outside sameKind joinedTo usable newStore numberOf attributesOf tableOf decodedOf attributeOf codeKindOf
 card-built =
     service {c = credit} 80 1 0x10cd 2 0
     (service {c = towers} 80 1 0x1095 1 0
@@ -236,7 +236,7 @@ IsRedrawn = Redrawn card 0x41 1 (replicate 16 3) arena redraw between (reading 0
 
 -- all of it, computed by the definitions
 computed : Told × Alone × Ends × Disturbed × Redraws × IsRedrawn
-unfolding addService placedOf parentAt parentFrom openAt firstFrom serviceUnder outside sameKind joinedTo usable newStore numberOf attributesOf tableOf decodedOf attributeOf codeKindOf requiresKey unpackAt endsFrom endsAfter elementsFrom part put sameBytes wordAt wordBytes signedOf wordOf cyclicOf valueOf insideOf outsideOf sumOf storedOf purseRule purseDataOf blockOf purseOf isRoot allRoots stepOf stepsFrom stepsOf soundOf rowOf modeAllowed attributeCheck rowCheck elementCheck checkedFrom then push runsOf scan walk back within cashbackIn elementBy endBy onStore staged lentJudged judgedWith planOf blocksRead committed carried serve only all after answers told
+unfolding addService placedOf isDepth parentAt parentFrom openAt firstFrom serviceUnder outside sameKind joinedTo usable newStore numberOf attributesOf tableOf decodedOf attributeOf codeKindOf requiresKey unpackAt endsFrom endsAfter elementsFrom part put sameBytes wordAt wordBytes signedOf wordOf cyclicOf valueOf insideOf outsideOf sumOf storedOf purseRule purseDataOf blockOf purseOf isRoot allRoots stepOf stepsFrom stepsOf soundOf rowOf modeAllowed attributeCheck rowCheck elementCheck checkedFrom then push runsOf scan walk back within cashbackIn elementBy endBy onStore staged lentJudged judgedWith planOf blocksRead committed carried serve only all after answers told
 computed = (
   refl,
   (refl, refl),

@@ -1,7 +1,7 @@
 -- What may follow the nodes that are there. Tests in the order of the refusals.
 use Prim.Native.Nat.{ℕ, _+_, _/_, _%_, min}
 use mathlib.Core.List.{List}
-use mathlib.Core.Bool.{Bool, true, false, cond, not}
+use mathlib.Core.Bool.{Bool, true, false, cond, not, _&&_}
 use lib.Dec.{eqb, ltb, leb}
 use lib.ListN.{length, getD}
 use Rattle.answers.specs.declared.refusal.Refusal.the-variants.{InvalidAreaRange, InvalidRootAreaRange, NodeCodeOutOfRange, InvalidAreaAttribute, ChildAreaForbidden, UndefinedServiceAttribute, ServiceOutOfRange, AreaOutOfRange, OverlapKindMismatch, TableFull, NoParent, NoRoom}
@@ -23,9 +23,13 @@ use Rattle.card_admit.specs.declared.First.the-variants.{There, Missing}
 use Rattle.card_nodes.specs.Node.{rootNode, endOf, startOf, blocksOf}
 use Rattle.card_nodes.specs.Find.{sharedOf, parentOf}
 
--- no parent at that depth, or depth 0 or over 8
+-- a node other than the root is at a depth from 1 to 8
+unfoldable pub isDepth : ℕ → Bool
+isDepth depth = leb 1 depth && leb depth 8
+
+-- at any other depth it has no parent
 unfoldable pub parentAt : List Node → ℕ → Found
-parentAt ns depth = cond (eqb depth 0) Nothing (cond (ltb 8 depth) Nothing (parentOf ns depth))
+parentAt ns depth = cond (not (isDepth depth)) Nothing (parentOf ns depth)
 
 -- area 0000 must end at FFFE
 unfoldable pub rootMisfit : ℕ → ℕ → Bool
@@ -47,6 +51,7 @@ areaUnder above code end =
     (cond (outside code end (above .code) (endOf (above .entry))) (Refused AreaOutOfRange)
     Done))))))
 
+-- 21, then those of an area under its parent
 abbrev pub areaFound : List Node → ℕ → ℕ → Found → Answer
 areaFound ns code end Nothing = Refused NoParent
 areaFound ns code end (At p) = areaUnder (getD ns p rootNode) code end
@@ -55,19 +60,19 @@ areaFound ns code end (At p) = areaUnder (getD ns p rootNode) code end
 unfoldable pub areaJudged : List Node → ℕ → ℕ → ℕ → Answer
 areaJudged ns depth code end = cond (leb 64 (length ns)) (Refused TableFull) (areaFound ns code end (parentAt ns depth))
 
--- an attribute that is undefined is refused
-abbrev pub ifDefined : {A : Type 0} → Decoded → A → A → A
-ifDefined (Defined a) x y = x
-ifDefined Undefined x y = y
+abbrev pub isUndefined : Decoded → Bool
+isUndefined Undefined = true
+isUndefined (Defined a) = false
 
 -- 13, 16, 17 (outside the parent's code to end)
 unfoldable pub serviceUnder : Node → ℕ → Answer
 serviceUnder above code =
     cond (ltb 0xfffe code) (Refused NodeCodeOutOfRange)
-    (ifDefined (attributeOf code)
-    (cond (outside code code (above .code) (endOf (above .entry))) (Refused ServiceOutOfRange) Done)
-    (Refused UndefinedServiceAttribute))
+    (cond (isUndefined (attributeOf code)) (Refused UndefinedServiceAttribute)
+    (cond (outside code code (above .code) (endOf (above .entry))) (Refused ServiceOutOfRange)
+    Done))
 
+-- a number for each kind, to compare two
 abbrev pub kindNumber : DecodedKind → ℕ
 kindNumber NoKind = 0
 kindNumber (OfKind Random) = 1
@@ -80,42 +85,52 @@ sameKind a b = eqb (kindNumber (codeKindOf a)) (kindNumber (codeKindOf b))
 -- 19; a later service of a number joins the store, and its own block count is ignored
 unfoldable pub joinedTo : Node → ℕ → ℕ → Placed
 joinedTo first code used =
-    cond (sameKind (first .code) code) (Store (startOf (first .entry)) (blocksOf (first .entry)) used) (NotPlaced OverlapKindMismatch)
+    cond (not (sameKind (first .code) code)) (NotPlaced OverlapKindMismatch)
+    (Store (startOf (first .entry)) (blocksOf (first .entry)) used)
 
--- the blocks of an arena of `long` bytes that can be used
+-- the bytes of a block, and the most blocks of an arena that are used
+abbrev pub blockSize : ℕ
+blockSize = 16
+
+abbrev pub mostBlocks : ℕ
+mostBlocks = 4096
+
+-- the blocks of an arena of `arenaLen` bytes that can be used
 unfoldable pub usable : ℕ → ℕ
-usable long = min (long / 16) 4096
+usable arenaLen = min (arenaLen / blockSize) mostBlocks
 
--- 22; the first service of a number makes a store next after those in use
+-- 22, unless the blocks in use and the store's own are usable; the first service of a number makes a store next after those in use
 unfoldable pub newStore : ℕ → ℕ → ℕ → Placed
-newStore used long blocks = cond (ltb (usable long) (used + blocks)) (NotPlaced NoRoom) (Store used blocks (used + blocks))
+newStore used arenaLen blocks = cond (ltb (usable arenaLen) (used + blocks)) (NotPlaced NoRoom) (Store used blocks (used + blocks))
 
 -- the first service of a number, where one is found
 abbrev pub firstIn : List Node → Found → First
 firstIn ns (At j) = There (getD ns j rootNode)
 firstIn ns Nothing = Missing
 
+-- 19 or 22, or the store
 abbrev pub storeBy : ℕ → ℕ → ℕ → ℕ → First → Placed
-storeBy used long code blocks (There first) = joinedTo first code used
-storeBy used long code blocks Missing = newStore used long blocks
+storeBy used arenaLen code blocks (There first) = joinedTo first code used
+storeBy used arenaLen code blocks Missing = newStore used arenaLen blocks
 
 abbrev pub storeOf : List Node → ℕ → ℕ → ℕ → ℕ → Found → Placed
-storeOf ns used long code blocks f = storeBy used long code blocks (firstIn ns f)
+storeOf ns used arenaLen code blocks f = storeBy used arenaLen code blocks (firstIn ns f)
 
 abbrev pub ifDone : Answer → Placed → Placed
-ifDone Done p = p
 ifDone (Refused r) p = NotPlaced r
+ifDone Done p = p
 
--- a service under its parent gets its store
+-- 13, 16, 17 of a service under its parent, then those of its store
 abbrev pub placedUnder : Node → First → ℕ → ℕ → ℕ → ℕ → Placed
-placedUnder above first used long code blocks = ifDone (serviceUnder above code) (storeBy used long code blocks first)
+placedUnder above first used arenaLen code blocks = ifDone (serviceUnder above code) (storeBy used arenaLen code blocks first)
 
+-- 21, then those of a service under its parent
 abbrev pub serviceFound : List Node → ℕ → ℕ → ℕ → ℕ → Found → Placed
-serviceFound ns used long code blocks Nothing = NotPlaced NoParent
-serviceFound ns used long code blocks (At p) =
-    placedUnder (getD ns p rootNode) (firstIn ns (sharedOf ns code)) used long code blocks
+serviceFound ns used arenaLen code blocks Nothing = NotPlaced NoParent
+serviceFound ns used arenaLen code blocks (At p) =
+    placedUnder (getD ns p rootNode) (firstIn ns (sharedOf ns code)) used arenaLen code blocks
 
 -- 20, 21, then those of a service
 unfoldable pub placedOf : List Node → ℕ → ℕ → ℕ → ℕ → ℕ → Placed
-placedOf ns used long depth code blocks =
-    cond (leb 64 (length ns)) (NotPlaced TableFull) (serviceFound ns used long code blocks (parentAt ns depth))
+placedOf ns used arenaLen depth code blocks =
+    cond (leb 64 (length ns)) (NotPlaced TableFull) (serviceFound ns used arenaLen code blocks (parentAt ns depth))
