@@ -42,7 +42,7 @@ enum {
     ULUVOLI_DIRECTORY_MOST = 128,    /* numbers of a directory: a pair for each node */
     ULUVOLI_ELEMENTS_MOST = 512,     /* elements of a request */
     ULUVOLI_CODES_MOST = 16,         /* service codes of a request */
-    ULUVOLI_STACK = 65536,           /* bytes of stack that a call takes, at most */
+    ULUVOLI_STACK = 16384,           /* bytes of stack that a call takes, at most */
     ULUVOLI_SYSTEM = 0xffff          /* the code that names the system */
 };
 

@@ -10,7 +10,7 @@ mod ffi;
 /// Bytes of a card.
 pub const CARD_SIZE: usize = 1288;
 /// Bytes of stack that a call takes, at most.
-pub const STACK: usize = 65536;
+pub const STACK: usize = 16_384;
 /// Bytes of a block.
 pub const BLOCK_SIZE: usize = 16;
 /// The code that names the system.

@@ -1,13 +1,13 @@
 -- What is known once a node was accepted.
 use mathlib.Core.Path.{_≡_, refl, sym, _∙_}
-use mathlib.Core.Bool.{Bool, true, false, cond}
+use mathlib.Core.Bool.{Bool, true, false, cond, not, and-eq-true-iff}
 use mathlib.Core.List.{List}
 use mathlib.Core.Logic.{_⊎_, inl, inr, ⊎-elim}
 use Prim.Native.Nat.{ℕ, _+_, _≤_, _<_}
 use native.Mathlib.Omega.{arith}
-use lib.Dec.{eqb, leb, ltb}
+use lib.Dec.{leb, ltb}
 use lib.ListN.{length, getD}
-use borrow.Author.Tests.{leb-false, ltb-false, le-ltb}
+use borrow.Author.Tests.{leb-true, leb-false, ltb-false, le-ltb, le-leb}
 use Rattle.answers.specs.declared.refusal.Refusal.{Refusal}
 use Rattle.answers.specs.declared.refusal.Refusal.the-variants.{TableFull, NoRoom, OverlapKindMismatch}
 use Rattle.card_nodes.specs.declared.node.Node.{Node}
@@ -20,19 +20,43 @@ use Rattle.card_admit.specs.declared.Placed.the-variants.{Store, Refused
 use Rattle.card_nodes.specs.Node.{rootNode, startOf, blocksOf}
 use Rattle.card_nodes.specs.Find.{sharedOf, parentOf}
 use Rattle.card_nodes.proofs.Searches.{Below, below-cond, parent-below}
-use Rattle.card_admit.specs.Grow.{parentAt, areaFound, areaJudged, serviceUnder, sameKind, joinedTo, usable, newStore, storeOf, ifDone, serviceFound, placedOf}
+use Rattle.card_admit.specs.Admit.{isDepth, parentAt, areaFound, areaJudged, serviceUnder, sameKind, joinedTo, usable, newStore, storeOf, ifDone, serviceFound, placedOf}
+
+-- a depth that a node other than the root may have
+pub record Deep (depth : ℕ) : Type 0 where
+  pub low : 1 ≤ depth
+  pub high : depth ≤ 8
+
+-- such are the depths that pass the test
+pub depth-deep : (depth : ℕ) → isDepth depth ≡ true → Deep depth
+unfolding isDepth
+depth-deep depth e =
+    let b = and-eq-true-iff (leb 1 depth) (leb depth 8) .0 e in
+    record { low = leb-true 1 depth (b .0); high = leb-true depth 8 (b .1) }
+
+-- and no others
+pub deep-depth : (depth : ℕ) → 1 ≤ depth → depth ≤ 8 → isDepth depth ≡ true
+unfolding isDepth
+deep-depth depth h k = rw (le-leb 1 depth h, le-leb depth 8 k)
+
+-- a node with a parent is at such a depth
+pub parent-deep : (ns : List Node) (depth : ℕ) {p : ℕ} → parentAt ns depth ≡ At p → Deep depth
+unfolding parentAt
+parent-deep ns depth {p = p} e = depth-deep depth (passed (isDepth depth) e)
+  where
+    passed : (b : Bool) → cond (not b) Nothing (parentOf ns depth) ≡ At p → b ≡ true
+    passed true k = refl
+    passed false k = absurd (let z : _≡_ {A = ℕ} 0 1 = cc in (omega arith))
 
 -- a parent is one of the nodes
 pub parent-at-below : (ns : List Node) (depth : ℕ) → Below (parentAt ns depth) (0 + length ns)
 unfolding parentAt
-parent-at-below ns depth =
-    below-cond (eqb depth 0) Nothing _ _ tt
-    (below-cond (ltb 8 depth) Nothing (parentOf ns depth) _ tt (parent-below depth Nothing 0 ns tt))
+parent-at-below ns depth = below-cond (not (isDepth depth)) Nothing (parentOf ns depth) _ tt (parent-below depth Nothing 0 ns tt)
 
 -- at most 4,096 blocks are usable
-pub usable-most : (long : ℕ) → usable long ≤ 4096
+pub usable-most : (arenaLen : ℕ) → usable arenaLen ≤ 4096
 unfolding usable
-usable-most long = omega arith
+usable-most arenaLen = omega arith
 
 -- an accepted area finds a record free
 pub area-room : (ns : List Node) (depth code end : ℕ) → areaJudged ns depth code end ≡ Done → length ns < 64
@@ -47,8 +71,8 @@ area-room ns depth code end e =
 -- a service may come there: a record is free, and all that is left to say is which store it gets
 pub record Allowed (ns : List Node) (depth code : ℕ) : Type 0 where
   pub room : length ns < 64
-  pub gets : (used long blocks : ℕ) →
-      placedOf ns used long depth code blocks ≡ storeOf ns used long code blocks (sharedOf ns code)
+  pub gets : (used arenaLen blocks : ℕ) →
+      placedOf ns used arenaLen depth code blocks ≡ storeOf ns used arenaLen code blocks (sharedOf ns code)
 
 -- its store is that of the first service of its number
 pub record Joined (ns : List Node) (used code s b u : ℕ) : Type 0 where
@@ -60,12 +84,12 @@ pub record Joined (ns : List Node) (used code s b u : ℕ) : Type 0 where
   pub same : u ≡ used
 
 -- or a new one, next after those in use
-pub record Fresh (ns : List Node) (used long code blocks s b u : ℕ) : Type 0 where
+pub record Fresh (ns : List Node) (used arenaLen code blocks s b u : ℕ) : Type 0 where
   pub none : sharedOf ns code ≡ Nothing
   pub start : s ≡ used
   pub count : b ≡ blocks
   pub more : u ≡ used + b
-  pub fits : u ≤ usable long
+  pub fits : u ≤ usable arenaLen
 
 -- a refusal is no store
 no-store : {A : Type 0} {r : Refusal} {s b u : ℕ} → NotPlaced r ≡ Store s b u → A
@@ -76,50 +100,50 @@ module _ (ns : List Node) (depth code : ℕ) {s b u : ℕ} where
   under : {p : ℕ} (store : Placed) (a : Answer) → serviceUnder (getD ns p rootNode) code ≡ a →
       leb 64 (length ns) ≡ false → parentAt ns depth ≡ At p → ifDone a store ≡ Store s b u → Allowed ns depth code
   unfolding placedOf
-  under store Done k h f e = record { room = leb-false 64 (length ns) h; gets = λ used long blocks. rw (h, f, k) }
+  under store Done k h f e = record { room = leb-false 64 (length ns) h; gets = λ used arenaLen blocks. rw (h, f, k) }
   under store (Refused r) k h f e = no-store e
 
   -- a free record and a parent
-  found : (used long blocks : ℕ) (full : Bool) (f : Found) → leb 64 (length ns) ≡ full → parentAt ns depth ≡ f →
-      cond full (NotPlaced TableFull) (serviceFound ns used long code blocks f) ≡ Store s b u → Allowed ns depth code
-  found used long blocks true f h k e = no-store e
-  found used long blocks false Nothing h k e = no-store e
-  found used long blocks false (At p) h k e =
-      under (storeOf ns used long code blocks (sharedOf ns code)) (serviceUnder (getD ns p rootNode) code) refl h k e
+  found : (used arenaLen blocks : ℕ) (full : Bool) (f : Found) → leb 64 (length ns) ≡ full → parentAt ns depth ≡ f →
+      cond full (NotPlaced TableFull) (serviceFound ns used arenaLen code blocks f) ≡ Store s b u → Allowed ns depth code
+  found used arenaLen blocks true f h k e = no-store e
+  found used arenaLen blocks false Nothing h k e = no-store e
+  found used arenaLen blocks false (At p) h k e =
+      under (storeOf ns used arenaLen code blocks (sharedOf ns code)) (serviceUnder (getD ns p rootNode) code) refl h k e
 
   -- a service that got a store may come there
-  pub allowed : (used long blocks : ℕ) → placedOf ns used long depth code blocks ≡ Store s b u → Allowed ns depth code
+  pub allowed : (used arenaLen blocks : ℕ) → placedOf ns used arenaLen depth code blocks ≡ Store s b u → Allowed ns depth code
   unfolding placedOf
-  allowed used long blocks e = found used long blocks (leb 64 (length ns)) (parentAt ns depth) refl refl e
+  allowed used arenaLen blocks e = found used arenaLen blocks (leb 64 (length ns)) (parentAt ns depth) refl refl e
 
   -- a store to join, of one kind
   join : (used j : ℕ) (k : Bool) → sharedOf ns code ≡ At j → sameKind (getD ns j rootNode .code) code ≡ k →
-      cond k (Store (startOf (getD ns j rootNode .entry)) (blocksOf (getD ns j rootNode .entry)) used) (NotPlaced OverlapKindMismatch)
+      cond (not k) (NotPlaced OverlapKindMismatch) (Store (startOf (getD ns j rootNode .entry)) (blocksOf (getD ns j rootNode .entry)) used)
       ≡ Store s b u →
       Joined ns used code s b u
   join used j true f h e = record { first = j; found = f; kind = h; start = cc; count = cc; same = cc }
   join used j false f h e = no-store e
 
   -- room for a new one
-  make : (used long blocks : ℕ) (k : Bool) → sharedOf ns code ≡ Nothing → ltb (usable long) (used + blocks) ≡ k →
-      cond k (NotPlaced NoRoom) (Store used blocks (used + blocks)) ≡ Store s b u → Fresh ns used long code blocks s b u
-  make used long blocks true f h e = no-store e
-  make used long blocks false f h e =
+  make : (used arenaLen blocks : ℕ) (k : Bool) → sharedOf ns code ≡ Nothing → ltb (usable arenaLen) (used + blocks) ≡ k →
+      cond k (NotPlaced NoRoom) (Store used blocks (used + blocks)) ≡ Store s b u → Fresh ns used arenaLen code blocks s b u
+  make used arenaLen blocks true f h e = no-store e
+  make used arenaLen blocks false f h e =
       let c : b ≡ blocks = cc in
       let m : u ≡ used + blocks = cc in
-      record { none = f; start = cc; count = c; more = omega arith; fits = omega (arith, ltb-false (usable long) (used + blocks) h) }
+      record { none = f; start = cc; count = c; more = omega arith; fits = omega (arith, ltb-false (usable arenaLen) (used + blocks) h) }
 
   -- one of the two
-  either : (used long blocks : ℕ) (f : Found) → sharedOf ns code ≡ f → storeOf ns used long code blocks f ≡ Store s b u →
-      Joined ns used code s b u ⊎ Fresh ns used long code blocks s b u
+  either : (used arenaLen blocks : ℕ) (f : Found) → sharedOf ns code ≡ f → storeOf ns used arenaLen code blocks f ≡ Store s b u →
+      Joined ns used code s b u ⊎ Fresh ns used arenaLen code blocks s b u
   unfolding joinedTo newStore
-  either used long blocks (At j) k e = inl (join used j (sameKind (getD ns j rootNode .code) code) k refl e)
-  either used long blocks Nothing k e = inr (make used long blocks (ltb (usable long) (used + blocks)) k refl e)
+  either used arenaLen blocks (At j) k e = inl (join used j (sameKind (getD ns j rootNode .code) code) k refl e)
+  either used arenaLen blocks Nothing k e = inr (make used arenaLen blocks (ltb (usable arenaLen) (used + blocks)) k refl e)
 
-  module _ (used long blocks : ℕ) (e : placedOf ns used long depth code blocks ≡ Store s b u) where
+  module _ (used arenaLen blocks : ℕ) (e : placedOf ns used arenaLen depth code blocks ≡ Store s b u) where
     -- which store it got
-    pub stored : Joined ns used code s b u ⊎ Fresh ns used long code blocks s b u
-    stored = either used long blocks (sharedOf ns code) refl (sym (allowed used long blocks e .gets used long blocks) ∙ e)
+    pub stored : Joined ns used code s b u ⊎ Fresh ns used arenaLen code blocks s b u
+    stored = either used arenaLen blocks (sharedOf ns code) refl (sym (allowed used arenaLen blocks e .gets used arenaLen blocks) ∙ e)
 
     -- the blocks in use never fall
     pub used-grows : used ≤ u
@@ -127,16 +151,16 @@ module _ (ns : List Node) (depth code : ℕ) {s b u : ℕ} where
 
     -- and stay within 4,096
     pub used-most : used ≤ 4096 → u ≤ 4096
-    used-most h = ⊎-elim (λ j. omega arith) (λ f. omega (arith, usable-most long)) stored
+    used-most h = ⊎-elim (λ j. omega arith) (λ f. omega (arith, usable-most arenaLen)) stored
 
     -- the longest arena, and the store's own count in place of the given one, change nothing
     pub placed-longest : placedOf ns used 65536 depth code b ≡ Store s b u
     unfolding newStore usable
     placed-longest =
-        allowed used long blocks e .gets used 65536 b
+        allowed used arenaLen blocks e .gets used 65536 b
         ∙ ⊎-elim
-        (λ j. rw (j .found) (rw (j .found) at (sym (allowed used long blocks e .gets used long blocks) ∙ e)))
+        (λ j. rw (j .found) (rw (j .found) at (sym (allowed used arenaLen blocks e .gets used arenaLen blocks) ∙ e)))
         (λ f.
-        let m : u ≤ 4096 = omega (arith, usable-most long) in
+        let m : u ≤ 4096 = omega (arith, usable-most arenaLen) in
         rw (f .none, le-ltb 4096 (used + b) (omega arith)) (cc))
         stored

@@ -1,1 +1,1 @@
-pub mod Grow
+pub mod Admit

@@ -1,15 +1,19 @@
-// What may come under a node: the refusals of a new area and of a new service, and a service's store.
+// What may come under a node: the refusals of a new area and of a new service, in their order, and the store that a service gets.
 use answers::refusal::Answer;
 use answers::refusal::Refusal;
-use card_nodes::node::Entry;
+use card_nodes::node;
 use card_nodes::node::Node;
 use service_code::code::Decoded;
 use service_code::code::DecodedKind;
 use service_code::code::ServiceCode;
 use service_code::code::ServiceKind;
 ghost use mathlib.Core.Path.{_≡_};
-ghost use Rattle.card_nodes.specs.Node.{endOf};
-ghost use Rattle.card_admit.specs.Grow.{rootMisfit, outside, areaUnder, serviceUnder, kindNumber, sameKind, joinedTo, usable, newStore, placedUnder};
+ghost use Rattle.card_admit.specs.Admit.{isDepth, rootMisfit, outside, areaUnder, serviceUnder, kindNumber, sameKind, joinedTo, usable, newStore, placedUnder};
+
+// The bytes of a block, and the most blocks of an arena that are used.
+const BLOCK: usize = 16;
+
+const MOST_BLOCKS: usize = 4096;
 
 // Where a new service's store lies, and the blocks in use after it.
 pub enum Placed {
@@ -27,6 +31,16 @@ pub enum First {
     Missing,
 }
 
+// Whether a node other than the root may be at `depth`: 1 to 8.
+pub fn is_depth(depth: usize) -> bool
+    ensures { λ r. ⌜ r ≡ isDepth depth ⌝ }
+{
+    if depth < 1 {
+        return false;
+    }
+    depth <= 8
+}
+
 // Whether area 0000 ends elsewhere than at FFFE.
 fn root_misfit(code: u16, end: u16) -> bool
     ensures { λ r. ⌜ r ≡ rootMisfit code end ⌝ }
@@ -41,62 +55,57 @@ fn is_outside(code: u16, end: u16, first: u16, last: u16) -> bool
     if code < first { true } else { last < end }
 }
 
-// The last code of an area; a service has none.
-fn last_code(entry: Entry) -> u16
-    ensures { λ r. ⌜ r ≡ endOf entry ⌝ }
-{
-    match entry {
-        Entry::Area { end } => end,
-        Entry::Service {
-            start: _,
-            blocks: _,
-            limit: _,
-        } => 0,
-    }
-}
-
-// The refusal of an area under its parent.
+// The refusal of an area from `code` to `end` under the node `above`, or none.
 pub fn area_under(above: Node, code: u16, end: u16) -> Answer
     ensures { λ r. ⌜ r ≡ areaUnder above code end ⌝ }
 {
+    // 13: first the code, then the end
     if 0xfffe < code {
         return Answer::Refused(Refusal::NodeCodeOutOfRange);
     }
     if 0xfffe < end {
         return Answer::Refused(Refusal::NodeCodeOutOfRange);
     }
+    // 12
     if root_misfit(code, end) {
         return Answer::Refused(Refusal::InvalidRootAreaRange);
     }
+    // 14: an area's low six bits are 0 or 1
     if 1 < code % 64 {
         return Answer::Refused(Refusal::InvalidAreaAttribute);
     }
+    // 11
     if end < code {
         return Answer::Refused(Refusal::InvalidAreaRange);
     }
+    // 15: under an area whose low six bits are not 0
     if above.code % 64 != 0 {
         return Answer::Refused(Refusal::ChildAreaForbidden);
     }
+    // 18
     let entry = above.entry;
-    let last = last_code(entry);
+    let last = node::end_of(entry);
     if is_outside(code, end, above.code, last) {
         return Answer::Refused(Refusal::AreaOutOfRange);
     }
     Answer::Done
 }
 
-// The refusal of a service under its parent.
+// The refusal of a service of `code` under the node `above`, or none.
 fn service_under(above: Node, code: u16) -> Answer
     ensures { λ r. ⌜ r ≡ serviceUnder above code ⌝ }
 {
+    // 13
     if 0xfffe < code {
         return Answer::Refused(Refusal::NodeCodeOutOfRange);
     }
+    // 16
     let Decoded::Defined(_) = ServiceCode(code).attribute() else {
         return Answer::Refused(Refusal::UndefinedServiceAttribute);
     };
+    // 17
     let entry = above.entry;
-    let last = last_code(entry);
+    let last = node::end_of(entry);
     if is_outside(code, code, above.code, last) {
         return Answer::Refused(Refusal::ServiceOutOfRange);
     }
@@ -124,45 +133,40 @@ fn same_kind(a: u16, b: u16) -> bool
     kind_number(ServiceCode(a).kind()) == kind_number(ServiceCode(b).kind())
 }
 
-// A service that joins the store of one that is there.
+// The store of a later service of a number: that of `first`, with its blocks, whatever count the new one asks for.
 fn joined_to(first: Node, code: u16, used: usize) -> Placed
     ensures { λ r. ⌜ r ≡ joinedTo first code used ⌝ }
 {
+    // 19
     if !same_kind(first.code, code) {
         return Placed::Refused(Refusal::OverlapKindMismatch);
     }
     let entry = first.entry;
-    match entry {
-        Entry::Area { end: _ } => Placed::Store {
-            start: 0,
-            blocks: 0,
-            used,
-        },
-        Entry::Service {
-            start,
-            blocks,
-            limit: _,
-        } => Placed::Store {
-            start,
-            blocks,
-            used,
-        },
+    Placed::Store {
+        start: node::start_of(entry),
+        blocks: node::blocks_of(entry),
+        used,
     }
 }
 
-// How many blocks of an arena of `long` bytes can be used.
-fn usable_blocks(long: usize) -> usize
-    ensures { λ r. ⌜ r ≡ usable long ⌝ }
+// How many blocks of an arena of `arena_len` bytes can be used.
+fn usable_blocks(arena_len: usize) -> usize
+    ensures { λ r. ⌜ r ≡ usable «arena_len» ⌝ }
 {
-    let whole = long / 16;
-    if whole < 4096 { whole } else { 4096 }
+    let whole = arena_len / BLOCK;
+    if whole < MOST_BLOCKS {
+        whole
+    } else {
+        MOST_BLOCKS
+    }
 }
 
-// A new store next after those in use, of an arena of `long` bytes.
-fn new_store(used: usize, long: usize, blocks: u32) -> Placed
-    ensures { λ r. ⌜ r ≡ newStore used long blocks ⌝ }
+// The store of the first service of a number: `blocks` blocks next after those in use.
+fn new_store(used: usize, arena_len: usize, blocks: u32) -> Placed
+    ensures { λ r. ⌜ r ≡ newStore used «arena_len» blocks ⌝ }
 {
-    let usable = usable_blocks(long);
+    // 22: fewer usable blocks are unused than the store needs
+    let usable = usable_blocks(arena_len);
     if usable < used {
         return Placed::Refused(Refusal::NoRoom);
     }
@@ -176,22 +180,22 @@ fn new_store(used: usize, long: usize, blocks: u32) -> Placed
     }
 }
 
-// Where the store of a service under its parent lies: with the first of its number, or next after those in use.
+// Where the store of a service of `code` under the node `above` lies, or its refusal: with the first of its number, or next after those in use.
 pub fn placed_under(
     above: Node,
     first: First,
     used: usize,
-    long: usize,
+    arena_len: usize,
     code: u16,
     blocks: u32,
 ) -> Placed
-    ensures { λ r. ⌜ r ≡ placedUnder above first used long code blocks ⌝ }
+    ensures { λ r. ⌜ r ≡ placedUnder above first used «arena_len» code blocks ⌝ }
 {
     if let Answer::Refused(r) = service_under(above, code) {
         return Placed::Refused(r);
     }
     match first {
         First::There(node) => joined_to(node, code, used),
-        First::Missing => new_store(used, long, blocks),
+        First::Missing => new_store(used, arena_len, blocks),
     }
 }

@@ -5,32 +5,20 @@ use mathlib.Core.List.{List}
 use mathlib.Core.Logic.{⊎-elim}
 use Prim.Native.Nat.{ℕ, _/_, _≤_, _<_}
 use native.Mathlib.Omega.{arith}
-use lib.Dec.{eqb, ltb, leb}
+use lib.Dec.{leb}
 use lib.ListN.{length, take, length-take}
-use borrow.Author.Tests.{ltb-false}
 use Rattle.answers.specs.declared.refusal.Refusal.{Refusal}
 use Rattle.card_nodes.specs.declared.node.Node.{Node}
 use Rattle.card_nodes.specs.declared.find.Found.{Found}
 use Rattle.card_nodes.specs.declared.find.Found.the-variants.{At, Nothing}
 use Rattle.answers.specs.declared.refusal.Answer.the-variants.{Done, Refused}
 use Rattle.card_admit.specs.declared.Placed.the-variants.{Store, Refused as NotPlaced}
-use Rattle.card_nodes.specs.Find.{parentOf}
-use Rattle.card_admit.specs.Grow.{parentAt, areaFound, areaJudged, usable, serviceFound, placedOf}
-use Rattle.card_admit.proofs.Growth.{area-room, allowed, stored, used-grows}
+use Rattle.card_admit.specs.Admit.{parentAt, areaFound, areaJudged, usable, serviceFound, placedOf}
+use Rattle.card_admit.proofs.Growth.{parent-deep, area-room, allowed, stored, used-grows}
 
 -- a record is free where fewer than 64 are nodes
 room : (nodes : List Node) (count : ℕ) → length nodes ≡ 64 → length (take count nodes) < 64 → count < 64
 room nodes count l h = omega (arith, simp length-take at h)
-
--- a parent is found at depths up to 8 only
-parent-depth : (ns : List Node) (depth : ℕ) {p : ℕ} → parentAt ns depth ≡ At p → depth ≤ 8
-unfolding parentAt
-parent-depth ns depth e = ltb-false 8 depth (low (eqb depth 0) (ltb 8 depth) (parentOf ns depth) e)
-  where
-    low : (a b : Bool) (f : Found) {p : ℕ} → cond a Nothing (cond b Nothing f) ≡ At p → b ≡ false
-    low true b f e = absurd (let z : _≡_ {A = ℕ} 0 1 = cc in (omega arith))
-    low false true f e = absurd (let z : _≡_ {A = ℕ} 0 1 = cc in (omega arith))
-    low false false f e = refl
 
 -- a refusal of an area is no acceptance
 not-done : {r : Refusal} → Refused r ≡ Done → ⊥
@@ -45,7 +33,7 @@ module _ {A : Type 0} (ns : List Node) (depth : ℕ) (by : Found → A) {no yes 
   under : (full : Bool) (f : Found) → parentAt ns depth ≡ f → cond full no (by f) ≡ yes → depth ≤ 8
   under true f k e = absurd (unless e)
   under false Nothing k e = absurd (found e)
-  under false (At p) k e = parent-depth ns depth k
+  under false (At p) k e = parent-deep ns depth k .high
 
 -- a record is free for an area, whose depth fits
 pub record Room (count depth : ℕ) : Type 0 where
@@ -53,11 +41,11 @@ pub record Room (count depth : ℕ) : Type 0 where
   pub low : depth ≤ 8
 
 -- the same for a service, whose store ends within the arena's first u blocks
-pub record Fits (count depth used long u : ℕ) : Type 0 where
+pub record Fits (count depth used arenaLen u : ℕ) : Type 0 where
   pub free : count < 64
   pub low : depth ≤ 8
   pub grows : used ≤ u
-  pub within : u ≤ long / 16
+  pub within : u ≤ arenaLen / 16
 
 module _ (nodes : List Node) (count depth code : ℕ) (l : length nodes ≡ 64) where
   -- an accepted area
@@ -71,14 +59,14 @@ module _ (nodes : List Node) (count depth code : ℕ) (l : length nodes ≡ 64) 
       }
 
   -- an accepted service, in an arena that holds the blocks in use
-  pub service-accepted : {s b u : ℕ} (used long blocks : ℕ) → placedOf (take count nodes) used long depth code blocks ≡ Store s b u →
-      used ≤ long / 16 → Fits count depth used long u
+  pub service-accepted : {s b u : ℕ} (used arenaLen blocks : ℕ) → placedOf (take count nodes) used arenaLen depth code blocks ≡ Store s b u →
+      used ≤ arenaLen / 16 → Fits count depth used arenaLen u
   unfolding placedOf usable
-  service-accepted used long blocks e h =
+  service-accepted used arenaLen blocks e h =
       let ns = take count nodes in
       record {
-        free = room nodes count l (allowed ns depth code used long blocks e .room);
-        low = under ns depth (serviceFound ns used long code blocks) not-stored not-stored (leb 64 (length ns)) (parentAt ns depth) refl e;
-        grows = used-grows ns depth code used long blocks e;
-        within = ⊎-elim (λ j. omega arith) (λ f. omega arith) (stored ns depth code used long blocks e);
+        free = room nodes count l (allowed ns depth code used arenaLen blocks e .room);
+        low = under ns depth (serviceFound ns used arenaLen code blocks) not-stored not-stored (leb 64 (length ns)) (parentAt ns depth) refl e;
+        grows = used-grows ns depth code used arenaLen blocks e;
+        within = ⊎-elim (λ j. omega arith) (λ f. omega arith) (stored ns depth code used arenaLen blocks e);
       }

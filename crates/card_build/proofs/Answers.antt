@@ -17,7 +17,7 @@ use Rattle.card_nodes.specs.declared.node.Node.{Node}
 use Rattle.card_nodes.specs.declared.node.Entry.the-variants.{Area, Service}
 use Rattle.answers.specs.declared.refusal.Answer.the-variants.{Done, Refused}
 use Rattle.card_admit.specs.declared.Placed.the-variants.{Store, Refused as NotPlaced}
-use Rattle.card_admit.specs.Grow.{areaJudged, placedOf}
+use Rattle.card_admit.specs.Admit.{areaJudged, placedOf}
 use Rattle.card_build.specs.declared.card.Card.{Card}
 use Rattle.card_build.specs.declared.card.Added.{Added}
 use Rattle.card_build.specs.Card.{nodesOf, isSound, grown, accepted, refused}
@@ -42,29 +42,29 @@ module _ (c : Card) (depth code end version : ℕ) where
   unfolding areaAdded addArea
   area-done h e = rw (h, e)
 
-module _ (c : Card) (long depth code blocks version : ℕ) where
+module _ (c : Card) (arenaLen depth code blocks version : ℕ) where
   -- refusal 8
-  pub service-unsound : isSound c ≡ false → refused c NotBuilt ≡ serviceAdded c long depth code blocks version
+  pub service-unsound : isSound c ≡ false → refused c NotBuilt ≡ serviceAdded c arenaLen depth code blocks version
   unfolding serviceAdded
   service-unsound h = rw h
 
   -- then 7
-  pub service-short : isSound c ≡ true → long / 16 < c .used → refused c ShortArena ≡ serviceAdded c long depth code blocks version
+  pub service-short : isSound c ≡ true → arenaLen / 16 < c .used → refused c ShortArena ≡ serviceAdded c arenaLen depth code blocks version
   unfolding serviceAdded addService
-  service-short h k = rw (h, lt-ltb long (16 * c .used) (omega arith))
+  service-short h k = rw (h, lt-ltb arenaLen (16 * c .used) (omega arith))
 
   -- then those of the placing
-  pub service-refused : {r : Refusal} → isSound c ≡ true → c .used ≤ long / 16 →
-      placedOf (nodesOf c) (c .used) long depth code blocks ≡ NotPlaced r → refused c r ≡ serviceAdded c long depth code blocks version
+  pub service-refused : {r : Refusal} → isSound c ≡ true → c .used ≤ arenaLen / 16 →
+      placedOf (nodesOf c) (c .used) arenaLen depth code blocks ≡ NotPlaced r → refused c r ≡ serviceAdded c arenaLen depth code blocks version
   unfolding serviceAdded addService
-  service-refused h k e = rw (h, le-ltb long (16 * c .used) (omega arith), e)
+  service-refused h k e = rw (h, le-ltb arenaLen (16 * c .used) (omega arith), e)
 
   -- the service comes next, with the store that it was given
-  pub service-stored : {s b u : ℕ} → isSound c ≡ true → c .used ≤ long / 16 →
-      placedOf (nodesOf c) (c .used) long depth code blocks ≡ Store s b u →
-      accepted (grown c (nodeAs depth code version (Service s b Unlimited)) u) ≡ serviceAdded c long depth code blocks version
+  pub service-stored : {s b u : ℕ} → isSound c ≡ true → c .used ≤ arenaLen / 16 →
+      placedOf (nodesOf c) (c .used) arenaLen depth code blocks ≡ Store s b u →
+      accepted (grown c (nodeAs depth code version (Service s b Unlimited)) u) ≡ serviceAdded c arenaLen depth code blocks version
   unfolding serviceAdded addService
-  service-stored h k e = rw (h, le-ltb long (16 * c .used) (omega arith), e)
+  service-stored h k e = rw (h, le-ltb arenaLen (16 * c .used) (omega arith), e)
 
 module _ (c : Card) (arena : List ℕ) {x a : Added} (e : x ≡ a) where
   -- the blocks in use before an addition and after it say what becomes of the arena

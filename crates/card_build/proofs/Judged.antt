@@ -10,7 +10,7 @@ use Rattle.card_nodes.specs.Find.{isSharerOf, sharedOf}
 use Rattle.card_nodes.proofs.Records.{Records, free, indexed, recorded, found-node}
 use Rattle.card_admit.specs.declared.First.{First}
 use Rattle.card_admit.specs.declared.First.the-variants.{There}
-use Rattle.card_admit.specs.Grow.{parentAt, areaUnder, areaJudged, firstIn, placedUnder, placedOf}
+use Rattle.card_admit.specs.Admit.{parentAt, areaUnder, areaJudged, firstIn, placedUnder, placedOf}
 use Rattle.card_admit.proofs.Growth.{parent-at-below}
 
 module _ {nodes : List Node} {count : ℕ} (r : Records nodes count) where
@@ -26,11 +26,11 @@ module _ {nodes : List Node} {count : ℕ} (r : Records nodes count) where
     judged z code end h = rw (free r h, sym told ∙ e, recorded r (parent-at-below (take count nodes) depth) (sym told ∙ e) z)
 
     -- and so is a service, which then gets its store
-    pub placed : {first : First} (z : Node) (used long code blocks : ℕ) → count < 64 →
+    pub placed : {first : First} (z : Node) (used arenaLen code blocks : ℕ) → count < 64 →
         first ≡ firstIn (take count nodes) (sharedOf (take count nodes) code) →
-        placedUnder (getD nodes p z) first used long code blocks ≡ placedOf (take count nodes) used long depth code blocks
+        placedUnder (getD nodes p z) first used arenaLen code blocks ≡ placedOf (take count nodes) used arenaLen depth code blocks
     unfolding placedOf
-    placed z used long code blocks h k =
+    placed z used arenaLen code blocks h k =
         rw (free r h, sym told ∙ e, recorded r (parent-at-below (take count nodes) depth) (sym told ∙ e) z, k)
 
   -- the first service of a number is at its record

@@ -15,35 +15,40 @@ use Rattle.answers.specs.declared.refusal.Answer.the-variants.{Done, Refused}
 use Rattle.card_admit.specs.declared.Placed.{Placed}
 use Rattle.card_admit.specs.declared.Placed.the-variants.{Store, Refused as NotPlaced}
 use Rattle.card_nodes.specs.Node.{rootNode}
-use Rattle.card_admit.specs.Grow.{areaJudged, placedOf}
+use Rattle.card_admit.specs.Admit.{areaJudged, placedOf}
 use Rattle.card_build.specs.declared.card.Card.{Card}
 use Rattle.card_build.specs.declared.card.Added.{Added}
 use Rattle.card_build.specs.Card.{nodesOf, grown, accepted, refused}
 
+-- the record of a node
 abbrev pub nodeAs : ℕ → ℕ → ℕ → Entry → Node
 nodeAs depth code version entry = record { depth = depth; code = code; version = version; entry = entry }
 
+-- a refused area leaves the card as it was
 abbrev pub areaBy : Card → Node → Answer → Added
-areaBy c n Done = accepted (grown c n (c .used))
 areaBy c n (Refused r) = refused c r
+areaBy c n Done = accepted (grown c n (c .used))
 
+-- 20, 21, then those of an area
 unfoldable pub addArea : Card → ℕ → ℕ → ℕ → ℕ → Added
 addArea c depth code end version = areaBy c (nodeAs depth code version (Area end)) (areaJudged (nodesOf c) depth code end)
 
+-- and so does a refused service, by 19 too
 abbrev pub serviceBy : Card → ℕ → ℕ → ℕ → Placed → Added
-serviceBy c depth code version (Store s b used) = accepted (grown c (nodeAs depth code version (Service s b Unlimited)) used)
 serviceBy c depth code version (NotPlaced r) = refused c r
+serviceBy c depth code version (Store s b used) = accepted (grown c (nodeAs depth code version (Service s b Unlimited)) used)
 
--- 7 ahead of the others, for an arena of `long` bytes
+-- 7 ahead of the others, for an arena of `arenaLen` bytes
 unfoldable pub addService : Card → ℕ → ℕ → ℕ → ℕ → ℕ → Added
-addService c long depth code blocks version =
-    cond (ltb long (16 * c .used)) (refused c ShortArena)
-    (serviceBy c depth code version (placedOf (nodesOf c) (c .used) long depth code blocks))
+addService c arenaLen depth code blocks version =
+    cond (ltb arenaLen (16 * c .used)) (refused c ShortArena)
+    (serviceBy c depth code version (placedOf (nodesOf c) (c .used) arenaLen depth code blocks))
 
 -- the node added last
 abbrev pub lastOf : Card → Node
 lastOf c = getD (c .nodes) (c .count - 1) rootNode
 
+-- 28 for an area
 abbrev pub limitBy : Card → Limit → Entry → Added
 limitBy c l (Area e) = refused c NotAService
 limitBy c l (Service s b old) = accepted (record {

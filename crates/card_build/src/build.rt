@@ -15,7 +15,7 @@ ghost use lib.ListN.{length};
 ghost use Rattle.card_build.specs.Card.{refused, grown, accepted};
 ghost use Rattle.card_build.specs.Build.{areaAdded, serviceAdded, limitAdded, arenaAdded};
 
-// A refusal: the card as it was.
+// Refuses: the card is handed back as it was.
 fn refuse(card: Card, refusal: Refusal) -> Added
     ensures { λ r. ⌜ r ≡ refused card refusal ⌝ }
 {
@@ -26,7 +26,7 @@ fn refuse(card: Card, refusal: Refusal) -> Added
 }
 
 impl Card {
-    // The card with one record more.
+    // Adds `node` as the next record; `used` blocks are then in use.
     fn grow(mut self, node: Node, used: usize) -> Added
         requires { ⌜ self .count < 64 ⌝ }
         ensures { λ r. ⌜ r ≡ accepted (grown self node used) ⌝ }
@@ -41,10 +41,11 @@ impl Card {
         }
     }
 
-    // Adds an area.
+    // Adds an area from `code` to `end` at `depth`, or refuses with 8, 20, 21 or those of an area.
     pub fn add_area(mut self, depth: u32, code: u16, end: u16, version: u16) -> Added
         ensures { λ r. ⌜ r ≡ areaAdded self depth code end version ⌝ }
     {
+        // 8
         if !self.is_sound() {
             return refuse(self, Refusal::NotBuilt);
         }
@@ -65,7 +66,7 @@ impl Card {
         }
     }
 
-    // Adds a service. The first of its number makes a zeroed store in the arena; a later one joins that store.
+    // Adds a service of `code` at `depth`, or refuses with 8, 7, 20, 21 or those of a service. The first of its number makes a zeroed store of `blocks` blocks in the arena; a later one joins that store.
     pub fn add_service(
         mut self,
         arena: &mut [u8],
@@ -77,12 +78,14 @@ impl Card {
         ensures { λ r. ⌜ r ≡ serviceAdded self (length (now (arena .entry))) depth code blocks version ⌝ }
         ensures { λ r. ⌜ now (arena .exit) ≡ arenaAdded self (serviceAdded self (length (now (arena .entry))) depth code blocks version) (now (arena .entry)) ⌝ }
     {
+        // 8
         if !self.is_sound() {
             return refuse(self, Refusal::NotBuilt);
         }
         let nodes = self.nodes;
         let count = self.count;
         let used = self.used;
+        // 7
         if arena.len() / 16 < used {
             return refuse(self, Refusal::ShortArena);
         }
@@ -111,10 +114,11 @@ impl Card {
         }
     }
 
-    // Sets the limits of the node added last, which must be a service.
+    // Sets the purse limit of the node added last, in place of an earlier one, or refuses with 8 or 28.
     pub fn set_limit(mut self, upper: i32, lower: i32, generation: u8) -> Added
         ensures { λ r. ⌜ r ≡ limitAdded self upper lower generation ⌝ }
     {
+        // 8
         if !self.is_sound() {
             return refuse(self, Refusal::NotBuilt);
         }
@@ -122,6 +126,7 @@ impl Card {
         let node = self.nodes[last];
         let entry = node.entry;
         match entry {
+            // 28
             Entry::Area { end: _ } => refuse(self, Refusal::NotAService),
             Entry::Service {
                 start,

@@ -1,4 +1,4 @@
-// A card's value.
+// The value of a card, a new one, and the test of refusal 8.
 use answers::refusal::Answer;
 use card_nodes::node::Node;
 ghost use mathlib.Core.Path.{_≡_};
@@ -20,7 +20,7 @@ pub struct Added {
 }
 
 impl Card {
-    // A card with nothing but its root.
+    // A card of a system with nothing but its root.
     pub fn new(system: u16, version: u16) -> Self
         ensures { λ r. ⌜ r ≡ newCard system version ⌝ }
     {

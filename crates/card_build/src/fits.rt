@@ -1,4 +1,4 @@
-// What may follow the nodes that are there: whether a new area or a new service fits after them.
+// What may follow the nodes that are there: a new node's parent, and its refusals from 20 on.
 use answers::refusal::Answer;
 use answers::refusal::Refusal;
 use card_admit::First;
@@ -11,9 +11,9 @@ use card_nodes::node::Node;
 ghost use mathlib.Core.Path.{_≡_};
 ghost use lib.ListN.{take};
 ghost use Rattle.card_nodes.specs.Find.{sharedOf, parentOf, openAt};
-ghost use Rattle.card_admit.specs.Grow.{parentAt, areaJudged, firstIn, placedOf};
+ghost use Rattle.card_admit.specs.Admit.{parentAt, areaJudged, firstIn, placedOf};
 
-// The area under which a new node of a depth comes.
+// The area under which a new node of `depth` comes: each node that is shallower decides anew.
 fn find_parent(nodes: [Node; 64], count: usize, depth: u8) -> Found
     ensures { λ r. ⌜ r ≡ parentOf (take count nodes) depth ⌝ }
 {
@@ -30,7 +30,7 @@ fn find_parent(nodes: [Node; 64], count: usize, depth: u8) -> Found
     found
 }
 
-// A node that is shallower than a new one: its parent if it is an area one level up, and no parent if not.
+// What `node` at `i`, shallower than a new one of `depth`, decides: it is the parent if it is an area one level up, and else there is none.
 fn open_at(node: Node, depth: u8, i: usize) -> Found
     ensures { λ r. ⌜ r ≡ openAt node depth i ⌝ }
 {
@@ -48,26 +48,25 @@ fn open_at(node: Node, depth: u8, i: usize) -> Found
     }
 }
 
-// The parent of a new node at a depth from 1 to 8.
+// The parent of a new node of `depth`; none unless that is from 1 to 8.
 fn parent_at(nodes: [Node; 64], count: usize, depth: u32) -> Found
     ensures { λ r. ⌜ r ≡ parentAt (take count nodes) depth ⌝ }
 {
-    if depth == 0 {
-        return Found::Nothing;
-    }
-    if 8 < depth {
+    if !card_admit::is_depth(depth as usize) {
         return Found::Nothing;
     }
     find_parent(nodes, count, depth as u8)
 }
 
-// The refusal of an area that comes after the nodes that are there.
+// The refusal of an area from `code` to `end` at `depth` after `count` nodes, or none.
 pub fn judge_area(nodes: [Node; 64], count: usize, depth: u32, code: u16, end: u16) -> Answer
     ensures { λ r. ⌜ r ≡ areaJudged (take count nodes) depth code end ⌝ }
 {
+    // 20
     if 64 <= count {
         return Answer::Refused(Refusal::TableFull);
     }
+    // 21
     let Found::At(p) = parent_at(nodes, count, depth) else {
         return Answer::Refused(Refusal::NoParent);
     };
@@ -75,7 +74,7 @@ pub fn judge_area(nodes: [Node; 64], count: usize, depth: u32, code: u16, end: u
     card_admit::area_under(above, code, end)
 }
 
-// The first service of a code's number among the nodes that are there.
+// The first service of the number of `code` among `count` nodes, or that there is none.
 fn first_of(nodes: [Node; 64], count: usize, code: u16) -> First
     ensures { λ r. ⌜ r ≡ firstIn (take count nodes) (sharedOf (take count nodes) code) ⌝ }
 {
@@ -88,21 +87,23 @@ fn first_of(nodes: [Node; 64], count: usize, code: u16) -> First
     }
 }
 
-// Where the store of a service lies that comes after the nodes that are there, or its refusal.
+// Where the store of a service of `code` and `blocks` at `depth` after `count` nodes lies, or its refusal.
 pub fn place_service(
     nodes: [Node; 64],
     count: usize,
     used: usize,
-    long: usize,
+    arena_len: usize,
     depth: u32,
     code: u16,
     blocks: u32,
 ) -> Placed
-    ensures { λ r. ⌜ r ≡ placedOf (take count nodes) used long depth code blocks ⌝ }
+    ensures { λ r. ⌜ r ≡ placedOf (take count nodes) used «arena_len» depth code blocks ⌝ }
 {
+    // 20
     if 64 <= count {
         return Placed::Refused(Refusal::TableFull);
     }
+    // 21
     let Found::At(p) = parent_at(nodes, count, depth) else {
         return Placed::Refused(Refusal::NoParent);
     };
@@ -111,7 +112,7 @@ pub fn place_service(
         above,
         first_of(nodes, count, code),
         used,
-        long,
+        arena_len,
         code,
         blocks,
     )

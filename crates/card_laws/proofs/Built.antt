@@ -1,6 +1,6 @@
 -- Refusal 8 says yes exactly of the cards that accepted additions and limits produce.
 use mathlib.Core.Path.{_≡_, refl, sym, _∙_, subst}
-use mathlib.Core.Bool.{Bool, true, false, cond}
+use mathlib.Core.Bool.{Bool, true, false, cond, not}
 use mathlib.Core.List.{List, [], _∷_, _++_}
 use Prim.Native.Nat.{ℕ}
 use native.Mathlib.Omega.{arith}
@@ -58,14 +58,14 @@ module _ {c′ : Card} where
       (Follows.added system key used ns (nodeAs depth code version (Area end)) (Made.area depth code end version m j))
 
   -- a service that is accepted
-  pub service-follows : {c : Card} (long depth code blocks version : ℕ) → Carded c →
-      addService c long depth code blocks version ≡ accepted c′ → Follows c c′
-  service-follows long depth code blocks version (carded system key {ns = ns} {used = used} m) e =
-      let p = service-accepted system key used ns depth code version long blocks e in
+  pub service-follows : {c : Card} (arenaLen depth code blocks version : ℕ) → Carded c →
+      addService c arenaLen depth code blocks version ≡ accepted c′ → Follows c c′
+  service-follows arenaLen depth code blocks version (carded system key {ns = ns} {used = used} m) e =
+      let p = service-accepted system key used ns depth code version arenaLen blocks e in
       subst (Follows (cardOf system key used ns))
-      (same-card (sym (service-card system key used ns depth code version long blocks (p .0) (p .4)) ∙ e))
+      (same-card (sym (service-card system key used ns depth code version arenaLen blocks (p .0) (p .4)) ∙ e))
       (Follows.added system key used ns (nodeAs depth code version (Service (p .1) (p .2) Unlimited))
-      (Made.service depth code version Unlimited m (placed-longest ns depth code used long blocks (p .4))))
+      (Made.service depth code version Unlimited m (placed-longest ns depth code used arenaLen blocks (p .4))))
 
   -- a limit that is accepted
   pub limit-follows : {c : Card} (upper lower : ℤ) (generation : ℕ) → Carded c →
@@ -89,8 +89,8 @@ follows-carded (Follows.limited system key ns depth code version s b old new m) 
 pub built-carded : {c : Card} → Built c → Carded c
 built-carded (Built.new system key) = carded system key Made.root
 built-carded (Built.area depth code end version b e) = follows-carded (area-follows depth code end version (built-carded b) e)
-built-carded (Built.service long depth code blocks version b e) =
-    follows-carded (service-follows long depth code blocks version (built-carded b) e)
+built-carded (Built.service arenaLen depth code blocks version b e) =
+    follows-carded (service-follows arenaLen depth code blocks version (built-carded b) e)
 built-carded (Built.limit upper lower generation b e) = follows-carded (limit-follows upper lower generation (built-carded b) e)
 
 carded-sound : {c : Card} → Carded c → isSound c ≡ true
@@ -109,10 +109,10 @@ sound-built c h e =
     subst Built same (made-built (c .system) (c .version) (r .1))
 
 -- a call that asks for refusal 8 first, and is accepted, was made on a card that is produced
-pub past-eight : (c : Card) {x : Added} {c′ : Card} → length (c .nodes) ≡ 64 → cond (isSound c) x (refused c NotBuilt) ≡ accepted c′ →
+pub past-eight : (c : Card) {x : Added} {c′ : Card} → length (c .nodes) ≡ 64 → cond (not (isSound c)) (refused c NotBuilt) x ≡ accepted c′ →
     Built c × (x ≡ accepted c′)
 past-eight c {x = x} {c′ = c′} h e = let t = passed (isSound c) e in (sound-built c h (t .0), t .1)
   where
-    passed : (t : Bool) → cond t x (refused c NotBuilt) ≡ accepted c′ → (t ≡ true) × (x ≡ accepted c′)
+    passed : (t : Bool) → cond (not t) (refused c NotBuilt) x ≡ accepted c′ → (t ≡ true) × (x ≡ accepted c′)
     passed true k = (refl, k)
     passed false k = not-accepted k

@@ -20,7 +20,7 @@ use Rattle.answers.specs.declared.refusal.Answer.the-variants.{Done, Refused}
 use Rattle.card_admit.specs.declared.Placed.{Placed}
 use Rattle.card_admit.specs.declared.Placed.the-variants.{Store, Refused as NotPlaced}
 use Rattle.card_nodes.specs.Node.{rootNode}
-use Rattle.card_admit.specs.Grow.{areaJudged, placedOf}
+use Rattle.card_admit.specs.Admit.{areaJudged, placedOf}
 use Rattle.card_admit.proofs.Growth.{area-room, allowed}
 use Rattle.card_build.specs.declared.card.Card.{Card}
 use Rattle.card_build.specs.declared.card.Added.{Added}
@@ -89,24 +89,24 @@ module _ (system key used : ℕ) (ns : List Node) where
         done Done k = refl
         done (Refused r) k = not-accepted k
 
-    module _ (long blocks : ℕ) where
+    module _ (arenaLen blocks : ℕ) where
       -- a service that gets a store comes next, with no limit, where the arena holds the blocks in use
-      pub service-card : {s b u : ℕ} → 16 * used ≤ long → placedOf ns used long depth code blocks ≡ Store s b u →
-          addService (cardOf system key used ns) long depth code blocks version
+      pub service-card : {s b u : ℕ} → 16 * used ≤ arenaLen → placedOf ns used arenaLen depth code blocks ≡ Store s b u →
+          addService (cardOf system key used ns) arenaLen depth code blocks version
           ≡ accepted (cardOf system key u (ns ++ (nodeAs depth code version (Service s b Unlimited) ∷ [])))
       unfolding addService
       service-card {s = s} {b = b} {u = u} h e =
-          rw (le-ltb long (16 * used) h, take-append-seam, e)
-          (ap accepted (grown-card (nodeAs depth code version (Service s b Unlimited)) u (allowed ns depth code used long blocks e .room)))
+          rw (le-ltb arenaLen (16 * used) h, take-append-seam, e)
+          (ap accepted (grown-card (nodeAs depth code version (Service s b Unlimited)) u (allowed ns depth code used arenaLen blocks e .room)))
 
       -- no other service is accepted
-      pub service-accepted : {c′ : Card} → addService (cardOf system key used ns) long depth code blocks version ≡ accepted c′ →
-          (16 * used ≤ long) × (s : ℕ) × (b : ℕ) × (u : ℕ) × (placedOf ns used long depth code blocks ≡ Store s b u)
+      pub service-accepted : {c′ : Card} → addService (cardOf system key used ns) arenaLen depth code blocks version ≡ accepted c′ →
+          (16 * used ≤ arenaLen) × (s : ℕ) × (b : ℕ) × (u : ℕ) × (placedOf ns used arenaLen depth code blocks ≡ Store s b u)
       unfolding addService
       service-accepted {c′ = c′} e =
-          let h = held (ltb long (16 * used)) (rw take-append-seam at e) in
-          let p = stored (placedOf ns used long depth code blocks) (h .1) in
-          (ltb-false long (16 * used) (h .0), p .0, p .1, p .2, p .3)
+          let h = held (ltb arenaLen (16 * used)) (rw take-append-seam at e) in
+          let p = stored (placedOf ns used arenaLen depth code blocks) (h .1) in
+          (ltb-false arenaLen (16 * used) (h .0), p .0, p .1, p .2, p .3)
         where
           held : {x : Added} (b : Bool) → cond b (refused (cardOf system key used ns) ShortArena) x ≡ accepted c′ →
               (b ≡ false) × (x ≡ accepted c′)

@@ -1,6 +1,6 @@
 -- The test of refusal 8 says yes exactly of nodes that were made, with unused records after them.
 use mathlib.Core.Path.{_≡_, refl, sym, _∙_, ap, subst}
-use mathlib.Core.Bool.{Bool, true, false, cond, false≢true, and-eq-true-iff}
+use mathlib.Core.Bool.{Bool, true, false, cond, not, false≢true, and-eq-true-iff}
 use mathlib.Core.List.{List, [], _∷_, _++_}
 use Prim.Native.Nat.{ℕ, zero, suc, _-_, _≤_}
 use native.Mathlib.Omega.{arith}
@@ -41,7 +41,7 @@ made-sound {used = used} m =
     (sound-yes (g .rest) used (rw (g .rooted) at (made-few m)) (g .goes))
 
 -- what is left where a test went on
-yes-then : (a : Bool) {x : Bool} → cond a x false ≡ true → (a ≡ true) × (x ≡ true)
+yes-then : (a : Bool) {x : Bool} → cond (not a) false x ≡ true → (a ≡ true) × (x ≡ true)
 yes-then true e = (refl, e)
 yes-then false e = absurd (false≢true e)
 

@@ -95,9 +95,9 @@ module _ {c c′ : Card} (b : Built c) where
   area-kept depth code end version e = follows-kept (area-follows depth code end version (built-carded b) e)
 
   -- and so does an accepted service
-  pub service-kept : (long depth code blocks version : ℕ) →
-      addService c long depth code blocks version ≡ accepted c′ → Kept (nodesOf c) (nodesOf c′)
-  service-kept long depth code blocks version e = follows-kept (service-follows long depth code blocks version (built-carded b) e)
+  pub service-kept : (arenaLen depth code blocks version : ℕ) →
+      addService c arenaLen depth code blocks version ≡ accepted c′ → Kept (nodesOf c) (nodesOf c′)
+  service-kept arenaLen depth code blocks version e = follows-kept (service-follows arenaLen depth code blocks version (built-carded b) e)
 
   -- and a limit
   pub limit-kept : (upper lower : ℤ) (generation : ℕ) → setLimit c upper lower generation ≡ accepted c′ → Kept (nodesOf c) (nodesOf c′)

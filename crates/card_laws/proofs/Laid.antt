@@ -19,16 +19,16 @@ use Rattle.answers.specs.declared.refusal.Answer.the-variants.{Done}
 use Rattle.card_admit.specs.declared.Placed.the-variants.{Store}
 use Rattle.card_nodes.specs.Node.{rootNode, isService, startOf, blocksOf}
 use Rattle.card_nodes.specs.Find.{firstFrom, serviceOf, sharedOf}
-use Rattle.card_admit.specs.Grow.{areaJudged, placedOf}
+use Rattle.card_admit.specs.Admit.{areaJudged, placedOf}
 use Rattle.card_nodes.proofs.Searches.{first-found, first-kept, first-after}
-use Rattle.card_admit.proofs.Growth.{Joined, Fresh, stored, used-grows}
+use Rattle.card_admit.proofs.Growth.{Deep, Joined, Fresh, stored, used-grows}
 use Rattle.card_build.specs.declared.card.Card.{Card}
 use Rattle.card_build.specs.Card.{nodesOf}
 use Rattle.card_build.specs.Grow.{nodeAs}
 use Rattle.card_laws.specs.Built.{Built}
 use Rattle.card_laws.proofs.Made.{Made, made-few, made-used}
 use Rattle.card_laws.proofs.Built.{Carded, carded, built-carded}
-use Rattle.card_laws.proofs.Places.{Deep, Known, area-deep, service-known, same-kind}
+use Rattle.card_laws.proofs.Places.{Known, area-deep, service-known, same-kind}
 
 -- a node by its index; past the end the root is read, which is no service
 abbrev pub nodeAt : List Node → ℕ → Node
@@ -39,7 +39,7 @@ abbrev pub storeEnd : Node → ℕ
 storeEnd n = startOf (n .entry) + blocksOf (n .entry)
 
 -- a service, by the first of its number: that has the same store, of the same kind, after all stores before it
-pub record Owner (ns : List Node) (n : Node) : Type 0 where
+pub record OfFirst (ns : List Node) (n : Node) : Type 0 where
   pub first : ℕ
   pub found : sharedOf ns (n .code) ≡ At first
   pub start : startOf (n .entry) ≡ startOf (nodeAt ns first .entry)
@@ -60,7 +60,7 @@ pub record Laid (ns : List Node) (used : ℕ) : Type 0 where
   -- each service has a defined attribute
   pub known : (i : ℕ) → isService (nodeAt ns i .entry) ≡ true → Known (nodeAt ns i .code)
   -- and the store of the first service of its number
-  pub owner : (i : ℕ) → isService (nodeAt ns i .entry) ≡ true → Owner ns (nodeAt ns i)
+  pub owner : (i : ℕ) → isService (nodeAt ns i .entry) ≡ true → OfFirst ns (nodeAt ns i)
 
 -- what holds of each node and of one more
 each : (P : Node → Type 0) (ns : List Node) (n : Node) → ((i : ℕ) → P (nodeAt ns i)) → P n → (i : ℕ) → P (nodeAt (ns ++ (n ∷ [])) i)
@@ -105,7 +105,7 @@ shared-same : (ns : List Node) (a b : ℕ) → numberOf a ≡ numberOf b → sha
 shared-same ns a b e = ap (λ k. firstFrom (λ m. eqb (numberOf (m .code)) k && isService (m .entry)) 0 ns) e
 
 -- the first of a number stays the first
-owner-kept : {ns : List Node} {m : Node} (n : Node) → Owner ns m → Owner (ns ++ (n ∷ [])) m
+owner-kept : {ns : List Node} {m : Node} (n : Node) → OfFirst ns m → OfFirst (ns ++ (n ∷ [])) m
 owner-kept {ns = ns} {m = m} n o =
     let h = shared-is ns (m .code) (o .found) .0 in
     let same = before ns n (o .first) h in
@@ -120,7 +120,7 @@ owner-kept {ns = ns} {m = m} n o =
 
 -- a new service of a new number is the first
 owner-new : (ns : List Node) (n : Node) → sharedOf ns (n .code) ≡ Nothing → isService (n .entry) ≡ true →
-    ((k : ℕ) → storeEnd (nodeAt ns k) ≤ startOf (n .entry)) → Owner (ns ++ (n ∷ [])) n
+    ((k : ℕ) → storeEnd (nodeAt ns k) ≤ startOf (n .entry)) → OfFirst (ns ++ (n ∷ [])) n
 unfolding firstFrom
 owner-new ns n e h above =
     let same : nodeAt (ns ++ (n ∷ [])) (length ns) ≡ n = getD-at ns n [] rootNode (length ns) refl in
@@ -143,7 +143,7 @@ record Next (ns : List Node) (used : ℕ) (n : Node) (u : ℕ) : Type 0 where
   grows : used ≤ u
   within : storeEnd n ≤ u
   known : isService (n .entry) ≡ true → Known (n .code)
-  owner : isService (n .entry) ≡ true → Owner (ns ++ (n ∷ [])) n
+  owner : isService (n .entry) ≡ true → OfFirst (ns ++ (n ∷ [])) n
 
 module _ {ns : List Node} {used : ℕ} (l : Laid ns used) where
   -- and so with it
@@ -158,7 +158,7 @@ module _ {ns : List Node} {used : ℕ} (l : Laid ns used) where
         (eq-or-lt-of-le (omega (arith, k, length-append ns (n ∷ []))));
     within = each (λ m. storeEnd m ≤ u) ns n (λ i. omega (arith, l .within i)) (x .within);
     known = each (λ m. isService (m .entry) ≡ true → Known (m .code)) ns n (l .known) (x .known);
-    owner = each (λ m. isService (m .entry) ≡ true → Owner (ns ++ (n ∷ [])) m) ns n (λ i s. owner-kept n (l .owner i s)) (x .owner);
+    owner = each (λ m. isService (m .entry) ≡ true → OfFirst (ns ++ (n ∷ [])) m) ns n (λ i s. owner-kept n (l .owner i s)) (x .owner);
   }
 
   -- an area has no store
@@ -177,7 +177,7 @@ module _ {ns : List Node} {used : ℕ} (l : Laid ns used) where
     new = nodeAs depth code version (Service s b limit)
 
     -- a store that it joins
-    joins : Joined ns used code s b u → (storeEnd new ≤ u) × Owner (ns ++ (new ∷ [])) new
+    joins : Joined ns used code s b u → (storeEnd new ≤ u) × OfFirst (ns ++ (new ∷ [])) new
     joins j =
         let m = nodeAt ns (j .first) in
         let t = shared-is ns code (j .found) in
@@ -194,7 +194,7 @@ module _ {ns : List Node} {used : ℕ} (l : Laid ns used) where
         )
 
     -- a store that it makes
-    makes : Fresh ns used 65536 code b s b u → (storeEnd new ≤ u) × Owner (ns ++ (new ∷ [])) new
+    makes : Fresh ns used 65536 code b s b u → (storeEnd new ≤ u) × OfFirst (ns ++ (new ∷ [])) new
     makes f = (omega arith, owner-new ns new (f .none) refl (λ k. omega (arith, l .within k)))
 
     laid-service : Laid (ns ++ (new ∷ [])) u
@@ -217,7 +217,7 @@ laid-root = record {
   deep = λ i h k. absurd (omega arith);
   within = each (λ m. storeEnd m ≤ 0) [] rootNode (λ i. omega arith) (omega arith);
   known = each (λ m. isService (m .entry) ≡ true → Known (m .code)) [] rootNode (λ i. no-service) no-service;
-  owner = each (λ m. isService (m .entry) ≡ true → Owner (rootNode ∷ []) m) [] rootNode (λ i. no-service) no-service;
+  owner = each (λ m. isService (m .entry) ≡ true → OfFirst (rootNode ∷ []) m) [] rootNode (λ i. no-service) no-service;
 }
 
 made-laid : {ns : List Node} {used : ℕ} → Made ns used → Laid ns used
@@ -254,7 +254,7 @@ module _ {ns : List Node} {used : ℕ} (l : Laid ns used) (i j : ℕ) (h : isSer
       let p = l .owner j k in
       by-first o p (ltb (o .first) (p .first)) refl
     where
-      by-first : (o : Owner ns (nodeAt ns i)) (p : Owner ns (nodeAt ns j)) (t : Bool) → ltb (o .first) (p .first) ≡ t →
+      by-first : (o : OfFirst ns (nodeAt ns i)) (p : OfFirst ns (nodeAt ns j)) (t : Bool) → ltb (o .first) (p .first) ≡ t →
           (storeEnd (nodeAt ns i) ≤ startOf (nodeAt ns j .entry)) ⊎ (storeEnd (nodeAt ns j) ≤ startOf (nodeAt ns i .entry))
       by-first o p true q = inl (omega (arith, p .after (o .first) (ltb-true (o .first) (p .first) q)))
       by-first o p false q =

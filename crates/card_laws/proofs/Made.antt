@@ -1,6 +1,6 @@
 -- The nodes that additions and limits give, one by one, and the blocks in use: what refusal 8 goes through.
 use mathlib.Core.Path.{_≡_, refl, ap, subst}
-use mathlib.Core.Bool.{Bool, true, false, cond, _&&_, and-eq-true-iff}
+use mathlib.Core.Bool.{Bool, true, false, cond, not}
 use mathlib.Core.List.{List, [], _∷_, _++_, append-nil}
 use Prim.Native.Nat.{ℕ, _≤_}
 use native.Mathlib.Omega.{arith}
@@ -17,7 +17,7 @@ use Rattle.answers.specs.declared.refusal.Answer.the-variants.{Done, Refused}
 use Rattle.card_admit.specs.declared.Placed.{Placed}
 use Rattle.card_admit.specs.declared.Placed.the-variants.{Store, Refused as NotPlaced}
 use Rattle.card_nodes.specs.Node.{rootNode}
-use Rattle.card_admit.specs.Grow.{areaJudged, placedOf}
+use Rattle.card_admit.specs.Admit.{areaJudged, placedOf}
 use Rattle.card_admit.proofs.Growth.{area-room, allowed, used-most}
 use Rattle.card_sound.specs.declared.Step.{Step}
 use Rattle.card_sound.specs.declared.Step.the-variants.{Goes, Stops}
@@ -62,14 +62,14 @@ area-went used (Refused r) e = stopped e
 -- a service's step
 service-went : (s b : ℕ) (p : Placed) {u : ℕ} → serviceStep s b p ≡ Goes u → p ≡ Store s b u
 service-went s b (Store s′ b′ u′) {u = u} e =
-    let t = tested (eqb s′ s && eqb b′ b) e in
-    let r = and-eq-true-iff (eqb s′ s) (eqb b′ b) .0 (t .0) in
-    let start : s′ ≡ s = eqb-true s′ s (r .0) in
-    let blocks : b′ ≡ b = eqb-true b′ b (r .1) in
-    let goes : Goes u′ ≡ Goes u = t .1 in
+    let t = tested (eqb s′ s) e in
+    let r = tested (eqb b′ b) (t .1) in
+    let start : s′ ≡ s = eqb-true s′ s (t .0) in
+    let blocks : b′ ≡ b = eqb-true b′ b (r .0) in
+    let goes : Goes u′ ≡ Goes u = r .1 in
     cc
   where
-    tested : (t : Bool) {x : Step} → cond t x Stops ≡ Goes u → (t ≡ true) × (x ≡ Goes u)
+    tested : (t : Bool) {x : Step} → cond (not t) Stops x ≡ Goes u → (t ≡ true) × (x ≡ Goes u)
     tested true k = (refl, k)
     tested false k = stopped k
 service-went s b (NotPlaced r) e = stopped e

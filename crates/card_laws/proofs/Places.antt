@@ -2,12 +2,11 @@
 use mathlib.Core.Path.{_≡_, refl, sym, _∙_, ap}
 use mathlib.Core.Bool.{Bool, true, false, cond}
 use mathlib.Core.List.{List}
-use mathlib.Core.Logic.{_≢_}
-use Prim.Native.Nat.{ℕ, _≤_}
+use Prim.Native.Nat.{ℕ}
 use native.Mathlib.Omega.{arith}
 use lib.Dec.{eqb, ltb, leb}
 use lib.ListN.{length, getD}
-use borrow.Author.Tests.{eqb-true, eqb-false, ltb-false}
+use borrow.Author.Tests.{eqb-true}
 use Rattle.answers.specs.declared.refusal.Refusal.the-variants.{NodeCodeOutOfRange, UndefinedServiceAttribute, TableFull}
 use Rattle.service_code.specs.declared.code.ServiceAttribute.{ServiceAttribute}
 use Rattle.service_code.specs.declared.code.ServiceKind.the-variants.{Random, Cyclic, Purse}
@@ -24,25 +23,8 @@ use Rattle.answers.specs.declared.refusal.Answer.the-variants.{Done, Refused}
 use Rattle.card_admit.specs.declared.Placed.{Placed}
 use Rattle.card_admit.specs.declared.Placed.the-variants.{Store, Refused as NotPlaced}
 use Rattle.card_nodes.specs.Node.{rootNode}
-use Rattle.card_admit.specs.Grow.{parentAt, areaFound, areaJudged, ifDefined, serviceUnder, kindNumber, sameKind, ifDone, serviceFound, placedOf}
-
--- a depth that a node other than the root has
-pub record Deep (depth : ℕ) : Type 0 where
-  pub low : 1 ≤ depth
-  pub high : depth ≤ 8
-
--- a node with a parent is at such a depth
-parent-deep : (ns : List Node) (depth : ℕ) {p : ℕ} → parentAt ns depth ≡ At p → Deep depth
-unfolding parentAt
-parent-deep ns depth {p = p} e =
-    let a = passed (eqb depth 0) e in
-    let b = passed (ltb 8 depth) (a .1) in
-    let z : depth ≢ 0 = eqb-false depth 0 (a .0) in
-    record { low = omega arith; high = ltb-false 8 depth (b .0) }
-  where
-    passed : (b : Bool) {f : Found} → cond b Nothing f ≡ At p → (b ≡ false) × (f ≡ At p)
-    passed true k = absurd (let z : _≡_ {A = ℕ} 0 1 = cc in (omega arith))
-    passed false k = (refl, k)
+use Rattle.card_admit.proofs.Growth.{Deep, parent-deep}
+use Rattle.card_admit.specs.Admit.{parentAt, areaFound, areaJudged, isUndefined, serviceUnder, kindNumber, sameKind, ifDone, serviceFound, placedOf}
 
 -- an area that is accepted
 pub area-deep : (ns : List Node) (depth code end : ℕ) → areaJudged ns depth code end ≡ Done → Deep depth
@@ -63,23 +45,23 @@ unfolding serviceUnder
 under-known above code e = known _ (ltb 0xfffe code) (attributeOf code) refl e
   where
     known : (x : Answer) (b : Bool) (d : Decoded) → attributeOf code ≡ d →
-        cond b (Refused NodeCodeOutOfRange) (ifDefined d x (Refused UndefinedServiceAttribute)) ≡ Done → Known code
+        cond b (Refused NodeCodeOutOfRange) (cond (isUndefined d) (Refused UndefinedServiceAttribute) x) ≡ Done → Known code
     known x true d q k = absurd (let z : _≡_ {A = ℕ} 0 1 = cc in (omega arith))
     known x false (Defined a) q k = (a, q)
     known x false Undefined q k = absurd (let z : _≡_ {A = ℕ} 0 1 = cc in (omega arith))
 
 -- a service that got a store
-pub service-known : (ns : List Node) (used long depth code blocks : ℕ) {s b u : ℕ} → placedOf ns used long depth code blocks ≡ Store s b u →
+pub service-known : (ns : List Node) (used arenaLen depth code blocks : ℕ) {s b u : ℕ} → placedOf ns used arenaLen depth code blocks ≡ Store s b u →
     Deep depth × Known code
 unfolding placedOf
-service-known ns used long depth code blocks {s = s} {b = b} {u = u} e = under (leb 64 (length ns)) (parentAt ns depth) refl e
+service-known ns used arenaLen depth code blocks {s = s} {b = b} {u = u} e = under (leb 64 (length ns)) (parentAt ns depth) refl e
   where
     done : (p : Placed) (a : Answer) → ifDone a p ≡ Store s b u → a ≡ Done
     done p Done k = refl
     done p (Refused r) k = absurd (let z : _≡_ {A = ℕ} 0 1 = cc in (omega arith))
 
     under : (full : Bool) (f : Found) → parentAt ns depth ≡ f →
-        cond full (NotPlaced TableFull) (serviceFound ns used long code blocks f) ≡ Store s b u → Deep depth × Known code
+        cond full (NotPlaced TableFull) (serviceFound ns used arenaLen code blocks f) ≡ Store s b u → Deep depth × Known code
     under true f q k = absurd (let z : _≡_ {A = ℕ} 0 1 = cc in (omega arith))
     under false Nothing q k = absurd (let z : _≡_ {A = ℕ} 0 1 = cc in (omega arith))
     under false (At p) q k =

@@ -9,5 +9,5 @@ use Rattle.card_build.specs.Grow.{addArea, addService, setLimit}
 pub data Built : Card → Type 0 where
   new : (system version : ℕ) → Built (newCard system version)
   area : {c c′ : Card} (depth code end version : ℕ) → Built c → addArea c depth code end version ≡ accepted c′ → Built c′
-  service : {c c′ : Card} (long depth code blocks version : ℕ) → Built c → addService c long depth code blocks version ≡ accepted c′ → Built c′
+  service : {c c′ : Card} (arenaLen depth code blocks version : ℕ) → Built c → addService c arenaLen depth code blocks version ≡ accepted c′ → Built c′
   limit : {c c′ : Card} (upper lower : ℤ) (generation : ℕ) → Built c → setLimit c upper lower generation ≡ accepted c′ → Built c′

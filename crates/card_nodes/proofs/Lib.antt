@@ -2,3 +2,4 @@ pub mod Scan
 pub mod Turns
 pub mod Searches
 pub mod Records
+pub mod ParentWorded

@@ -14,7 +14,7 @@ use Rattle.card_nodes.specs.declared.node.Node.{Node}
 use Rattle.card_nodes.specs.declared.find.Found.{Found}
 use Rattle.card_nodes.specs.declared.find.Found.the-variants.{At, Nothing}
 use Rattle.card_nodes.specs.Node.{rootNode, isArea, isService}
-use Rattle.card_nodes.specs.Find.{isServiceOf, isAreaOf, isSharerOf, firstFrom, serviceOf, areaOf, sharedOf, areaAt, openAt, parentFrom}
+use Rattle.card_nodes.specs.Find.{isServiceOf, isAreaOf, isSharerOf, firstFrom, orElse, serviceOf, areaOf, sharedOf, areaAt, openAt, parentFrom}
 
 -- an index that was found is below n
 abbrev pub Below : Found → ℕ → Type 0
@@ -119,11 +119,6 @@ none-found t i [] e k h = absurd (omega arith)
 none-found t i (n ∷ ns) e zero h = none-step (t n) i e .0
 none-found t i (n ∷ ns) e (suc k) h = none-found t (suc i) ns (none-step (t n) i e .1) k (omega arith)
 
--- what was found first, or else second
-abbrev pub orElse : Found → Found → Found
-orElse (At p) g = At p
-orElse Nothing g = g
-
 -- it passes through a test
 or-cond : (b : Bool) (i : ℕ) (f g : Found) → cond b (At i) (orElse f g) ≡ orElse (cond b (At i) f) g
 or-cond true i f g = refl
@@ -212,7 +207,7 @@ module _ (code : ℕ) (ns ms : List Node) (e : map look ns ≡ map look ms) wher
       (λ n. rw (no-area (n .entry))) ns ms e
 
 -- an area is found by being one
-area-seen : (e : Entry) (i : ℕ) → areaAt e i ≡ cond (isArea e) (At i) Nothing
+pub area-seen : (e : Entry) (i : ℕ) → areaAt e i ≡ cond (isArea e) (At i) Nothing
 area-seen (Area e) i = refl
 area-seen (Service s b l) i = refl
 

@@ -18,6 +18,11 @@ unfoldable pub firstFrom : (Node → Bool) → ℕ → List Node → Found
 firstFrom test i [] = Nothing
 firstFrom test i (n ∷ ns) = cond (test n) (At i) (firstFrom test (suc i) ns)
 
+-- what was found first, or else second
+abbrev pub orElse : Found → Found → Found
+orElse (At p) other = At p
+orElse Nothing other = other
+
 -- a service, or an area, of a code
 abbrev pub isServiceOf : ℕ → Node → Bool
 isServiceOf code n = eqb (n .code) code && isService (n .entry)
@@ -46,11 +51,12 @@ isSought ServiceCode code = isServiceOf code
 isSought AreaCode code = isAreaOf code
 isSought ServiceNumber code = isSharerOf code
 
--- an area one level above a depth
+-- an area at i may hold a new node, a service may not
 abbrev pub areaAt : Entry → ℕ → Found
 areaAt (Area e) i = At i
 areaAt (Service s b l) i = Nothing
 
+-- the node at i, where it is one level above a new one
 unfoldable pub openAt : Node → ℕ → ℕ → Found
 openAt n depth i = cond (eqb (n .depth + 1) depth) (areaAt (n .entry) i) Nothing
 
@@ -59,6 +65,6 @@ unfoldable pub parentFrom : ℕ → Found → ℕ → List Node → Found
 parentFrom depth found i [] = found
 parentFrom depth found i (n ∷ ns) = parentFrom depth (cond (ltb (n .depth) depth) (openAt n depth i) found) (suc i) ns
 
--- The parent is the latest node of depth one less, which must be an area with no shallower or equally deep node after it.
+-- so the parent is found in one pass; parentWorded says which node that is, and proofs/ParentWorded.antt that it is the same
 abbrev pub parentOf : List Node → ℕ → Found
 parentOf ns depth = parentFrom depth Nothing 0 ns

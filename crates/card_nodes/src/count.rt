@@ -1,9 +1,9 @@
-// The records of a card: what each is, and how many of them are taken.
+// How many of the 64 records are taken.
 
 ghost use mathlib.Core.Path.{_≡_};
 ghost use Prim.Native.Nat.{min};
 
-// How many of the 64 records a count takes.
+// How many of the 64 records `count` takes: no more than there are.
 pub fn taken(count: usize) -> usize
     ensures { λ r. ⌜ r ≡ min count 64 ⌝ }
 {

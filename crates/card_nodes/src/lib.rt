@@ -1,5 +1,4 @@
-// The records of a card: what each is, and how many of them are taken.
-// Which node is found: the first of a code, the first of a service number.
+// The records of a card: what each is, how many of them are taken, and which of them a search finds.
 pub mod count;
 pub mod find;
 pub mod node;

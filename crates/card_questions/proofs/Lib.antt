@@ -1,10 +1,12 @@
 pub mod UnderLaws
 pub mod Worded
 pub mod ListingWorded
-mod Laid
-mod Answered
 pub mod TotalsWorded
-mod Summing
+pub mod BuiltCards
+mod TableLaws
+mod Filled
+mod Columns
+mod Answered
 mod Found
 mod Version
 mod Lists

@@ -1,16 +1,20 @@
 -- The definition of the directory says what docs/RULES.md words by the children of an area.
 use mathlib.Core.Path.{_≡_, refl, ap}
-use mathlib.Core.List.{List, _∷_}
+use mathlib.Core.List.{List, [], _∷_, _++_}
 use Prim.Native.Nat.{ℕ, _≤_, _<_}
 use native.Mathlib.Omega.{arith}
 use lib.ListN.{length, getD}
 use Rattle.card_nodes.specs.declared.node.Node.{Node}
 use Rattle.card_nodes.specs.Node.{rootNode}
-use Rattle.card_questions.proofs.UnderLaws.{spans}
+use Rattle.card_questions.proofs.UnderLaws.{Over, spans}
 use Rattle.card_questions.proofs.Worded.{worded, all-under}
 use Rattle.card_questions.specs.Directory.{pairOf, pairsUnder, directoryOf, listedOf}
 use Rattle.card_questions.specs.ListingWorded.{pairsWorded, pairsOf}
-use Rattle.card_questions.proofs.Laid.{pairs}
+
+-- the pairs go over the nodes under an area
+pub pairs : Over pairsUnder [] pairOf _++_
+unfolding pairsUnder
+pairs = record { at-end = λ d. refl; at-node = λ d n ns. refl; join-none = λ b. refl; join-one = λ n a b. refl }
 
 -- The directory lists each area, then its children in order, an area within starting the same again.
 pub directory-worded : (k d : ℕ) (ns : List Node) → length ns ≤ k → pairsWorded k d ns ≡ pairsUnder d ns

@@ -1,7 +1,7 @@
 -- The directory as pairs.
 use Prim.Native.Nat.{ℕ, _+_, _*_}
 use mathlib.Core.List.{List, [], _∷_}
-use mathlib.Core.Bool.{cond}
+use mathlib.Core.Bool.{cond, not}
 use lib.Dec.{leb, ltb}
 use lib.ListN.{length}
 use lib.Seq.{sets}
@@ -20,6 +20,7 @@ abbrev pub secondOf : Entry → ℕ
 secondOf (Area e) = e
 secondOf (Service s b l) = 0xffff
 
+-- a node's pair, and what follows it
 abbrev pub pairOf : Node → List ℕ → List ℕ
 pairOf n rest = n .code ∷ secondOf (n .entry) ∷ rest
 
@@ -33,6 +34,7 @@ unfoldable pub directoryOf : List Node → List ℕ
 directoryOf [] = []
 directoryOf (n ∷ ns) = pairOf n (pairsUnder (n .depth) ns)
 
+-- how many nodes that is
 unfoldable pub listedOf : List Node → ℕ
 listedOf [] = 0
 listedOf (n ∷ ns) = 1 + spanUnder (n .depth) ns
@@ -41,12 +43,14 @@ listedOf (n ∷ ns) = 1 + spanUnder (n .depth) ns
 unfoldable pub listingOf : List Node → ℕ → Listing
 listingOf ns room = cond (ltb room (2 * length ns)) (Refused ShortOutput) (Listed (listedOf ns))
 
+-- the output after it: beyond the answer, and after a refusal, as it was
 unfoldable pub outAfter : List Node → List ℕ → List ℕ
 outAfter ns out = cond (ltb (length out) (2 * length ns)) out (sets out 0 (directoryOf ns))
 
 -- what a card answers, refusal 8 first
 unfoldable pub directoryAnswer : Card → ℕ → Listing
-directoryAnswer c room = cond (isSound c) (listingOf (nodesOf c) room) (Refused NotBuilt)
+directoryAnswer c room = cond (not (isSound c)) (Refused NotBuilt) (listingOf (nodesOf c) room)
 
+-- and its output
 unfoldable pub directoryOut : Card → List ℕ → List ℕ
-directoryOut c out = cond (isSound c) (outAfter (nodesOf c) out) out
+directoryOut c out = cond (not (isSound c)) out (outAfter (nodesOf c) out)

@@ -34,6 +34,7 @@ unfoldable pub versionOf : List Node → ℕ → ℕ → ℕ
 versionOf ns system code =
     cond (eqb code 0xffff) system (versionAt ns (serviceOf ns code) (versionAt ns (areaOf ns code) 0xffff))
 
+-- an area's code, or FFFF
 unfoldable pub areaOrSystem : List Node → ℕ → Bool
 areaOrSystem ns code = cond (eqb code 0xffff) true (isFound (areaOf ns code))
 
@@ -88,14 +89,14 @@ serviceListOf ns cs = allKnown ns cs && (inOrder ns cs && anyKeyed ns cs)
 
 -- what a card answers, refusal 8 first
 unfoldable pub versionAnswer : Card → ℕ → Told
-versionAnswer c code = cond (isSound c) (Number (versionOf (nodesOf c) (c .version) code)) (NotTold NotBuilt)
+versionAnswer c code = cond (not (isSound c)) (NotTold NotBuilt) (Number (versionOf (nodesOf c) (c .version) code))
 
 abbrev pub checkedBy : Bool → Checked
 checkedBy true = WellFormed
 checkedBy false = Malformed
 
 unfoldable pub areaListAnswer : Card → List ℕ → Checked
-areaListAnswer c areas = cond (isSound c) (checkedBy (areaListOf (nodesOf c) areas)) (NotChecked NotBuilt)
+areaListAnswer c areas = cond (not (isSound c)) (NotChecked NotBuilt) (checkedBy (areaListOf (nodesOf c) areas))
 
 unfoldable pub serviceListAnswer : Card → List ℕ → Checked
-serviceListAnswer c services = cond (isSound c) (checkedBy (serviceListOf (nodesOf c) services)) (NotChecked NotBuilt)
+serviceListAnswer c services = cond (not (isSound c)) (NotChecked NotBuilt) (checkedBy (serviceListOf (nodesOf c) services))

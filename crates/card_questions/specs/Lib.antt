@@ -1,6 +1,7 @@
 pub mod Under
 pub mod Worded
 pub mod Directory
+pub mod Table
 pub mod ListingWorded
 pub mod Total
 pub mod TotalsWorded

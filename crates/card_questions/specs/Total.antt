@@ -1,7 +1,7 @@
 -- Block totals.
 use Prim.Native.Nat.{ℕ, _+_, min}
 use mathlib.Core.List.{List, [], _∷_}
-use mathlib.Core.Bool.{cond}
+use mathlib.Core.Bool.{cond, not}
 use lib.Dec.{leb}
 use lib.ListN.{drop, getD}
 use Rattle.answers.specs.declared.refusal.Refusal.the-variants.{NotBuilt}
@@ -20,16 +20,22 @@ unfoldable pub sumUnder : ℕ → List Node → ℕ
 sumUnder d [] = 0
 sumUnder d (n ∷ ns) = cond (leb (n .depth) d) 0 (blocksOf (n .entry) + sumUnder d ns)
 
--- an area's total stops at 65,535, which is made at the answer
+-- the most that an answer says
+abbrev pub mostTold : ℕ
+mostTold = 65535
+
+-- an area's total stops at 65,535: at the answer, not on the way
 abbrev pub areaTotalAt : List Node → Found → ℕ
-areaTotalAt ns (At i) = min (sumUnder (getD ns i rootNode .depth) (drop (i + 1) ns)) 65535
+areaTotalAt ns (At i) = min (sumUnder (getD ns i rootNode .depth) (drop (i + 1) ns)) mostTold
 areaTotalAt ns Nothing = 0
 
+-- that of the first area of a code, and 0 where there is none
 abbrev pub areaTotal : List Node → ℕ → ℕ
 areaTotal ns code = areaTotalAt ns (areaOf ns code)
 
+-- that of the service that was found, else the area's
 abbrev pub totalAt : List Node → ℕ → Found → ℕ
-totalAt ns code (At i) = min (blocksOf (getD ns i rootNode .entry)) 65535
+totalAt ns code (At i) = min (blocksOf (getD ns i rootNode .entry)) mostTold
 totalAt ns code Nothing = areaTotal ns code
 
 -- for a service code it is that store's count, and an unknown node gives 0
@@ -38,4 +44,4 @@ totalOf ns code = totalAt ns code (serviceOf ns code)
 
 -- what a card answers, refusal 8 first
 unfoldable pub totalAnswer : Card → ℕ → Told
-totalAnswer c code = cond (isSound c) (Number (totalOf (nodesOf c) code)) (NotTold NotBuilt)
+totalAnswer c code = cond (not (isSound c)) (NotTold NotBuilt) (Number (totalOf (nodesOf c) code))

@@ -36,7 +36,7 @@ fn is_found(found: Found) -> bool
     }
 }
 
-// The key version of a node: the system's for FFFF, else a service's, else an area's, else FFFF.
+// The key version of `code`: the system's for FFFF, else a service's, else an area's, else FFFF.
 fn key_version(nodes: [Node; 64], count: usize, system: u16, code: u16) -> u16
     ensures { λ r. ⌜ r ≡ versionOf (take count nodes) system code ⌝ }
 {
@@ -52,7 +52,7 @@ fn key_version(nodes: [Node; 64], count: usize, system: u16, code: u16) -> u16
     0xffff
 }
 
-// Whether a code is an area's or the system's.
+// Whether `code` is an area's, or FFFF for the system.
 fn area_or_system(nodes: [Node; 64], count: usize, code: u16) -> bool
     ensures { λ r. ⌜ r ≡ areaOrSystem (take count nodes) code ⌝ }
 {
@@ -93,7 +93,7 @@ fn listed(keyed: bool) -> ListNode
     }
 }
 
-// What an entry of a service list names. The system and areas are always keyed.
+// What `code` in a service list names. The system and areas are keyed whatever their low bit is, a service by its code's.
 fn list_node(nodes: [Node; 64], count: usize, code: u16) -> ListNode
     ensures { λ r. ⌜ r ≡ listNodeOf (take count nodes) code ⌝ }
 {
@@ -137,7 +137,7 @@ fn service_list(nodes: [Node; 64], count: usize, services: &[u16]) -> bool
     has_keyed
 }
 
-// The key version of a node.
+// The key version of the node of `code`, or refusal 8.
 pub fn node_key_version(card: Card, code: u16) -> Told
     ensures { λ r. ⌜ r ≡ versionAnswer card code ⌝ }
 {
@@ -159,7 +159,7 @@ fn said(well_formed: bool) -> Checked
     }
 }
 
-// Whether an area list is well formed.
+// Whether the area list is well formed, or refusal 8.
 pub fn area_list_well_formed(card: Card, areas: &[u16]) -> Checked
     ensures { λ r. ⌜ r ≡ areaListAnswer card (now (areas .entry)) ⌝ }
 {
@@ -170,7 +170,7 @@ pub fn area_list_well_formed(card: Card, areas: &[u16]) -> Checked
     said(area_list(nodes, card.count, areas))
 }
 
-// Whether a service list is well formed.
+// Whether the service list is well formed, or refusal 8.
 pub fn service_list_well_formed(card: Card, services: &[u16]) -> Checked
     ensures { λ r. ⌜ r ≡ serviceListAnswer card (now (services .entry)) ⌝ }
 {

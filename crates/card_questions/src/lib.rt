@@ -1,7 +1,5 @@
-// What lies under an area, and the laws that listing its nodes and adding up their blocks share: no code.
-// The directory of a card: each area, then its children in order, an area within starting the same again.
-// Block totals: of an area, its own services and, by the same rule, each child area's total.
-// Key versions, and the two lists that a mutual authentication names.
+// What a card answers without a stored byte: its directory, block totals, key versions, and the two list checks. Each question tests refusal 8 first.
 pub mod keys;
 pub mod listing;
+mod table;
 pub mod totals;

@@ -1,6 +1,6 @@
 -- What is kept of the records that were passed is what a search among them finds.
 use mathlib.Core.Path.{_≡_, refl, sym, _∙_, ap}
-use mathlib.Core.Bool.{Bool, true, false, cond, _&&_}
+use mathlib.Core.Bool.{Bool, true, false, cond, not, _&&_}
 use mathlib.Core.List.{List, [], _∷_, _++_}
 use Prim.Native.Nat.{ℕ, _+_, _≤_, _<_}
 use native.Mathlib.Nat.{zero-add}
@@ -8,7 +8,7 @@ use native.Mathlib.Omega.{arith}
 use lib.Dec.{eqb, ltb, leb}
 use lib.ListN.{length, getD, set}
 use lib.Seq.{getD-set-same, getD-set-other}
-use borrow.Author.Tests.{eqb-true, eqb-false, ltb-true, ltb-false, leb-true, ne-eqb, eq-eqb, le-ltb, le-leb, lt-leb}
+use borrow.Author.Tests.{eqb-true, eqb-false, ltb-true, ltb-false, leb-true, eq-eqb, le-leb, lt-leb, not-false}
 use Rattle.service_code.specs.Code.{numberOf}
 use Rattle.card_nodes.specs.declared.node.Entry.{Entry}
 use Rattle.card_nodes.specs.declared.node.Entry.the-variants.{Area, Service}
@@ -16,10 +16,11 @@ use Rattle.card_nodes.specs.declared.node.Node.{Node}
 use Rattle.card_nodes.specs.declared.find.Found.{Found}
 use Rattle.card_nodes.specs.declared.find.Found.the-variants.{At, Nothing}
 use Rattle.card_nodes.specs.Node.{rootNode, isArea, isService}
-use Rattle.card_nodes.specs.Find.{firstFrom, sharedOf, areaAt, openAt, parentFrom}
-use Rattle.card_nodes.proofs.Searches.{Below, orElse, first-below, first-found, first-append, parent-append}
+use Rattle.card_nodes.specs.Find.{firstFrom, orElse, sharedOf, areaAt, openAt, parentFrom}
+use Rattle.card_nodes.proofs.Searches.{Below, first-below, first-found, first-append, parent-append}
 use Rattle.card_admit.specs.declared.First.the-variants.{There, Missing}
-use Rattle.card_admit.specs.Grow.{parentAt, firstIn}
+use Rattle.card_admit.specs.Admit.{isDepth, parentAt, firstIn}
+use Rattle.card_admit.proofs.Growth.{depth-deep, deep-depth}
 use Rattle.card_sound.proofs.Laws.{passed}
 use Rattle.card_sound.specs.Walk.{isOpen, deepestBy, firstBy, firstAfter}
 
@@ -33,15 +34,14 @@ module _ (d deepest : ℕ) where
   pub open-within : isOpen d deepest ≡ true → Within d deepest
   unfolding isOpen
   open-within e =
-      let a = passed (eqb d 0) _ e in
-      let b = passed (ltb 8 d) _ (a .1) in
-      let n = eqb-false d 0 (a .0) in
-      record { some = omega arith; most = ltb-false 8 d (b .0); left = leb-true d deepest (b .1) }
+      let b = passed (not (isDepth d)) _ e in
+      let t = depth-deep d (not-false (isDepth d) (b .0)) in
+      record { some = t .low; most = t .high; left = leb-true d deepest (b .1) }
 
   -- at those depths the deepest alone decides
   pub open-by : 1 ≤ d → d ≤ 8 → isOpen d deepest ≡ leb d deepest
   unfolding isOpen
-  open-by h k = rw (ne-eqb d 0 (λ e. omega arith), le-ltb 8 d k)
+  open-by h k = rw (deep-depth d h k)
 
 -- the deepest that a node leaves open is its own depth or the next
 deepest-least : (d : ℕ) (e : Entry) → d ≤ deepestBy d e
@@ -59,13 +59,12 @@ pub record Parents (ns : List Node) (parents : List ℕ) (deepest : ℕ) : Type 
 -- before the first node none may come
 pub no-parents : (parents : List ℕ) → Parents [] parents 0
 unfolding parentAt parentFrom isOpen
-no-parents parents = record { says = λ d. go d (eqb d 0) (ltb 8 d) refl }
+no-parents parents = record { says = λ d. go d (isDepth d) refl }
   where
-    go : (d : ℕ) (a b : Bool) → eqb d 0 ≡ a →
-        cond a Nothing (cond b Nothing Nothing) ≡ cond (cond a false (cond b false (leb d 0))) (At (getD parents d 0)) Nothing
-    go d true b e = refl
-    go d false true e = refl
-    go d false false e = let n = eqb-false d 0 e in rw (lt-leb d 0 (omega arith))
+    go : (d : ℕ) (a : Bool) → isDepth d ≡ a →
+        cond (not a) Nothing Nothing ≡ cond (cond (not a) false (leb d 0)) (At (getD parents d 0)) Nothing
+    go d false e = refl
+    go d true e = let t = depth-deep d e in rw (lt-leb d 0 (t .low))
 
 module _
     {ns : List Node} {parents : List ℕ} {deepest : ℕ} (kept : Parents ns parents deepest) (n : Node)
@@ -75,7 +74,7 @@ module _
     last : (d : ℕ) → 1 ≤ d → d ≤ 8 → parentAt (ns ++ (n ∷ [])) d ≡ cond (ltb (n .depth) d) (openAt n d (length ns)) (parentAt ns d)
     unfolding parentAt parentFrom
     last d some most =
-        rw (ne-eqb d 0 (λ e. omega arith), le-ltb 8 d most) (rw zero-add at (parent-append d Nothing 0 ns (n ∷ [])))
+        rw (deep-depth d some most) (rw zero-add at (parent-append d Nothing 0 ns (n ∷ [])))
 
     module _ (d : ℕ) where
       -- the next depth is open under an area alone
@@ -118,17 +117,16 @@ module _
           rw (open-by d (deepestBy (n .depth) (n .entry)) some most) (last d some most ∙ decided some most (ltb (n .depth) d) refl)
 
       -- at any other depth none may come
-      either : (a b : Bool) → eqb d 0 ≡ a → ltb 8 d ≡ b →
+      either : (a : Bool) → isDepth d ≡ a →
           parentAt (ns ++ (n ∷ [])) d
           ≡ cond (isOpen d (deepestBy (n .depth) (n .entry))) (At (getD (set parents (n .depth + 1) (length ns)) d 0)) Nothing
       unfolding parentAt isOpen
-      either true b e f = rw e
-      either false true e f = rw (e, f)
-      either false false e f = let x = eqb-false d 0 e in by-depth (omega arith) (ltb-false 8 d f)
+      either false e = rw e
+      either true e = let t = depth-deep d e in by-depth (t .low) (t .high)
 
     -- the parents after one node more
     pub parents-next : Parents (ns ++ (n ∷ [])) (set parents (n .depth + 1) (length ns)) (deepestBy (n .depth) (n .entry))
-    parents-next = record { says = λ d. either d (eqb d 0) (ltb 8 d) refl refl }
+    parents-next = record { says = λ d. either d (isDepth d) refl }
 
 -- a service of a number
 abbrev isOf : ℕ → Node → Bool

@@ -13,7 +13,7 @@ use Rattle.card_nodes.specs.declared.node.Node.{Node}
 use Rattle.card_nodes.specs.declared.find.Found.the-variants.{At, Nothing}
 use Rattle.card_nodes.specs.Node.{rootNode}
 use Rattle.card_nodes.specs.Find.{sharedOf}
-use Rattle.card_admit.specs.Grow.{parentAt, areaJudged, firstIn, placedOf}
+use Rattle.card_admit.specs.Admit.{parentAt, areaJudged, firstIn, placedOf}
 use Rattle.card_nodes.proofs.Scan.{Left, here, turn}
 use Rattle.card_sound.specs.declared.Step.the-variants.{Goes, Stops}
 use Rattle.card_sound.specs.Sound.{isRoot, allRoots, stepBy, stepOf, stepsFrom, stepsOf}

@@ -1,6 +1,6 @@
 -- The walk over the records that a count takes: what is known on its way, and one turn of it.
 use mathlib.Core.Path.{_≡_, refl, sym, _∙_, ap, subst}
-use mathlib.Core.Bool.{Bool, true, false, cond, _&&_}
+use mathlib.Core.Bool.{Bool, true, false, cond, not, _&&_}
 use mathlib.Core.List.{List, [], _∷_, _++_}
 use Prim.Native.Nat.{ℕ, _+_, _≤_, _<_}
 use native.Mathlib.Numerals.{add-one}
@@ -19,7 +19,7 @@ use Rattle.card_nodes.specs.Find.{firstFrom, sharedOf}
 use Rattle.card_nodes.proofs.Scan.{read}
 use Rattle.card_nodes.proofs.Searches.{in-range}
 use Rattle.card_admit.specs.declared.First.{First}
-use Rattle.card_admit.specs.Grow.{parentAt, firstIn}
+use Rattle.card_admit.specs.Admit.{parentAt, firstIn}
 use Rattle.card_admit.proofs.Growth.{parent-at-below}
 use Rattle.card_sound.specs.declared.Step.{Step}
 use Rattle.card_sound.specs.declared.Step.the-variants.{Goes, Stops}
@@ -188,13 +188,14 @@ module _
 
 -- they are looked at first, then the unused records, then the steps
 pub sound-from : (nodes : List Node) (count used : ℕ) →
-    cond (starting count (getD nodes 0 rootNode)) (cond (allRoots (drop count nodes)) (endsAt used (stepsOf (take count nodes))) false) false
+    cond (not (starting count (getD nodes 0 rootNode))) false
+    (cond (not (allRoots (drop count nodes))) false (endsAt used (stepsOf (take count nodes))))
     ≡ soundOf nodes count used
 unfolding starting soundOf
 sound-from nodes count used = in-turn (eqb count 0) (ltb 64 count) (isRoot (getD nodes 0 rootNode)) _
   where
     in-turn : (a b c rest : Bool) →
-        cond (cond a false (cond b false c)) rest false ≡ cond a false (cond b false (cond c rest false))
+        cond (not (cond a false (cond b false c))) false rest ≡ cond a false (cond b false (cond (not c) false rest))
     in-turn true b c rest = refl
     in-turn false true c rest = refl
     in-turn false false c rest = refl

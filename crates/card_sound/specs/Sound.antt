@@ -12,10 +12,11 @@ use Rattle.answers.specs.declared.refusal.Answer.the-variants.{Done, Refused}
 use Rattle.card_admit.specs.declared.Placed.{Placed}
 use Rattle.card_admit.specs.declared.Placed.the-variants.{Store, Refused as NotPlaced}
 use Rattle.card_nodes.specs.Node.{rootNode}
-use Rattle.card_admit.specs.Grow.{areaJudged, placedOf}
+use Rattle.card_admit.specs.Admit.{areaJudged, placedOf}
 use Rattle.card_sound.specs.declared.Step.{Step}
 use Rattle.card_sound.specs.declared.Step.the-variants.{Goes, Stops}
 
+-- the root ends at FFFE
 abbrev pub rootEnd : Entry → Bool
 rootEnd (Area e) = eqb e 0xfffe
 rootEnd (Service s b l) = false
@@ -29,15 +30,17 @@ unfoldable pub allRoots : List Node → Bool
 allRoots [] = true
 allRoots (n ∷ ns) = isRoot n && allRoots ns
 
+-- an area puts no block more in use
 abbrev pub areaStep : ℕ → Answer → Step
-areaStep used Done = Goes used
 areaStep used (Refused r) = Stops
+areaStep used Done = Goes used
 
 -- a service's record holds the very store that the building gives it
 abbrev pub serviceStep : ℕ → ℕ → Placed → Step
-serviceStep start blocks (Store s b u) = cond (eqb s start && eqb b blocks) (Goes u) Stops
 serviceStep start blocks (NotPlaced r) = Stops
+serviceStep start blocks (Store s b u) = cond (not (eqb s start)) Stops (cond (not (eqb b blocks)) Stops (Goes u))
 
+-- the step over a record, by its case, after those before it
 abbrev pub stepBy : List Node → ℕ → Node → Entry → Step
 stepBy before used n (Area e) = areaStep used (areaJudged before (n .depth) (n .code) e)
 stepBy before used n (Service s b l) = serviceStep s b (placedOf before used 65536 (n .depth) (n .code) b)
@@ -68,6 +71,6 @@ unfoldable pub soundOf : List Node → ℕ → ℕ → Bool
 soundOf nodes count used =
     cond (eqb count 0) false
     (cond (ltb 64 count) false
-    (cond (isRoot (getD nodes 0 rootNode))
-    (cond (allRoots (drop count nodes)) (endsAt used (stepsOf (take count nodes))) false)
-    false))
+    (cond (not (isRoot (getD nodes 0 rootNode))) false
+    (cond (not (allRoots (drop count nodes))) false
+    (endsAt used (stepsOf (take count nodes))))))

@@ -1,13 +1,13 @@
 -- What is kept of the records that were passed, so that the next is judged without a search among them.
 use Prim.Native.Nat.{ℕ, _+_}
-use mathlib.Core.Bool.{Bool, false, cond}
+use mathlib.Core.Bool.{Bool, false, cond, not}
 use lib.Dec.{eqb, ltb, leb}
 use Rattle.card_nodes.specs.declared.node.Entry.{Entry}
 use Rattle.card_nodes.specs.declared.node.Entry.the-variants.{Area, Service}
 use Rattle.card_nodes.specs.declared.node.Node.{Node}
 use Rattle.card_admit.specs.declared.First.{First}
 use Rattle.card_admit.specs.declared.First.the-variants.{There, Missing}
-use Rattle.card_admit.specs.Grow.{areaUnder, placedUnder}
+use Rattle.card_admit.specs.Admit.{isDepth, areaUnder, placedUnder}
 use Rattle.card_sound.specs.declared.Step.{Step}
 use Rattle.card_sound.specs.Sound.{isRoot, areaStep, serviceStep}
 
@@ -15,9 +15,9 @@ use Rattle.card_sound.specs.Sound.{isRoot, areaStep, serviceStep}
 unfoldable pub starting : ℕ → Node → Bool
 starting count root = cond (eqb count 0) false (cond (ltb 64 count) false (isRoot root))
 
--- a node may come at a depth, down to the deepest that the nodes before it leave open
+-- a node may come at a depth from 1 to 8, down to the deepest that the nodes before it leave open
 unfoldable pub isOpen : ℕ → ℕ → Bool
-isOpen depth deepest = cond (eqb depth 0) false (cond (ltb 8 depth) false (leb depth deepest))
+isOpen depth deepest = cond (not (isDepth depth)) false (leb depth deepest)
 
 -- the deepest that a node leaves open: under an area, beside a service
 abbrev pub deepestBy : ℕ → Entry → ℕ

@@ -6,9 +6,10 @@ use card_nodes::node::Entry;
 use card_nodes::node::Node;
 use service_code::code::ServiceCode;
 ghost use mathlib.Core.Path.{_≡_};
-ghost use Prim.Native.Nat.{_<_};
+ghost use Prim.Native.Nat.{_<_, _≤_};
+ghost use lib.ListN.{drop};
 ghost use Rattle.service_code.specs.Code.{numberOf};
-ghost use Rattle.card_sound.specs.Sound.{isRoot, areaStep, serviceStep, soundOf};
+ghost use Rattle.card_sound.specs.Sound.{isRoot, allRoots, areaStep, serviceStep, soundOf};
 ghost use Rattle.card_sound.specs.Walk.{starting, isOpen, deepestBy, firstBy, firstAfter, stepUnder};
 
 // The blocks in use after a record, or that no accepted addition makes it.
@@ -24,8 +25,10 @@ fn is_root(node: Node) -> bool
     if node.depth != 0 {
         return false;
     }
-    // code and version are read as one
-    if node.code as u32 + 65536 * (node.version as u32) != 0 {
+    if node.code != 0 {
+        return false;
+    }
+    if node.version != 0 {
         return false;
     }
     let entry = node.entry;
@@ -39,7 +42,7 @@ fn is_root(node: Node) -> bool
     }
 }
 
-// An area's record, judged.
+// The step over an area's record whose addition was judged so: no block more is in use.
 fn area_step(used: usize, answer: Answer) -> Step
     ensures { λ r. ⌜ r ≡ areaStep used answer ⌝ }
 {
@@ -49,7 +52,7 @@ fn area_step(used: usize, answer: Answer) -> Step
     }
 }
 
-// A service's record, which must hold the store that the building gives it.
+// The step over a service's record of a start and a count, which must be those of the store that the building gives it.
 fn service_step(start: u16, blocks: u16, placed: Placed) -> Step
     ensures { λ r. ⌜ r ≡ serviceStep start blocks placed ⌝ }
 {
@@ -71,20 +74,17 @@ fn service_step(start: u16, blocks: u16, placed: Placed) -> Step
     }
 }
 
-// Whether a node may come at a depth, down to the deepest that those before it leave open.
+// Whether a node may come at `depth`: from 1 to 8, and no deeper than those before it leave open.
 fn is_open(depth: usize, deepest: usize) -> bool
     ensures { λ r. ⌜ r ≡ isOpen depth deepest ⌝ }
 {
-    if depth == 0 {
-        return false;
-    }
-    if 8 < depth {
+    if !card_admit::is_depth(depth) {
         return false;
     }
     depth <= deepest
 }
 
-// The deepest that a node leaves open: under an area, beside a service.
+// The deepest that `node` leaves open to the next: under an area, beside a service.
 fn deepest_by(node: Node) -> usize
     ensures { λ r. ⌜ r ≡ deepestBy (node .depth) (node .entry) ⌝ }
 {
@@ -99,7 +99,7 @@ fn deepest_by(node: Node) -> usize
     }
 }
 
-// The first service of a number, or none where the root's record stands for it.
+// The first service of a number, which `node` is; none where the root's record stands for it.
 fn first_by(node: Node) -> First
     ensures { λ r. ⌜ r ≡ firstBy node (node .entry) ⌝ }
 {
@@ -114,7 +114,7 @@ fn first_by(node: Node) -> First
     }
 }
 
-// The index of the first service of a number, after a node of that number.
+// The index of the first service of a number after `node` of that number at `i`: `f` where there was a first, else `i` for a service.
 fn first_after(first: First, f: u8, node: Node, i: usize) -> u8
     requires { ⌜ i < 64 ⌝ }
     ensures { λ r. ⌜ r ≡ firstAfter first f (node .entry) i ⌝ }
@@ -133,7 +133,7 @@ fn first_after(first: First, f: u8, node: Node, i: usize) -> u8
     }
 }
 
-// A record under its parent, after the first service of its number.
+// The step over `node` under the node `above`, after the first service of its number. The arena is the longest, so that 22 is the card's own limit.
 fn step_under(node: Node, above: Node, first: First, used: usize) -> Step
     ensures { λ r. ⌜ r ≡ stepUnder above first used (node .code) (node .entry) ⌝ }
 {
@@ -172,7 +172,21 @@ fn starts(count: usize, root: Node) -> bool
     is_root(root)
 }
 
-// Whether accepted additions and limits produce these records and these blocks in use.
+// Whether every record after the first `count` is as an unused one is.
+fn all_unused(nodes: [Node; 64], count: usize) -> bool
+    requires { ⌜ count ≤ 64 ⌝ }
+    ensures { λ r. ⌜ r ≡ allRoots (drop count nodes) ⌝ }
+{
+    for k in count..64 {
+        let unused = nodes[k];
+        if !is_root(unused) {
+            return false;
+        }
+    }
+    true
+}
+
+// Whether accepted additions and limits produce these records and these blocks in use: no search, each record is judged by what is kept of those before it.
 pub fn sound(nodes: [Node; 64], count: usize, used: usize) -> bool
     ensures { λ r. ⌜ r ≡ soundOf nodes count used ⌝ }
 {
@@ -180,11 +194,8 @@ pub fn sound(nodes: [Node; 64], count: usize, used: usize) -> bool
     if !starts(count, root) {
         return false;
     }
-    for k in count..64 {
-        let unused = nodes[k];
-        if !is_root(unused) {
-            return false;
-        }
+    if !all_unused(nodes, count) {
+        return false;
     }
     let mut parents = [0; 10]; // for each depth, the record that a node comes under
     let mut firsts = [0; 1024]; // for each number, the record of its first service, or the root's

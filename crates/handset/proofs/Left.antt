@@ -1,7 +1,7 @@
 -- A refusal leaves all that a call was lent as it was: the card's bytes, the arena, output and staging, and what the call answers
 -- through its last reference, whatever stood there.
 use mathlib.Core.Path.{_≡_, refl, ap}
-use mathlib.Core.Bool.{Bool, true, false, cond}
+use mathlib.Core.Bool.{Bool, true, false, not, cond}
 use mathlib.Core.List.{List, []}
 use Prim.Native.Nat.{ℕ, _-_, _*_}
 use native.Mathlib.Omega.{arith}
@@ -19,7 +19,7 @@ use Rattle.byte_parts.proofs.Part.{put-zero}
 use Rattle.block_list.specs.declared.element.BlockListElement.{BlockListElement}
 use Rattle.card_admit.specs.declared.Placed.{Placed}
 use Rattle.card_admit.specs.declared.Placed.the-variants.{Store, Refused as NotPlaced}
-use Rattle.card_admit.specs.Grow.{placedOf}
+use Rattle.card_admit.specs.Admit.{placedOf}
 use Rattle.card_build.specs.declared.card.Card.{Card}
 use Rattle.card_build.specs.declared.card.Added.{Added}
 use Rattle.card_build.specs.Card.{nodesOf, isSound, refused}
@@ -94,13 +94,13 @@ set-left c arena code number block h = by (eqb (length block) 16) (blockJudged c
 -- the output of a directory
 pub directory-left : (c : Card) (out : List ℕ) → (listedAs (directoryAnswer c (length out)) ≡ 0 → ⊥) → directoryOut c out ≡ out
 unfolding directoryAnswer directoryOut listingOf outAfter
-directory-left c out h = by (isSound c) (ltb (length out) (2 * length (nodesOf c))) h
+directory-left c out h = by (not (isSound c)) (ltb (length out) (2 * length (nodesOf c))) h
   where
-    by : (s t : Bool) → (listedAs (cond s (cond t (NotListed ShortOutput) (Listed (listedOf (nodesOf c)))) (NotListed NotBuilt)) ≡ 0 → ⊥) →
-        cond s (cond t out (sets out 0 (directoryOf (nodesOf c)))) out ≡ out
-    by true true h = refl
-    by true false h = absurd (h refl)
-    by false t h = refl
+    by : (s t : Bool) → (listedAs (cond s (NotListed NotBuilt) (cond t (NotListed ShortOutput) (Listed (listedOf (nodesOf c))))) ≡ 0 → ⊥) →
+        cond s out (cond t out (sets out 0 (directoryOf (nodesOf c)))) ≡ out
+    by true t h = refl
+    by false true h = refl
+    by false false h = absurd (h refl)
 
 -- the arena, of a service that is not added
 pub store-left : (c : Card) (arena : List ℕ) (depth code blocks version : ℕ) →
@@ -108,18 +108,18 @@ pub store-left : (c : Card) (arena : List ℕ) (depth code blocks version : ℕ)
     arenaAdded c (serviceAdded c (length arena) depth code blocks version) arena ≡ arena
 unfolding serviceAdded addService arenaAdded
 store-left c arena depth code blocks version h =
-    by (isSound c) (ltb (length arena) (16 * c .used)) (placedOf (nodesOf c) (c .used) (length arena) depth code blocks) h
+    by (not (isSound c)) (ltb (length arena) (16 * c .used)) (placedOf (nodesOf c) (c .used) (length arena) depth code blocks) h
   where
     kept : (a : Added) → a .card ≡ c → put arena (16 * c .used) (16 * (a .card .used - c .used)) (replicate (16 * (a .card .used - c .used)) 0) ≡ arena
     kept a e = let z : 16 * (a .card .used - c .used) ≡ 0 = rw e (omega arith) in rw z (put-zero arena (16 * c .used) [])
 
     by : (s t : Bool) (p : Placed) →
-        (answerAs (cond s (cond t (refused c ShortArena) (serviceBy c depth code version p)) (refused c NotBuilt) .answer) ≡ 0 → ⊥) →
-        arenaAdded c (cond s (cond t (refused c ShortArena) (serviceBy c depth code version p)) (refused c NotBuilt)) arena ≡ arena
-    by false t p h = kept (refused c NotBuilt) refl
-    by true true p h = kept (refused c ShortArena) refl
-    by true false (NotPlaced r) h = kept (refused c r) refl
-    by true false (Store s b u) h = absurd (h refl)
+        (answerAs (cond s (refused c NotBuilt) (cond t (refused c ShortArena) (serviceBy c depth code version p)) .answer) ≡ 0 → ⊥) →
+        arenaAdded c (cond s (refused c NotBuilt) (cond t (refused c ShortArena) (serviceBy c depth code version p))) arena ≡ arena
+    by true t p h = kept (refused c NotBuilt) refl
+    by false true p h = kept (refused c ShortArena) refl
+    by false false (NotPlaced r) h = kept (refused c r) refl
+    by false false (Store s b u) h = absurd (h refl)
 
 -- how many status pairs a reply has
 abbrev pairs : Reply → ℕ

@@ -23,7 +23,7 @@ use Rattle.answers.specs.declared.refusal.Answer.the-variants.{Done, Refused}
 use Rattle.card_admit.specs.declared.Placed.{Placed}
 use Rattle.card_admit.specs.declared.Placed.the-variants.{Store, Refused as NotPlaced}
 use Rattle.card_nodes.specs.Node.{rootNode, startOf, blocksOf}
-use Rattle.card_admit.specs.Grow.{areaJudged, placedOf}
+use Rattle.card_admit.specs.Admit.{areaJudged, placedOf}
 use Rattle.card_admit.proofs.Growth.{area-room, allowed, stored, used-most}
 use Rattle.card_build.specs.declared.card.Card.{Card}
 use Rattle.card_build.specs.declared.card.Added.{Added}

@@ -15,6 +15,12 @@ use Rattle.card_nodes.proofs.find.find_service as card_nodes·find-service
 use Rattle.card_nodes.proofs.find.find_area as card_nodes·find-area
 use Rattle.card_nodes.proofs.find.find_shared as card_nodes·find-shared
 use Rattle.card_nodes.proofs.node.Node.root as card_nodes·Node·root
+use Rattle.card_nodes.proofs.node.is_area as card_nodes·is-area
+use Rattle.card_nodes.proofs.node.is_service as card_nodes·is-service
+use Rattle.card_nodes.proofs.node.end_of as card_nodes·end-of
+use Rattle.card_nodes.proofs.node.start_of as card_nodes·start-of
+use Rattle.card_nodes.proofs.node.blocks_of as card_nodes·blocks-of
+use Rattle.card_admit.proofs.is_depth as card_admit·is-depth
 use Rattle.card_admit.proofs.area_under as card_admit·area-under
 use Rattle.card_admit.proofs.placed_under as card_admit·placed-under
 use Rattle.card_build.proofs.fits.judge_area as card_build·judge-area
@@ -49,6 +55,24 @@ module _ {M : Type 1} (𝓤 : URA M) (H : Heap 𝓤) (A : Atoms 𝓤) (mem : Mem
 
   pub card_nodes·Node·root-once : OneAnswer 𝓤 card_nodes·Node·root.ended (card_nodes·Node·root.clauses 𝓤 H A mem run)
   card_nodes·Node·root-once κs a g r r′ ws ws′ = result 𝓤 refl
+
+  pub card_nodes·is-area-once : OneAnswer 𝓤 card_nodes·is-area.ended (card_nodes·is-area.clauses 𝓤 H A mem run)
+  card_nodes·is-area-once κs a g r r′ ws ws′ = result 𝓤 refl
+
+  pub card_nodes·is-service-once : OneAnswer 𝓤 card_nodes·is-service.ended (card_nodes·is-service.clauses 𝓤 H A mem run)
+  card_nodes·is-service-once κs a g r r′ ws ws′ = result 𝓤 refl
+
+  pub card_nodes·end-of-once : OneAnswer 𝓤 card_nodes·end-of.ended (card_nodes·end-of.clauses 𝓤 H A mem run)
+  card_nodes·end-of-once κs a g r r′ ws ws′ = result 𝓤 refl
+
+  pub card_nodes·start-of-once : OneAnswer 𝓤 card_nodes·start-of.ended (card_nodes·start-of.clauses 𝓤 H A mem run)
+  card_nodes·start-of-once κs a g r r′ ws ws′ = result 𝓤 refl
+
+  pub card_nodes·blocks-of-once : OneAnswer 𝓤 card_nodes·blocks-of.ended (card_nodes·blocks-of.clauses 𝓤 H A mem run)
+  card_nodes·blocks-of-once κs a g r r′ ws ws′ = result 𝓤 refl
+
+  pub card_admit·is-depth-once : OneAnswer 𝓤 card_admit·is-depth.ended (card_admit·is-depth.clauses 𝓤 H A mem run)
+  card_admit·is-depth-once κs a g r r′ ws ws′ = result 𝓤 refl
 
   pub card_admit·area-under-once : OneAnswer 𝓤 card_admit·area-under.ended (card_admit·area-under.clauses 𝓤 H A mem run)
   card_admit·area-under-once κs a g r r′ ws ws′ = result 𝓤 refl

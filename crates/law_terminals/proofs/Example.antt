@@ -21,7 +21,7 @@ use Rattle.rule_purse.specs.Purse.{valueOf, insideOf, outsideOf, sumOf, storedO
 use Rattle.rule_cyclic.specs.Cyclic.{cyclicOf}
 use Rattle.rule_purse.specs.Bytes.{purseDataOf, blockOf, purseOf}
 use Rattle.card_nodes.specs.Find.{firstFrom, openAt, parentFrom}
-use Rattle.card_admit.specs.Grow.{parentAt, rootMisfit, outside, areaUnder, areaJudged, serviceUnder, sameKind, joinedTo, usable, newStore, placedOf}
+use Rattle.card_admit.specs.Admit.{isDepth, parentAt, rootMisfit, outside, areaUnder, areaJudged, serviceUnder, sameKind, joinedTo, usable, newStore, placedOf}
 use Rattle.card_sound.specs.Sound.{isRoot, allRoots, stepOf, stepsFrom, stepsOf, soundOf}
 use Rattle.card_build.specs.declared.card.Card.{Card}
 use Rattle.card_build.specs.Card.{newCard}
@@ -63,7 +63,7 @@ card = addService credit 80 1 0x10cd 2 0 .card
 
 -- both cards are built
 built : Built card × Built Race.race
-unfolding addArea areaJudged areaUnder rootMisfit setLimit addService placedOf parentAt parentFrom openAt firstFrom serviceUnder outside sameKind joinedTo usable newStore numberOf attributesOf tableOf decodedOf attributeOf codeKindOf
+unfolding addArea areaJudged areaUnder rootMisfit setLimit addService placedOf isDepth parentAt parentFrom openAt firstFrom serviceUnder outside sameKind joinedTo usable newStore numberOf attributesOf tableOf decodedOf attributeOf codeKindOf
 built = (
   service {c = credit} 80 1 0x10cd 2 0
       (service {c = towers} 80 1 0x1095 1 0
@@ -199,7 +199,7 @@ Redraws =
 
 -- a number of which the card has a service, by the numbers of its services
 has-one : {k : ℕ} → HasNumber card k → (k ≡ 0x41) ⊎ (k ≡ 0x42) ⊎ (k ≡ 0x43)
-unfolding addService placedOf parentAt parentFrom openAt firstFrom serviceUnder outside sameKind joinedTo usable newStore numberOf attributesOf tableOf decodedOf attributeOf codeKindOf
+unfolding addService placedOf isDepth parentAt parentFrom openAt firstFrom serviceUnder outside sameKind joinedTo usable newStore numberOf attributesOf tableOf decodedOf attributeOf codeKindOf
 has-one (inl h) = absurd (false≢true (h .0))
 has-one (inr (inl h)) = inl (sym (h .1))
 has-one (inr (inr (inl h))) = inl (sym (h .1))
@@ -253,7 +253,7 @@ Raced =
 
 -- all of it, computed by the definitions
 computed : Told × Alone × Ends × Disturbed × Redraws × IsRedrawn × Raced
-unfolding addArea areaJudged areaUnder rootMisfit setLimit addService placedOf parentAt parentFrom openAt firstFrom serviceUnder outside sameKind joinedTo usable newStore numberOf attributesOf tableOf decodedOf attributeOf codeKindOf requiresKey unpackAt endsFrom endsAfter elementsFrom part put sameBytes wordAt wordBytes signedOf wordOf cyclicOf valueOf insideOf outsideOf sumOf storedOf purseRule purseDataOf blockOf purseOf isRoot allRoots stepOf stepsFrom stepsOf soundOf rowOf modeAllowed attributeCheck serviceCheck rowCheck elementCheck checkedFrom then push runsOf scan walk back within cashbackIn elementBy endBy onStore staged writeJudged readJudged judgedWith planOf blocksRead committed carried serve only all after answers told
+unfolding addArea areaJudged areaUnder rootMisfit setLimit addService placedOf isDepth parentAt parentFrom openAt firstFrom serviceUnder outside sameKind joinedTo usable newStore numberOf attributesOf tableOf decodedOf attributeOf codeKindOf requiresKey unpackAt endsFrom endsAfter elementsFrom part put sameBytes wordAt wordBytes signedOf wordOf cyclicOf valueOf insideOf outsideOf sumOf storedOf purseRule purseDataOf blockOf purseOf isRoot allRoots stepOf stepsFrom stepsOf soundOf rowOf modeAllowed attributeCheck serviceCheck rowCheck elementCheck checkedFrom then push runsOf scan walk back within cashbackIn elementBy endBy onStore staged writeJudged readJudged judgedWith planOf blocksRead committed carried serve only all after answers told
 computed = (
   refl,
   (refl, refl),

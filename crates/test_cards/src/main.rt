@@ -86,17 +86,42 @@ fn kind_of(line: &[u8]) -> u8 {
     if 0 < line.len() { line[0] } else { 0 }
 }
 
-// Counts every line of every file; no line at all is wrong. The first line makes a card.
+// The card after the lines so far, and what they came to.
+struct Run {
+    grown: Grown,
+    tally: Tally,
+}
+
+// Counts a line.
+fn one_line(run: Run, line: &[u8], arena: &mut [u8]) -> Run {
+    let kind = kind_of(line);
+    let before = run.grown;
+    let tally = run.tally;
+    let grown = after(before, kind, line, arena);
+    Run {
+        grown,
+        tally: counted(tally, kind, grown.agrees),
+    }
+}
+
+// Before the first line, which makes a card.
+fn start() -> Run {
+    Run {
+        grown: add::start(0, 0, 0),
+        tally: Tally {
+            cards: 0,
+            additions: 0,
+            questions: 0,
+            blocks: 0,
+            requests: 0,
+            wrong: 0,
+        },
+    }
+}
+
+// Counts every line of every file; no line at all is wrong.
 fn lines(arena: &mut [u8]) -> Tally {
-    let mut t = Tally {
-        cards: 0,
-        additions: 0,
-        questions: 0,
-        blocks: 0,
-        requests: 0,
-        wrong: 0,
-    };
-    let mut grown = add::start(0, 0, 0);
+    let mut run = start();
     let mut text = io::large_buffer();
     let mut line = test_stored::before_all();
     let mut read = 0u32;
@@ -107,11 +132,10 @@ fn lines(arena: &mut [u8]) -> Tally {
         }
         let start = line.start;
         let end = line.end;
-        let kind = kind_of(&text[start..end]);
-        grown = after(grown, kind, &text[start..end], arena);
-        t = counted(t, kind, grown.agrees);
+        run = one_line(run, &text[start..end], arena);
         read += 1;
     }
+    let mut t = run.tally;
     if read == 0 {
         test_stored::report_none();
         t.wrong = 1;

@@ -18,7 +18,10 @@ fn told(reply: Reply, answer: &[u8]) -> bool {
     match reply.response() {
         Response::Refusal(number) => answer.len() == 1 && answer[0] == number,
         Response::Pair { flag1, flag2 } => {
-            answer.len() == 2 && answer[0] == flag1 && answer[1] == flag2
+            if answer.len() != 2 {
+                return false;
+            }
+            answer[0] == flag1 && answer[1] == flag2
         }
     }
 }

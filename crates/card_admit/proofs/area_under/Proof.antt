@@ -2,7 +2,7 @@
 use mathlib.Core.Path.{_≡_, sym, _∙_, ap}
 use mathlib.Core.Bool.{false}
 use borrow.Author.Needs.{needs}
-use Rattle.card_admit.specs.Grow.{areaUnder, rootMisfit, outside}
+use Rattle.card_admit.specs.Admit.{areaUnder, rootMisfit, outside}
 use Rattle.byte_parts.proofs.Tests.{tests}
 use Rattle.card_admit.proofs.area_under.Statement.{statement}
 use Rattle.card_admit.proofs.area_under.Tie as tie
@@ -11,27 +11,50 @@ use Rattle.card_admit.proofs.area_under.Tie as tie
 fits : (c : tie.Else3) → rootMisfit (c .before .before .before .before .args .code) (c .before .before .before .before .args .end) ≡ false
 fits c = sym (c .before .root-misfit .ensures) ∙ c .if3 .left
 
-pub area-under-spec : {M : Type 1} → statement M
+returns : tie.Need-returns
 unfolding areaUnder
+returns c = search tests
+
+returns-2 : tie.Need-returns-2
+unfolding areaUnder
+returns-2 c = search tests
+
+returns-3 : tie.Need-returns-3
+unfolding areaUnder
+returns-3 c = search (tests, sym (c .before .root-misfit .ensures) ∙ c .if3 .taken)
+
+returns-4 : tie.Need-returns-4
+unfolding areaUnder
+returns-4 c = search (tests, fits (c .before))
+
+returns-5 : tie.Need-returns-5
+unfolding areaUnder
+returns-5 c = search (tests, fits (c .before .before))
+
+returns-6 : tie.Need-returns-6
+unfolding areaUnder
+returns-6 c = search (tests, fits (c .before .before .before .before))
+
+returns-7 : tie.Need-returns-7
+unfolding areaUnder
+returns-7 c = search (tests, fits (c .before .before .before .before .before .before .before), sym (ap (outside _ _ _) (c .before .before .end-of .ensures)) ∙ sym (c .before .is-outside .ensures) ∙ c .if7 .taken)
+
+returns-8 : tie.Need-returns-8
+unfolding areaUnder
+returns-8 c = search (tests, fits (c .before .before .before .before .before .before .before), sym (ap (outside _ _ _) (c .before .before .end-of .ensures)) ∙ sym (c .before .is-outside .ensures) ∙ c .if7 .left)
+
+pub area-under-spec : {M : Type 1} → statement M
 area-under-spec =
     tie.close
     (tie.spec
-    (λ c. search tests)
-    (λ c. search tests)
+    returns
+    returns-2
     (λ c κs. search needs)
-    (λ c. search (tests, sym (c .before .root-misfit .ensures) ∙ c .if3 .taken))
-    (λ c. search (tests, fits (c .before)))
-    (λ c. search (tests, fits (c .before .before)))
-    (λ c. search (tests, fits (c .before .before .before .before)))
+    returns-3
+    returns-4
+    returns-5
+    returns-6
     (λ c κs. search needs)
     (λ c κs. search needs)
-    (λ c. search (
-      tests,
-      fits (c .before .before .before .before .before .before .before),
-      sym (ap (outside _ _ _) (c .before .before .last-code .ensures)) ∙ sym (c .before .is-outside .ensures) ∙ c .if7 .taken,
-    ))
-    (λ c. search (
-      tests,
-      fits (c .before .before .before .before .before .before .before),
-      sym (ap (outside _ _ _) (c .before .before .last-code .ensures)) ∙ sym (c .before .is-outside .ensures) ∙ c .if7 .left,
-    )))
+    returns-7
+    returns-8)

@@ -1,5 +1,5 @@
 -- Each arm is its own case of the definition.
-use Rattle.card_admit.specs.Grow.{outside}
+use Rattle.card_admit.specs.Admit.{outside}
 use Rattle.byte_parts.proofs.Tests.{tests}
 use Rattle.card_admit.proofs.is_outside.Statement.{statement}
 use Rattle.card_admit.proofs.is_outside.Tie as tie

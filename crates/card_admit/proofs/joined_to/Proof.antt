@@ -2,24 +2,19 @@
 use mathlib.Core.Path.{sym, _∙_}
 use borrow.Author.Needs.{needs}
 use borrow.Author.Tests.{not-true, not-false}
-use Rattle.card_admit.specs.Grow.{joinedTo}
+use Rattle.card_admit.specs.Admit.{joinedTo}
 use Rattle.card_admit.proofs.joined_to.Statement.{statement}
 use Rattle.card_admit.proofs.joined_to.Tie as tie
 
-pub joined-to-spec : {M : Type 1} → statement M
+returns : tie.Need-returns
 unfolding joinedTo
+returns c = rw (sym (c .before .same-kind .ensures) ∙ not-true _ (c .if1 .taken))
+
+returns-2 : tie.Need-returns-2
+unfolding joinedTo
+returns-2 c =
+    rw (sym (c .before .before .before .same-kind .ensures) ∙ not-false _ (c .before .before .if1 .left), c .before .start-of .ensures, c .blocks-of .ensures)
+
+pub joined-to-spec : {M : Type 1} → statement M
 joined-to-spec =
-    tie.close
-    (tie.spec
-    (λ c κs. search needs)
-    (λ c. search (sym (c .before .same-kind .ensures) ∙ not-true _ (c .if1 .taken)))
-    (λ c. search needs)
-    (λ c. search needs)
-    (λ c. search (
-      sym (c .before .before .before .same-kind .ensures) ∙ not-false _ (c .before .before .if1 .left),
-      c .enum-told .given .1,
-    ))
-    (λ c. search (
-      sym (c .before .before .before .before .same-kind .ensures) ∙ not-false _ (c .before .before .before .if1 .left),
-      c .before .entry .given .1,
-    )))
+    tie.close (tie.spec (λ c κs. search needs) returns (λ c κs. search needs) (λ c κs. search needs) returns-2)

@@ -1,5 +1,5 @@
 -- Each arm is its own case of the definition.
-use Rattle.card_admit.specs.Grow.{rootMisfit}
+use Rattle.card_admit.specs.Admit.{rootMisfit}
 use Rattle.byte_parts.proofs.Tests.{tests}
 use Rattle.card_admit.proofs.root_misfit.Statement.{statement}
 use Rattle.card_admit.proofs.root_misfit.Tie as tie

@@ -1,5 +1,5 @@
 -- The smaller of two numbers.
-use Rattle.card_admit.specs.Grow.{usable}
+use Rattle.card_admit.specs.Admit.{usable}
 use native.Mathlib.Omega.{arith}
 use Rattle.card_admit.proofs.usable_blocks.Statement.{statement}
 use Rattle.card_admit.proofs.usable_blocks.Tie as tie

@@ -6,8 +6,17 @@ use Rattle.card_sound.specs.Walk.{starting}
 use Rattle.card_sound.proofs.starts.Statement.{statement}
 use Rattle.card_sound.proofs.starts.Tie as tie
 
-pub starts-spec : {M : Type 1} → statement M
+returns : tie.Need-returns
 unfolding starting
-starts-spec =
-    tie.close
-    (tie.spec (λ c. search tests) (λ c. search tests) (λ c κs. search needs) (λ c. c .is-root .ensures ∙ search tests))
+returns c = search tests
+
+returns-2 : tie.Need-returns-2
+unfolding starting
+returns-2 c = search tests
+
+returns-3 : tie.Need-returns-3
+unfolding starting
+returns-3 c = c .is-root .ensures ∙ search tests
+
+pub starts-spec : {M : Type 1} → statement M
+starts-spec = tie.close (tie.spec returns returns-2 (λ c κs. search needs) returns-3)

@@ -5,15 +5,19 @@ use Rattle.byte_parts.proofs.Tests.{tests}
 use Rattle.card_build.proofs.fits.open_at.Statement.{statement}
 use Rattle.card_build.proofs.fits.open_at.Tie as tie
 
-pub open-at-spec : {M : Type 1} → statement M
+returns : tie.Need-returns
 unfolding openAt
+returns c = search tests
+
+returns-2 : tie.Need-returns-2
+unfolding openAt
+returns-2 c = search (tests, c .enum-told .given .1)
+
+returns-3 : tie.Need-returns-3
+unfolding openAt
+returns-3 c = search (tests, c .enum-told2 .given .1)
+
+pub open-at-spec : {M : Type 1} → statement M
 open-at-spec =
     tie.close
-    (tie.spec
-    (λ c. search needs)
-    (λ c. search needs)
-    (λ c. search tests)
-    (λ c. search needs)
-    (λ c. search needs)
-    (λ c. search (tests, c .enum-told .given .1))
-    (λ c. search (tests, c .enum-told2 .given .1)))
+    (tie.spec (λ c. search needs) (λ c. search needs) returns (λ c. search needs) (λ c. search needs) returns-2 returns-3)

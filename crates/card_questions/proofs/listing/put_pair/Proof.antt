@@ -4,6 +4,9 @@ use borrow.Author.Needs.{needs}
 use Rattle.card_questions.proofs.listing.put_pair.Statement.{statement}
 use Rattle.card_questions.proofs.listing.put_pair.Tie as tie
 
+returns : tie.Need-returns
+returns c = rw add-one
+
 pub put-pair-spec : {M : Type 1} → statement M
 put-pair-spec =
     tie.close
@@ -11,9 +14,8 @@ put-pair-spec =
     (λ c. search needs)
     (λ c. search needs)
     (λ c. search needs)
-    (λ c κs. search needs)
     (λ c. search needs)
     (λ c. search needs)
     (λ c. search needs)
     (λ c. search needs)
-    (λ c. rw (add-one, c .second .ensures)))
+    returns)

@@ -16,8 +16,17 @@ records c = record { all = search needs }
 inside : (c : tie.After-i) → c .i .given .0 .0 < 64
 inside c = found-index (records (c .before .before .before)) _ (c .before .before .find-service .ensures) (c .i .given .1)
 
-pub block-total-spec : {M : Type 1} → statement M
+returns : tie.Need-returns
+returns c =
+    let i = c .before .before .before .before in
+    let f = i .before .before in
+    service-found (records (f .before)) _ (i .i .given .1) (f .find-service .ensures) _ (c .before .blocks-of .ensures) (c .capped .ensures)
+
+returns-2 : tie.Need-returns-2
 unfolding totalOf
+returns-2 c = c .area-total .ensures ∙ search (sym (c .before .before .before .find-service .ensures) ∙ c .before .enum-told .given .1)
+
+pub block-total-spec : {M : Type 1} → statement M
 block-total-spec =
     tie.close
     (tie.spec
@@ -26,11 +35,9 @@ block-total-spec =
     (λ c. omega (arith, inside (c .before)))
     (λ c. inside (c .before))
     (λ c κs. search needs)
+    (λ c. search needs)
     (λ c κs. search needs)
     (λ c. search needs)
     (λ c κs. search needs)
-    (λ c.
-    let i = c .before .before .before .before in
-    let f = i .before .before in
-    service-found (records (f .before)) _ (i .i .given .1) (f .find-service .ensures) _ (c .before .blocks-in .ensures) (c .capped .ensures))
-    (λ c. c .area-total .ensures ∙ search (sym (c .before .before .before .find-service .ensures) ∙ c .before .enum-told .given .1)))
+    returns
+    returns-2)

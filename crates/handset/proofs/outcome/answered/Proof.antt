@@ -3,6 +3,12 @@ use borrow.Author.Needs.{needs}
 use Rattle.handset.proofs.outcome.answered.Statement.{statement}
 use Rattle.handset.proofs.outcome.answered.Tie as tie
 
+returns : tie.Need-returns
+returns c = search needs
+
+returns-2 : tie.Need-returns-2
+returns-2 c = rw (c .before .before .answer .given .1) (c .refused .ensures)
+
 pub answered-spec : {M : Type 1} → statement M
 answered-spec =
     tie.close
@@ -10,5 +16,5 @@ answered-spec =
     (λ c. search needs)
     (λ c. search needs)
     (λ c κs. search needs)
-    (λ c. search needs)
-    (λ c. rw (c .before .before .answer .given .1) (c .refused .ensures)))
+    returns
+    returns-2)

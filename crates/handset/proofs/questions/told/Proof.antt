@@ -4,6 +4,12 @@ use borrow.Author.Needs.{needs}
 use Rattle.handset.proofs.questions.told.Statement.{statement}
 use Rattle.handset.proofs.questions.told.Tie as tie
 
+returns : tie.Need-returns
+returns c = rw (c .before .before .answer .given .1) (c .refused .ensures, refl)
+
+returns-2 : tie.Need-returns-2
+returns-2 c = search needs
+
 pub told-spec : {M : Type 1} → statement M
 told-spec =
     tie.close
@@ -11,5 +17,5 @@ told-spec =
     (λ c. search needs)
     (λ c κs. search needs)
     (λ c. search needs)
-    (λ c. rw (c .before .before .answer .given .1) (c .refused .ensures, refl))
-    (λ c. search needs))
+    returns
+    returns-2)

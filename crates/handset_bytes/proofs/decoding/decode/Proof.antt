@@ -15,6 +15,9 @@ Inv-loop bytes nodes₀ i₀ nodes i = Reading bytes nodes i
 abbrev μ-loop : tie.MeasureT-loop
 μ-loop bytes nodes₀ i₀ nodes i = 64 - i
 
+returns : tie.Need-returns Inv-loop μ-loop
+returns c = c .none .ensures ∙ sym (misfit _ (c .before .if1 .taken))
+
 is-record-requires : tie.Need-is-record-requires Inv-loop μ-loop
 is-record-requires c κs = own-long _ (c .before .before .loop .i) (c .before .before .loop .inv .size) (omega arith)
 
@@ -42,7 +45,7 @@ decode-spec =
     Inv-loop
     μ-loop
     (λ c κs. search needs)
-    (λ c. c .none .ensures ∙ sym (misfit _ (c .before .if1 .taken)))
+    returns
     (λ c κs. search needs)
     (λ c. begun _ _ (omega arith) (search needs))
     (λ c. omega arith)

@@ -4,14 +4,20 @@ use Rattle.byte_parts.proofs.Tests.{tests}
 use Rattle.handset_bytes.proofs.node.read_entry.Statement.{statement}
 use Rattle.handset_bytes.proofs.node.read_entry.Tie as tie
 
+returns : tie.Need-returns
+returns c = search (tests, c .half .ensures)
+
+returns-2 : tie.Need-returns-2
+returns-2 c = search (tests, c .before .before .half2 .ensures, c .before .half3 .ensures, c .read-limit .ensures)
+
 pub read-entry-spec : {M : Type 1} → statement M
 read-entry-spec =
     tie.close
     (tie.spec
     (λ c. search needs)
     (λ c κs. search needs)
-    (λ c. search (tests, c .half .ensures))
+    returns
     (λ c κs. search needs)
     (λ c κs. search needs)
     (λ c κs. search needs)
-    (λ c. search (tests, c .before .before .half2 .ensures, c .before .half3 .ensures, c .read-limit .ensures)))
+    returns-2)

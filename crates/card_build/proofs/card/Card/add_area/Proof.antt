@@ -6,7 +6,7 @@ use lib.ListN.{length, length-map}
 use borrow.Author.Needs.{needs}
 use borrow.Author.Tests.{not-true, not-false}
 use Rattle.answers.specs.declared.refusal.Answer.{Answer}
-use Rattle.card_admit.specs.Grow.{areaJudged}
+use Rattle.card_admit.specs.Admit.{areaJudged}
 use Rattle.card_build.specs.Card.{nodesOf, isSound}
 use Rattle.card_build.proofs.Accepted.{Room, area-accepted}
 use Rattle.card_build.proofs.Answers.{area-unsound, area-refused, area-done}
@@ -32,6 +32,9 @@ room c =
     let j = c .before .before in
     area-accepted _ _ _ _ (records (j .before .before .before .before)) _ (judged j (c .enum-told .given .1))
 
+returns : tie.Need-returns
+returns c = c .refuse .ensures ∙ area-unsound _ _ _ _ _ (sym (c .before .before .is-sound .ensures) ∙ not-true _ (c .before .if1 .taken))
+
 returns-2 : tie.Need-returns-2
 returns-2 c =
     let j = c .before .before .before .before in
@@ -48,7 +51,7 @@ add-area-spec =
     (tie.spec
     (λ c κs. search needs)
     (λ c κs. search needs)
-    (λ c. c .refuse .ensures ∙ area-unsound _ _ _ _ _ (sym (c .before .before .is-sound .ensures) ∙ not-true _ (c .before .if1 .taken)))
+    returns
     (λ c κs. search needs)
     (λ c. search needs)
     (λ c κs. search needs)

@@ -7,7 +7,7 @@ use lib.ListN.{length, length-map}
 use borrow.Author.Needs.{needs}
 use borrow.Author.Tests.{not-true, not-false}
 use Rattle.card_admit.specs.declared.Placed.{Placed}
-use Rattle.card_admit.specs.Grow.{placedOf}
+use Rattle.card_admit.specs.Admit.{placedOf}
 use Rattle.card_build.specs.Card.{nodesOf, isSound}
 use Rattle.card_build.proofs.Accepted.{Fits, service-accepted}
 use Rattle.card_build.proofs.Answers.{service-unsound, service-short, service-refused, service-stored, arena-after, arena-kept}

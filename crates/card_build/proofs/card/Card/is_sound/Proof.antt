@@ -3,5 +3,8 @@ use borrow.Author.Needs.{needs}
 use Rattle.card_build.proofs.card.Card.is_sound.Statement.{statement}
 use Rattle.card_build.proofs.card.Card.is_sound.Tie as tie
 
+returns : tie.Need-returns
+returns c = c .sound .ensures
+
 pub is-sound-spec : {M : Type 1} → statement M
-is-sound-spec = tie.close (tie.spec (λ c κs. search needs) (λ c. c .sound .ensures))
+is-sound-spec = tie.close (tie.spec (λ c κs. search needs) returns)

@@ -12,5 +12,8 @@ use Rattle.card_build.proofs.card.Card.new.Tie as tie
 abbrev cardOf : ℕ → ℕ → Node → Card
 cardOf system version n = record { nodes = replicate 64 n; count = 1; used = 0; system = system; version = version }
 
+returns : tie.Need-returns
+returns c = ap (cardOf _ _) (c .root .ensures)
+
 pub new-spec : {M : Type 1} → statement M
-new-spec = tie.close (tie.spec (λ c κs. search needs) (λ c. ap (cardOf _ _) (c .root .ensures)))
+new-spec = tie.close (tie.spec (λ c κs. search needs) returns)

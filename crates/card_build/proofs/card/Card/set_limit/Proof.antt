@@ -32,6 +32,9 @@ counted c = sound-count _ _ _ (sound c)
 last : (c : tie.Else1) (z : Node) → let k = c .before .before .args .t1 in getD (k .nodes) (k .count - 1) z ≡ lastOf k
 last c z = let n = counted c in same-read (c .before .before .args .t1 .nodes) (c .before .before .args .t1 .count - 1) z rootNode (omega (arith, records (c .before .before)))
 
+returns : tie.Need-returns
+returns c = c .refuse .ensures ∙ limit-unsound _ _ _ _ (sym (c .before .before .is-sound .ensures) ∙ not-true _ (c .before .if1 .taken))
+
 returns-2 : tie.Need-returns-2
 returns-2 c =
     let n = c .before .before .before in
@@ -50,7 +53,7 @@ set-limit-spec =
     (tie.spec
     (λ c κs. search needs)
     (λ c κs. search needs)
-    (λ c. c .refuse .ensures ∙ limit-unsound _ _ _ _ (sym (c .before .before .is-sound .ensures) ∙ not-true _ (c .before .if1 .taken)))
+    returns
     (λ c. omega (arith, counted c))
     (λ c. omega (arith, counted c))
     (λ c. omega (arith, counted c))
