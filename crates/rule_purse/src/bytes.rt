@@ -4,18 +4,20 @@ use crate::fields::PurseOperation;
 use crate::fields::PurseWrite;
 use crate::fields::purse_write;
 use answers::status::Written;
+use byte_parts::sizes::BLOCK_SIZE;
 use byte_parts::spans;
 use byte_parts::word;
 use service_code::limit::Limit;
 ghost use mathlib.Core.Path.{_≡_};
 ghost use Prim.Native.Nat.{_≤_};
 ghost use lib.ListN.{length};
+ghost use Rattle.byte_parts.specs.Sizes.{blockSize};
 ghost use Rattle.answers.specs.Outcome.{writtenOf, bytesAfter};
 ghost use Rattle.rule_purse.specs.Bytes.{purseDataOf, purseOf};
 
 // The fields of a block.
 fn purse_data(block: &[u8]) -> PurseData
-    requires { ⌜ 16 ≤ length (now block) ⌝ }
+    requires { ⌜ blockSize ≤ length (now block) ⌝ }
     ensures { λ r. ⌜ r ≡ purseDataOf (now (block .entry)) ⌝ }
 {
     PurseData {
@@ -32,7 +34,7 @@ pub fn apply_purse_write(
     operation: PurseOperation,
     limit: Limit,
 ) -> Written
-    requires { ⌜ (16 ≤ length (now block)) × (16 ≤ length (now command)) ⌝ }
+    requires { ⌜ (blockSize ≤ length (now block)) × (blockSize ≤ length (now command)) ⌝ }
     ensures { λ r. ⌜ r ≡ writtenOf (purseOf operation limit (now (block .entry)) (now (command .entry))) ⌝ }
     ensures { λ r. ⌜ now (block .exit) ≡ bytesAfter (now (block .entry)) (purseOf operation limit (now (block .entry)) (now (command .entry))) ⌝ }
 {
@@ -41,7 +43,7 @@ pub fn apply_purse_write(
     match purse_write(operation, limit, stored, asked) {
         PurseWrite::Unchanged => Written::Done,
         PurseWrite::Whole => {
-            spans::copy(block, 0, command, 0, 16);
+            spans::copy(block, 0, command, 0, BLOCK_SIZE);
             Written::Done
         }
         PurseWrite::Stored { purse, cashback } => {
