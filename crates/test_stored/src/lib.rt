@@ -1,4 +1,5 @@
 // Stored answers: files 0001.in, 0002.in, .. of a program's folder, and lines of hex in them.
+use bytes::scan;
 use text_numbers::codes::Code;
 use text_numbers::codes::read_hex16;
 ghost use mathlib.Core.Path.{_≡_};
@@ -85,7 +86,7 @@ pub fn end_of(text: &[u8], from: usize, separator: u8) -> usize
     requires { ⌜ from ≤ length (now text) ⌝ }
     ensures { λ r. ⌜ (from ≤ r) × (r ≤ length (now (text .entry))) ⌝ }
 {
-    text_fields::field_end(text, from, separator)
+    scan::find(text, from, text.len(), separator)
 }
 
 // A number of 16 bits, high byte first.
