@@ -1,4 +1,4 @@
-// The purse rule on a block's sixteen bytes.
+// The purse rule on a block's bytes, in place: purse in bytes 0 to 3, cashback in 4 to 7, execution id in 12 to 15, low byte first.
 use crate::fields::PurseData;
 use crate::fields::PurseOperation;
 use crate::fields::PurseWrite;
@@ -15,7 +15,7 @@ ghost use Rattle.byte_parts.specs.Sizes.{blockSize};
 ghost use Rattle.answers.specs.Outcome.{writtenOf, bytesAfter};
 ghost use Rattle.rule_purse.specs.Bytes.{purseDataOf, purseOf};
 
-// The fields of a block.
+// Reads the fields of a block.
 fn purse_data(block: &[u8]) -> PurseData
     requires { ⌜ blockSize ≤ length (now block) ⌝ }
     ensures { λ r. ⌜ r ≡ purseDataOf (now (block .entry)) ⌝ }
@@ -27,7 +27,7 @@ fn purse_data(block: &[u8]) -> PurseData
     }
 }
 
-// The same rule on a block's sixteen bytes, in place.
+// Carries a purse write out on `block`, with the fields of `command`. Bytes 8 to 11 are the user's own: only a direct write touches them.
 pub fn apply_purse_write(
     block: &mut [u8],
     command: &[u8],
