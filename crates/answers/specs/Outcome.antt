@@ -9,6 +9,7 @@ pub data Outcome : Type 0 where
   passed : List ℕ → Outcome
   failed : Fault → Outcome
 
+-- what the rule's caller is told
 abbrev pub writtenOf : Outcome → Written
 writtenOf (passed t) = Done
 writtenOf (failed f) = Failed f

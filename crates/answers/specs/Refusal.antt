@@ -3,6 +3,7 @@ use Prim.Native.Nat.{ℕ}
 use Rattle.answers.specs.declared.refusal.Refusal.{Refusal}
 use Rattle.answers.specs.declared.refusal.Refusal.the-variants.{TooManyElements, TooManyCodes, ListLength, ShortStaging, ShortOutput, MalformedRequest, ShortArena, NotBuilt, InvalidAreaRange, InvalidRootAreaRange, NodeCodeOutOfRange, InvalidAreaAttribute, ChildAreaForbidden, UndefinedServiceAttribute, ServiceOutOfRange, AreaOutOfRange, OverlapKindMismatch, TableFull, NoParent, NoRoom, NoSuchBlock, NotAService, MalformedImage}
 
+-- 9, 10, 24 to 27 and 29 are no refusal's
 abbrev pub refusalNumber : Refusal → ℕ
 refusalNumber TooManyElements = 1
 refusalNumber TooManyCodes = 2

@@ -1,3 +1,3 @@
-// What a call is answered: status bytes and refusals, as `types.rs` of the Rust has them.
+// What a call is answered: a refusal with its number, or a status pair.
 pub mod refusal;
 pub mod status;

@@ -1,8 +1,8 @@
-// Refusals: why a call is not carried out, each with its number.
+// Refusals: why a call is not carried out at all, each with its number. A refused call has changed nothing.
 ghost use mathlib.Core.Path.{_≡_};
 ghost use Rattle.answers.specs.Refusal.{refusalNumber};
 
-// Why a call is refused. Cases that the Rust knows have its names.
+// Why a call is refused. 11 to 19 have the names that the Rust has for them; the others are for what the Rust never meets.
 pub enum Refusal {
     // More than 512 elements.
     TooManyElements,
@@ -56,7 +56,7 @@ pub enum Told {
 }
 
 impl Refusal {
-    // The number of a refusal.
+    // Gives the number of a refusal. Numbers that are left out are no refusal's.
     pub fn number(self) -> u8
         ensures { λ r. ⌜ r ≡ refusalNumber self ⌝ }
     {

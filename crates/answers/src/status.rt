@@ -1,8 +1,8 @@
-// Status bytes: the place of an error in a list, and its cause.
+// Status bytes: where in a list an error is (status flag 1), and what it is (status flag 2).
 ghost use mathlib.Core.Path.{_≡_};
 ghost use Rattle.answers.specs.Status.{sf1Of, sf2Of};
 
-// Why an element or a rule fails. Several causes share a status byte.
+// Why an element or a rule fails. Several causes share a status byte; they stand apart so that a contract says which one it was.
 pub enum Fault {
     // The element's list index is beyond the codes.
     ListIndex,
@@ -39,7 +39,7 @@ pub enum Fault {
 }
 
 impl Fault {
-    // Status flag 2 of a fault.
+    // Gives status flag 2 of a fault.
     pub fn status_flag2(self) -> u8
         ensures { λ r. ⌜ r ≡ sf2Of self ⌝ }
     {
@@ -64,14 +64,15 @@ impl Fault {
     }
 }
 
-// Status flag 1 of an error at an index of the block list, counted from 0.
+// Gives status flag 1 of an error at `index` of the block list, counted from 0: its place, counted from 1, and 255 for any place that
+// a byte does not hold.
 pub fn list_error_index(index: usize) -> u8
     ensures { λ r. ⌜ r ≡ sf1Of index ⌝ }
 {
     if index < 254 { index as u8 + 1 } else { 255 }
 }
 
-// How a rule ended: the bytes lent to it are those to store, or it failed and they are as they were.
+// How a rule ended: the bytes lent to it are now those to store, or it failed and they are as they were.
 pub enum Written {
     Done,
     Failed(Fault),

@@ -1,15 +1,17 @@
-// Elements of a block list: two or three bytes each, packed one after the other.
+// Elements of a block list (`types.rs` of the Rust): two or three bytes each, packed one after the other. The first byte has the mode
+// and the index, and its top bit says how many bytes there are.
 ghost use mathlib.Core.Path.{_≡_};
-ghost use Rattle.block_list.specs.Element.{packedOf, unpackAt};
+ghost use Prim.Native.Nat.{_<_};
+ghost use Rattle.block_list.specs.Element.{headOf, elementOf, packedOf, unpackAt};
 
-// An element names a block: its number, the index of the service's code in the request's list, and an access mode.
+// What an element names: a block's number, the index of its service's code in the request's list, and an access mode.
 pub struct BlockListElement {
     pub number: u16,
     pub index: u8,
     pub mode: u8,
 }
 
-// The bytes of an element, of three the first `len`; an unused one is 0.
+// The bytes of an element: the first `len` of three. One that is not used is 0.
 pub struct Packed {
     pub bytes: [u8; 3],
     pub len: usize,
@@ -24,12 +26,30 @@ pub enum Unpacked {
     Short,
 }
 
+// Gives the first byte of three for a mode and an index: three bits of the one, four of the other.
+fn head_of(e: BlockListElement) -> u8
+    ensures { λ r. ⌜ (r ≡ headOf e) × (r < 0x80) ⌝ }
+{
+    16 * (e.mode % 8) + e.index % 16
+}
+
+// Gives the element that a first byte and a number make; the first byte's top bit is no part of it.
+fn element_of(head: u8, number: u16) -> BlockListElement
+    ensures { λ r. ⌜ r ≡ elementOf head number ⌝ }
+{
+    BlockListElement {
+        number,
+        index: head % 16,
+        mode: head / 16 % 8,
+    }
+}
+
 impl BlockListElement {
-    // The bytes of an element.
+    // Packs an element: a number below 256 takes two bytes, any other three, low byte first.
     pub fn pack(self) -> Packed
         ensures { λ r. ⌜ r ≡ packedOf self ⌝ }
     {
-        let head = 16 * (self.mode % 8) + self.index % 16;
+        let head = head_of(self);
         let low = (self.number % 256) as u8;
         let high = (self.number / 256) as u8;
         if high == 0 {
@@ -46,7 +66,7 @@ impl BlockListElement {
     }
 }
 
-// The element that stands at a place of a list.
+// Reads the element that stands at place `at` of a list. Three bytes may hold a number below 256, which `pack` would put in two.
 pub fn unpack(list: &[u8], at: usize) -> Unpacked
     ensures { λ r. ⌜ r ≡ unpackAt (now (list .entry)) at ⌝ }
 {
@@ -62,11 +82,7 @@ pub fn unpack(list: &[u8], at: usize) -> Unpacked
         let low = list[at + 1] as u16;
         let high = list[at + 2] as u16;
         Unpacked::Element {
-            element: BlockListElement {
-                number: low + 256 * high,
-                index: head % 16,
-                mode: head / 16 % 8,
-            },
+            element: element_of(head, low + 256 * high),
             next: at + 3,
         }
     } else {
@@ -74,11 +90,7 @@ pub fn unpack(list: &[u8], at: usize) -> Unpacked
             return Unpacked::Short;
         }
         Unpacked::Element {
-            element: BlockListElement {
-                number: list[at + 1] as u16,
-                index: head % 16,
-                mode: head / 16 % 8,
-            },
+            element: element_of(head, list[at + 1] as u16),
             next: at + 2,
         }
     }

@@ -1,18 +1,18 @@
-// A reader of a block list. A struct that holds the caller's bytes is proved by a walk of each function's own code, so the
-// functions on it are few and thin: they take the reader apart and leave the work to `lists`.
+// A reader of a block list: the caller's bytes, and a place in them. A struct that holds lent bytes is proved by a walk of each
+// function's own code, so the functions on it are few and thin, and leave the work to `element`.
 use crate::element;
 use crate::element::Unpacked;
 ghost use mathlib.Core.Path.{_≡_};
 ghost use Rattle.block_list.specs.Element.{endsAfter};
 ghost use Rattle.block_list.specs.Read.{atStart, nextOf, placePast, movedOn, finished};
 
-// The caller's list bytes, and a place in them.
+// The caller's list bytes, and a place in them: all before it is taken.
 pub struct Reader<'a> {
     pub list: &'a [u8],
     pub at: usize,
 }
 
-// The place past an element; where there is none, the same place.
+// Gives the place past what was taken at `at`; where that was no element, `at` itself.
 fn place_past(taken: Unpacked, at: usize) -> usize
     ensures { λ r. ⌜ r ≡ placePast taken at ⌝ }
 {
@@ -23,14 +23,14 @@ fn place_past(taken: Unpacked, at: usize) -> usize
 }
 
 impl<'a> Reader<'a> {
-    // A reader at the start of a list.
+    // Starts at the front of a list.
     pub fn new(list: &'a [u8]) -> Reader<'a>
         ensures { λ r. ⌜ r ≡ atStart (list .entry) ⌝ }
     {
         Reader { list, at: 0 }
     }
 
-    // Takes the next element, and moves on past it; where too few bytes are left for one, the reader stays.
+    // Takes the next element and moves on past it; where too few bytes are left for one, says so and stays.
     pub fn next(&mut self) -> Unpacked
         ensures { λ r. ⌜ (r ≡ nextOf (now (self .entry))) × (now (self .exit) ≡ movedOn (now (self .entry))) ⌝ }
     {
@@ -39,7 +39,7 @@ impl<'a> Reader<'a> {
         taken
     }
 
-    // Whether all bytes are taken.
+    // Tells whether all bytes are taken.
     pub fn is_finished(self) -> bool
         ensures { λ r. ⌜ r ≡ finished (self .entry) ⌝ }
     {
@@ -47,7 +47,8 @@ impl<'a> Reader<'a> {
     }
 }
 
-// Whether a list is that many elements and nothing more. Its parameters are plain, so its callers need no walk.
+// Tells whether a list is `count` elements and nothing more: refusal 3 is given where not. Its parameters are plain, so that its callers
+// need no walk.
 pub fn list_ends(list: &[u8], count: usize) -> bool
     ensures { λ r. ⌜ r ≡ endsAfter (now (list .entry)) count ⌝ }
 {

@@ -1,6 +1,5 @@
--- What callers cite.
+-- What callers cite: laws of parts, of stores one after the other, of tests, and of signs.
 pub mod Part
 pub mod Put
 pub mod Tests
--- What this crate's proofs and callers cite.
 pub mod Laws

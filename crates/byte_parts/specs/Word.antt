@@ -6,9 +6,11 @@ use lib.ListN.{getD}
 use lib.Dec.{ltb}
 use lib.IntN.{ℤ, pos, negsuc}
 
+-- the number that the four bytes from a place on make
 unfoldable pub wordAt : List ℕ → ℕ → ℕ
 wordAt s at = getD s at 0 + 256 * getD s (at + 1) 0 + 65536 * getD s (at + 2) 0 + 16777216 * getD s (at + 3) 0
 
+-- a number as its four bytes
 unfoldable pub wordBytes : ℕ → List ℕ
 wordBytes v = (v % 256) ∷ (v / 256 % 256) ∷ (v / 65536 % 256) ∷ (v / 16777216 % 256) ∷ []
 
@@ -16,6 +18,7 @@ wordBytes v = (v % 256) ∷ (v / 256 % 256) ∷ (v / 65536 % 256) ∷ (v / 16777
 unfoldable pub signedOf : ℕ → ℤ
 signedOf n = cond (ltb n 2147483648) (pos n) (negsuc (4294967295 - n))
 
+-- and back: the 32 bits of a number of either sign
 unfoldable pub wordOf : ℤ → ℕ
 wordOf (pos n) = n
 wordOf (negsuc n) = 4294967295 - n

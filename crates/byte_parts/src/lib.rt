@@ -1,4 +1,4 @@
-// Parts of a slice of bytes: copied, zeroed, compared.
-// Four bytes of a slice, low byte first, as a number of 32 bits; and what such a number stands for with a sign.
+// Bytes: parts of a slice, four of them as a number, and the sizes that every floor above goes by.
+pub mod sizes;
 pub mod spans;
 pub mod word;

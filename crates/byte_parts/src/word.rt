@@ -1,4 +1,4 @@
-// Four bytes of a slice, low byte first, as a number of 32 bits; and what such a number stands for with a sign.
+// Numbers of 32 bits: read from and written to four bytes of a slice, low byte first, and as what they stand for with a sign.
 ghost use mathlib.Core.Path.{_≡_};
 ghost use Prim.Native.Nat.{_+_, _≤_, _<_, _^_};
 ghost use lib.ListN.{length, getD};
@@ -6,7 +6,7 @@ ghost use lib.Signed.{mag};
 ghost use Rattle.byte_parts.specs.Part.{put};
 ghost use Rattle.byte_parts.specs.Word.{wordAt, wordBytes, signedOf, wordOf};
 
-// The byte at an index.
+// Reads the byte of s at i as a number of 32 bits. That it is below 256 is promised too, so that sums of bytes need no proof that they fit.
 pub fn byte(s: &[u8], i: usize) -> u32
     requires { ⌜ i < length (now s) ⌝ }
     ensures { λ r. ⌜ (r ≡ getD (now (s .entry)) i 0) × (r < 256) ⌝ }
@@ -14,7 +14,7 @@ pub fn byte(s: &[u8], i: usize) -> u32
     s[i] as u32
 }
 
-// The number that four bytes make.
+// Reads the number that the four bytes of s from `at` on make.
 pub fn word(s: &[u8], at: usize) -> u32
     requires { ⌜ at + 4 ≤ length (now s) ⌝ }
     ensures { λ r. ⌜ r ≡ wordAt (now (s .entry)) at ⌝ }
@@ -22,7 +22,7 @@ pub fn word(s: &[u8], at: usize) -> u32
     byte(s, at) + 256 * byte(s, at + 1) + 65536 * byte(s, at + 2) + 16777216 * byte(s, at + 3)
 }
 
-// Writes a number as four bytes.
+// Writes v to the four bytes of s from `at` on.
 pub fn put_word(s: &mut [u8], at: usize, v: u32)
     requires { ⌜ at + 4 ≤ length (now s) ⌝ }
     ensures { λ _. ⌜ now (s .exit) ≡ put (now (s .entry)) at 4 (wordBytes v) ⌝ }
@@ -33,7 +33,7 @@ pub fn put_word(s: &mut [u8], at: usize, v: u32)
     s[at + 3] = (v / 16777216 % 256) as u8;
 }
 
-// What a number of 32 bits stands for with a sign.
+// Gives what v stands for with a sign: from 2 ^ 31 on v less 2 ^ 32. In 64 bits, where sums of two such numbers fit.
 pub fn signed(v: u32) -> i64
     ensures { λ r. ⌜ r ≡ signedOf v ⌝ }
 {
@@ -44,7 +44,7 @@ pub fn signed(v: u32) -> i64
     }
 }
 
-// The same in 32 bits.
+// Gives what v stands for with a sign, in the 32 bits in which a card keeps its limits.
 pub fn signed32(v: u32) -> i32
     ensures { λ r. ⌜ r ≡ signedOf v ⌝ }
 {
@@ -55,7 +55,7 @@ pub fn signed32(v: u32) -> i32
     }
 }
 
-// The 32 bits of a number of either sign.
+// Gives the 32 bits of z: below 0 those of z and 2 ^ 32.
 pub fn unsigned(z: i64) -> u32
     requires { ⌜ mag z < 2 ^ 32 ⌝ }
     ensures { λ r. ⌜ r ≡ wordOf z ⌝ }

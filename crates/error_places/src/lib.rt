@@ -1,4 +1,5 @@
-// The places of a list that the set bits of a status flag 1 can denote, as `types.rs` of the Rust has them.
+// Status flag 1 as bits: the places of a list that a set bit can denote (`types.rs` of the Rust). Bit k stands for place k + 1, and, but
+// for bit 7, for place k + 9 as well, so that a byte denotes fifteen places at most.
 ghost use mathlib.Core.Path.{_≡_};
 ghost use Prim.Native.Nat.{_+_, _≤_, _<_};
 ghost use lib.Count.{ones};
@@ -6,13 +7,13 @@ ghost use lib.ListN.{length};
 ghost use lib.Seq.{sets};
 ghost use Rattle.error_places.specs.Bitmap.{placesFrom, bitmapOf};
 
-// The places of a list that an error byte can denote, in ascending order, and how many they are.
+// The places that an error byte denotes, ascending, and how many they are; unused entries are 0.
 pub struct Positions {
     pub places: [u8; 15],
     pub count: usize,
 }
 
-// The places that the set bits of an error byte denote.
+// Lists the places that the set bits of `value` denote: those of all eight bits, then those of the low seven again, nine on.
 pub fn bitmap_positions(value: u8) -> Positions
     ensures { λ r. ⌜ r ≡ bitmapOf value ⌝ }
 {
@@ -27,7 +28,8 @@ pub fn bitmap_positions(value: u8) -> Positions
     }
 }
 
-// Writes the places of the set bits from index `at` on, `place` being the lowest bit's.
+// Writes the places of the set bits of `bits` from index `at` on, `place` being the lowest bit's. Trailing zeros lead from a set bit to
+// the next, so a turn is one place.
 fn places_from(places: &mut [u8], at: usize, bits: u8, place: u8)
     requires { ⌜ (at + ones bits ≤ length (now places)) × (place < 248) ⌝ }
     ensures { λ r. ⌜ now (places .exit) ≡ sets (now (places .entry)) at (placesFrom 8 place bits) ⌝ }

@@ -13,7 +13,6 @@ use Rattle.byte_parts.specs.Part.{put}
 use Rattle.text_numbers.specs.Codes.{codesOf}
 use Rattle.law_once.specs.One.{OneAnswer, OneSeen}
 use Rattle.law_once.proofs.Law.{once, once-by, of-two, result}
-use Rattle.text_fields.proofs.field_end as text_fields·field-end
 use Rattle.text_fields.proofs.field_count as text_fields·field-count
 use Rattle.text_fields.proofs.field as text_fields·field
 use Rattle.text_numbers.proofs.digits.digit as text_numbers·digit
@@ -33,9 +32,6 @@ use Rattle.test_stored.proofs.number16 as test_stored·number16
 use Rattle.test_stored.proofs.number32 as test_stored·number32
 
 module _ {M : Type 1} (𝓤 : URA M) (H : Heap 𝓤) (A : Atoms 𝓤) (mem : Memory → SProp 𝓤) (run : Routine → Fun 𝓤) where
-  pub text_fields·field-end-once : OneAnswer 𝓤 text_fields·field-end.ended (text_fields·field-end.clauses 𝓤 H A mem run)
-  text_fields·field-end-once κs a g r r′ ws ws′ = result 𝓤 refl
-
   pub text_fields·field-count-once : OneAnswer 𝓤 text_fields·field-count.ended (text_fields·field-count.clauses 𝓤 H A mem run)
   text_fields·field-count-once κs a g r r′ ws ws′ = result 𝓤 refl
 

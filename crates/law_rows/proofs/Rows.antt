@@ -1,4 +1,4 @@
--- Fifteen worked rows in one statement, each computed by the definitions. Assumes nothing.
+-- Fifteen worked rows in one statement, which the definitions compute: so they say what the rules say, at these values at least. Assumes nothing.
 use Prim.Native.Nat.{ℕ}
 use mathlib.Core.Path.{_≡_, refl}
 use mathlib.Core.Bool.{true}
@@ -13,6 +13,7 @@ use Rattle.answers.specs.Status.{sf1Of, sf2Of}
 use Rattle.block_list.specs.Element.{packOf}
 use Rattle.error_places.specs.Bitmap.{placesFrom, placesOf}
 use Rattle.byte_parts.specs.Part.{put, sameBytes}
+use Rattle.byte_parts.specs.Sizes.{blockSize}
 use Rattle.byte_parts.specs.Word.{wordAt, wordBytes, signedOf, wordOf}
 use Rattle.rule_purse.specs.declared.fields.PurseOperation.the-variants.{Decrement, Cashback}
 use Rattle.service_code.specs.declared.limit.Limit.{Limit}
@@ -28,9 +29,9 @@ use Rattle.rule_purse.specs.Bytes.{purseDataOf, blockOf, purseOf}
 abbrev fields : ℕ → ℕ → ℕ → PurseData
 fields p k i = record { purse = p; cashback = k; id = i }
 
--- A block of sixteen equal bytes.
+-- A block of equal bytes.
 abbrev block : ℕ → List ℕ
-block n = replicate 16 n
+block n = replicate blockSize n
 
 -- 1048: number 41h, keyed random.
 abbrev P1 : Type 0
@@ -101,6 +102,7 @@ P14 =
 abbrev P15 : Type 0
 P15 = (sf1Of 253 ≡ 254) × (sf1Of 254 ≡ 255) × (sf1Of 300 ≡ 255)
 
+-- All of them.
 pub rows : P1 × P2 × P3 × P4 × P5 × P6 × P7 × P8 × P9 × P10 × P11 × P12 × P13 × P14 × P15
 unfolding numberOf attributesOf tableOf decodedOf attributeOf requiresKey packOf placesFrom placesOf purseRule storedOf sumOf insideOf outsideOf valueOf signedOf wordOf purseOf blockOf purseDataOf wordAt wordBytes put cyclicOf sameBytes
 rows = (

@@ -1,1 +1,1 @@
-// The worked rows of the rules, proved together in proofs/Rows.antt: no code.
+// The worked rows of the rules, in proofs/Rows.antt: one statement, proved by computing, and no code.

@@ -1,4 +1,5 @@
-// The cyclic rule: a run of blocks goes in front of a store.
+// What a write makes of a cyclic store (`blocks.rs` of the Rust): the newest block stands first, and the oldest ones are lost. It takes a
+// whole run of blocks at once, since a run that is repeated may not shift the store again.
 use answers::status::Fault;
 use answers::status::Written;
 use byte_parts::spans;
@@ -9,7 +10,8 @@ ghost use Rattle.byte_parts.specs.Part.{put};
 ghost use Rattle.answers.specs.Outcome.{writtenOf, bytesAfter};
 ghost use Rattle.rule_cyclic.specs.Cyclic.{cyclicOf};
 
-// Writes a run to a cyclic store, newest block first. A run that the store already begins with changes nothing.
+// Writes a run of blocks to a cyclic store. A run longer than the store fails (AF); one that the store begins with already changes
+// nothing; else the run comes first and the store's first blocks follow, as many as still fit.
 pub fn apply_cyclic_write(store: &mut [u8], run: &[u8]) -> Written
     ensures { λ r. ⌜ r ≡ writtenOf (cyclicOf (now (store .entry)) (now (run .entry))) ⌝ }
     ensures { λ r. ⌜ now (store .exit) ≡ bytesAfter (now (store .entry)) (cyclicOf (now (store .entry)) (now (run .entry))) ⌝ }
@@ -18,7 +20,7 @@ pub fn apply_cyclic_write(store: &mut [u8], run: &[u8]) -> Written
     if store.len() < n {
         return Written::Failed(Fault::CyclicTooLong);
     }
-    if spans::same(&store[0..n], run) {
+    if spans::same(&store[0..n], &run[0..n]) {
         return Written::Done;
     }
     shift(store, n);
@@ -26,7 +28,7 @@ pub fn apply_cyclic_write(store: &mut [u8], run: &[u8]) -> Written
     Written::Done
 }
 
-// Moves a store's bytes back by n; the last n are lost. From the last on, so that each has moved before it is overwritten.
+// Moves the bytes of a store back by n; the last n are lost. From the last on, so that each has moved before it is overwritten.
 fn shift(store: &mut [u8], n: usize)
     requires { ⌜ n ≤ length (now store) ⌝ }
     ensures { λ _. ⌜ now (store .exit) ≡ put (now (store .entry)) n (length (now (store .entry)) - n) (now (store .entry)) ⌝ }

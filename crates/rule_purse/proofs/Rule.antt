@@ -1,5 +1,4 @@
 -- The purse rule in each of its cases. Assumes nothing.
-use Prim.Native.Nat.{ℕ}
 use mathlib.Core.Path.{_≡_, sym, _∙_}
 use mathlib.Core.Bool.{Bool, true, false}
 use lib.IntN.{pos, _+ℤ_, _-ℤ_}
@@ -10,9 +9,9 @@ use Rattle.answers.specs.declared.status.Fault.the-variants.{PurseRaised, Cashb
 use Rattle.rule_purse.specs.declared.fields.PurseOperation.the-variants.{Direct, Decrement, Cashback}
 use Rattle.service_code.specs.declared.limit.Limit.{Limit}
 use Rattle.rule_purse.specs.declared.fields.PurseData.{PurseData}
-use Rattle.rule_purse.specs.declared.fields.PurseWrite.the-variants.{Unchanged, Whole, Stored, Failed}
+use Rattle.rule_purse.specs.declared.fields.PurseWrite.{PurseWrite}
+use Rattle.rule_purse.specs.declared.fields.PurseWrite.the-variants.{Unchanged, Whole, Failed}
 use Rattle.rule_purse.specs.declared.fields.Sum.{Sum}
-use Rattle.rule_purse.specs.declared.fields.Sum.the-variants.{Inside, Outside}
 use Rattle.rule_purse.specs.Purse.{valueOf, insideOf, outsideOf, sumOf, storedOf, purseRule}
 
 module _ (limit : Limit) (s c : PurseData) where
@@ -57,16 +56,11 @@ module _ (limit : Limit) (s c : PurseData) where
 
   module _ (h : c .id ≡ s .id → ⊥) where
     -- A decrement with another one, by its difference.
-    module _ (r : Sum) (er : r ≡ sumOf limit (valueOf limit (s .purse) -ℤ valueOf limit (c .purse))) where
-      -- In range.
-      pub decrement-inside : (n : ℕ) → r ≡ Inside n → Stored n (c .purse) ≡ purseRule Decrement limit s c
-      unfolding purseRule storedOf
-      decrement-inside n tr = rw (ne-eqb (c .id) (s .id) h, sym er ∙ tr)
-
-      -- Out of range.
-      pub decrement-outside : r ≡ Outside → (f : Fault) → f ≡ outsideOf limit → Failed f ≡ purseRule Decrement limit s c
-      unfolding purseRule storedOf
-      decrement-outside tr f ef = rw (ne-eqb (c .id) (s .id) h, sym er ∙ tr, ef)
+    pub decrement-other
+        : (r : Sum) → r ≡ sumOf limit (valueOf limit (s .purse) -ℤ valueOf limit (c .purse)) → (w : PurseWrite) → w ≡ storedOf limit (c .purse) r
+        → w ≡ purseRule Decrement limit s c
+    unfolding purseRule
+    decrement-other r er w ew = rw (ne-eqb (c .id) (s .id) h, sym er) ew
 
     -- A cashback with another one, by the test of its amount and by its sum.
     module _ (b : Bool) (eb : b ≡ ltZ (valueOf limit (s .cashback)) (valueOf limit (c .purse))) where
@@ -75,13 +69,9 @@ module _ (limit : Limit) (s c : PurseData) where
       unfolding purseRule
       cashback-exceeds tb = rw (ne-eqb (c .id) (s .id) h, sym eb ∙ tb)
 
-      module _ (tb : b ≡ false) (r : Sum) (er : r ≡ sumOf limit (valueOf limit (s .purse) +ℤ valueOf limit (c .purse))) where
-        -- A sum in range.
-        pub cashback-inside : (n : ℕ) → r ≡ Inside n → Stored n 0 ≡ purseRule Cashback limit s c
-        unfolding purseRule storedOf
-        cashback-inside n tr = rw (ne-eqb (c .id) (s .id) h, sym eb ∙ tb, sym er ∙ tr)
-
-        -- A sum out of range.
-        pub cashback-outside : r ≡ Outside → (f : Fault) → f ≡ outsideOf limit → Failed f ≡ purseRule Cashback limit s c
-        unfolding purseRule storedOf
-        cashback-outside tr f ef = rw (ne-eqb (c .id) (s .id) h, sym eb ∙ tb, sym er ∙ tr, ef)
+      -- Another amount, by its sum.
+      pub cashback-other
+          : b ≡ false → (r : Sum) → r ≡ sumOf limit (valueOf limit (s .purse) +ℤ valueOf limit (c .purse)) → (w : PurseWrite) → w ≡ storedOf limit 0 r
+          → w ≡ purseRule Cashback limit s c
+      unfolding purseRule
+      cashback-other tb r er w ew = rw (ne-eqb (c .id) (s .id) h, sym eb ∙ tb, sym er) ew

@@ -3,6 +3,7 @@ use Prim.Native.Nat.{ℕ}
 use mathlib.Core.List.{List}
 use lib.ListN.{drop}
 use Rattle.byte_parts.specs.Part.{put}
+use Rattle.byte_parts.specs.Sizes.{blockSize}
 use Rattle.byte_parts.specs.Word.{wordAt, wordBytes}
 use Rattle.rule_purse.specs.declared.fields.PurseOperation.{PurseOperation}
 use Rattle.service_code.specs.declared.limit.Limit.{Limit}
@@ -19,7 +20,7 @@ purseDataOf s = record { purse = wordAt s 0; cashback = wordAt s 4; id = wordAt 
 -- the block to store: stored bytes 8-11 are kept, 12-15 come from the command
 unfoldable pub blockOf : List ℕ → List ℕ → PurseWrite → Outcome
 blockOf s c Unchanged = passed s
-blockOf s c Whole = passed (put s 0 16 c)
+blockOf s c Whole = passed (put s 0 blockSize c)
 blockOf s c (Stored p k) = passed (put (put (put s 0 4 (wordBytes p)) 4 4 (wordBytes k)) 12 4 (drop 12 c))
 blockOf s c (Failed f) = failed f
 

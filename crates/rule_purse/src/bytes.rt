@@ -1,21 +1,23 @@
-// The purse rule on a block's sixteen bytes.
+// The purse rule on a block's bytes, in place: purse in bytes 0 to 3, cashback in 4 to 7, execution id in 12 to 15, low byte first.
 use crate::fields::PurseData;
 use crate::fields::PurseOperation;
 use crate::fields::PurseWrite;
 use crate::fields::purse_write;
 use answers::status::Written;
+use byte_parts::sizes::BLOCK_SIZE;
 use byte_parts::spans;
 use byte_parts::word;
 use service_code::limit::Limit;
 ghost use mathlib.Core.Path.{_≡_};
 ghost use Prim.Native.Nat.{_≤_};
 ghost use lib.ListN.{length};
+ghost use Rattle.byte_parts.specs.Sizes.{blockSize};
 ghost use Rattle.answers.specs.Outcome.{writtenOf, bytesAfter};
 ghost use Rattle.rule_purse.specs.Bytes.{purseDataOf, purseOf};
 
-// The fields of a block.
+// Reads the fields of a block.
 fn purse_data(block: &[u8]) -> PurseData
-    requires { ⌜ 16 ≤ length (now block) ⌝ }
+    requires { ⌜ blockSize ≤ length (now block) ⌝ }
     ensures { λ r. ⌜ r ≡ purseDataOf (now (block .entry)) ⌝ }
 {
     PurseData {
@@ -25,14 +27,14 @@ fn purse_data(block: &[u8]) -> PurseData
     }
 }
 
-// The same rule on a block's sixteen bytes, in place.
+// Carries a purse write out on `block`, with the fields of `command`. Bytes 8 to 11 are the user's own: only a direct write touches them.
 pub fn apply_purse_write(
     block: &mut [u8],
     command: &[u8],
     operation: PurseOperation,
     limit: Limit,
 ) -> Written
-    requires { ⌜ (16 ≤ length (now block)) × (16 ≤ length (now command)) ⌝ }
+    requires { ⌜ (blockSize ≤ length (now block)) × (blockSize ≤ length (now command)) ⌝ }
     ensures { λ r. ⌜ r ≡ writtenOf (purseOf operation limit (now (block .entry)) (now (command .entry))) ⌝ }
     ensures { λ r. ⌜ now (block .exit) ≡ bytesAfter (now (block .entry)) (purseOf operation limit (now (block .entry)) (now (command .entry))) ⌝ }
 {
@@ -41,7 +43,7 @@ pub fn apply_purse_write(
     match purse_write(operation, limit, stored, asked) {
         PurseWrite::Unchanged => Written::Done,
         PurseWrite::Whole => {
-            spans::copy(block, 0, command, 0, 16);
+            spans::copy(block, 0, command, 0, BLOCK_SIZE);
             Written::Done
         }
         PurseWrite::Stored { purse, cashback } => {

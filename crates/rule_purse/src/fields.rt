@@ -1,4 +1,5 @@
-// The purse rule on a block's fields: a stored value that is lowered, given back, or written outright.
+// The purse rule on a block's fields (`blocks.rs` of the Rust): a stored value is lowered, raised by what was taken last, or written
+// outright. Fields have a sign where the service has a limit, so few functions meet signed numbers; the rest go by bits and answers.
 use answers::status::Fault;
 use byte_parts::word;
 use service_code::limit::Limit;
@@ -7,23 +8,24 @@ ghost use mathlib.Core.Bool.{true};
 ghost use Prim.Native.Nat.{_<_, _^_};
 ghost use lib.IntN.{pos, _+ℤ_, _-ℤ_};
 ghost use lib.Signed.{mag, ltZ};
-ghost use Rattle.rule_purse.specs.Purse.{valueOf, insideOf, outsideOf, sumOf, purseRule};
+ghost use Rattle.rule_purse.specs.Purse.{valueOf, insideOf, outsideOf, sumOf, storedOf, purseRule};
 
-// What a write to a purse block does, by the service's attribute and the access mode.
+// What a write to a purse block does; the service's attribute and the access mode say which.
 pub enum PurseOperation {
     Direct,
     Decrement,
     Cashback,
 }
 
-// The fields of a block that the rule reads: purse, cashback, execution id.
+// The fields of a block that the rule reads: the purse, the cashback (what was taken from the purse last), the execution id.
+// In a command the purse is the amount.
 pub struct PurseData {
     pub purse: u32,
     pub cashback: u32,
     pub id: u32,
 }
 
-// What becomes of a block: left as it is, replaced whole, two of its fields replaced; or the write fails.
+// What becomes of a block: it stays, it is replaced whole, two of its fields are replaced; or the write fails.
 pub enum PurseWrite {
     Unchanged,
     Whole,
@@ -31,13 +33,13 @@ pub enum PurseWrite {
     Failed(Fault),
 }
 
-// A sum or a difference as its 32 bits, or outside the range.
+// A sum or a difference: its 32 bits if it is in range, else that it is outside.
 enum Sum {
     Inside(u32),
     Outside,
 }
 
-// What a field stands for: with a sign if the service has limits.
+// Gives what the bits `raw` of a field stand for: with a sign if the service has a limit, else without.
 fn value(limit: Limit, raw: u32) -> i64
     ensures { λ r. ⌜ (r ≡ valueOf limit raw) × (mag r < 2 ^ 32) ⌝ }
 {
@@ -51,7 +53,7 @@ fn value(limit: Limit, raw: u32) -> i64
     }
 }
 
-// Whether a purse may hold a value.
+// Tells whether a purse may hold v: lower to upper, or 0 to the most that four bytes hold, ends included.
 fn inside(limit: Limit, v: i64) -> bool
     ensures { λ r. ⌜ (r ≡ insideOf limit v) × (r ≡ true → mag v < 2 ^ 32) ⌝ }
 {
@@ -75,7 +77,7 @@ fn inside(limit: Limit, v: i64) -> bool
     }
 }
 
-// The fault of a value outside the range.
+// Gives the fault of a value outside the range: 03 with a limit, 01 without.
 fn outside(limit: Limit) -> Fault
     ensures { λ r. ⌜ r ≡ outsideOf limit ⌝ }
 {
@@ -89,7 +91,7 @@ fn outside(limit: Limit) -> Fault
     }
 }
 
-// Whether one field is below another.
+// Tells whether field a is below field b.
 fn below(limit: Limit, a: u32, b: u32) -> bool
     ensures { λ r. ⌜ r ≡ ltZ (valueOf limit a) (valueOf limit b) ⌝ }
 {
@@ -98,7 +100,7 @@ fn below(limit: Limit, a: u32, b: u32) -> bool
     x < y
 }
 
-// Whether two fields add up to more than four bytes hold.
+// Tells whether fields a and b add up to more than four bytes hold, limit or not.
 fn over(limit: Limit, a: u32, b: u32) -> bool
     ensures { λ r. ⌜ r ≡ ltZ (pos 4294967295) (valueOf limit a +ℤ valueOf limit b) ⌝ }
 {
@@ -107,7 +109,7 @@ fn over(limit: Limit, a: u32, b: u32) -> bool
     0xffff_ffff < x + y
 }
 
-// A value as its 32 bits, if a purse may hold it.
+// Gives v as its 32 bits, if a purse may hold it.
 fn ranged(limit: Limit, v: i64) -> Sum
     ensures { λ r. ⌜ r ≡ sumOf limit v ⌝ }
 {
@@ -118,7 +120,7 @@ fn ranged(limit: Limit, v: i64) -> Sum
     }
 }
 
-// One field more than another.
+// Adds field b to field a.
 fn more(limit: Limit, a: u32, b: u32) -> Sum
     ensures { λ r. ⌜ r ≡ sumOf limit (valueOf limit a +ℤ valueOf limit b) ⌝ }
 {
@@ -127,7 +129,7 @@ fn more(limit: Limit, a: u32, b: u32) -> Sum
     ranged(limit, x + y)
 }
 
-// One field less another.
+// Takes field b from field a.
 fn less(limit: Limit, a: u32, b: u32) -> Sum
     ensures { λ r. ⌜ r ≡ sumOf limit (valueOf limit a -ℤ valueOf limit b) ⌝ }
 {
@@ -136,14 +138,25 @@ fn less(limit: Limit, a: u32, b: u32) -> Sum
     ranged(limit, x - y)
 }
 
-// Whether a purse may hold a field.
+// Tells whether a purse may hold field a.
 fn fits(limit: Limit, a: u32) -> bool
     ensures { λ r. ⌜ r ≡ insideOf limit (valueOf limit a) ⌝ }
 {
     inside(limit, value(limit, a))
 }
 
-// A direct write: the whole block, but neither purse nor cashback may rise.
+// Stores a sum in range as the new purse, with a new cashback; a sum that is outside fails.
+fn stored_of(limit: Limit, cashback: u32, sum: Sum) -> PurseWrite
+    ensures { λ r. ⌜ r ≡ storedOf limit cashback sum ⌝ }
+{
+    match sum {
+        Sum::Inside(purse) => PurseWrite::Stored { purse, cashback },
+        Sum::Outside => PurseWrite::Failed(outside(limit)),
+    }
+}
+
+// Writes outright: the whole block is replaced, but neither purse nor cashback may rise, nor may what could be given back exceed four
+// bytes. The new purse has to be in range, which is tested last.
 fn direct(limit: Limit, stored: PurseData, command: PurseData) -> PurseWrite
     ensures { λ r. ⌜ r ≡ purseRule PurseOperation.Direct limit stored command ⌝ }
 {
@@ -163,39 +176,36 @@ fn direct(limit: Limit, stored: PurseData, command: PurseData) -> PurseWrite
     }
 }
 
-// A decrement: the amount leaves the purse and becomes the cashback.
+// Decrements: the amount leaves the purse and becomes the cashback. A command that was carried out already, as its execution id says,
+// changes nothing, ahead of any test of the amount: so a terminal may send it again.
 fn decrement(limit: Limit, stored: PurseData, command: PurseData) -> PurseWrite
     ensures { λ r. ⌜ r ≡ purseRule PurseOperation.Decrement limit stored command ⌝ }
 {
     if command.id == stored.id {
         return PurseWrite::Unchanged;
     }
-    match less(limit, stored.purse, command.purse) {
-        Sum::Inside(purse) => PurseWrite::Stored {
-            purse,
-            cashback: command.purse,
-        },
-        Sum::Outside => PurseWrite::Failed(outside(limit)),
-    }
+    stored_of(
+        limit,
+        command.purse,
+        less(limit, stored.purse, command.purse),
+    )
 }
 
-// A cashback: an amount up to the stored cashback goes back into the purse.
-fn cashback(limit: Limit, stored: PurseData, command: PurseData) -> PurseWrite
-    ensures { λ r. ⌜ r ≡ purseRule PurseOperation.Cashback limit stored command ⌝ }
+// Gives back: an amount up to the cashback that is held returns to the purse, and nothing is held any more. A command that was carried
+// out already changes nothing, as with a decrement.
+fn cashback(limit: Limit, held: PurseData, command: PurseData) -> PurseWrite
+    ensures { λ r. ⌜ r ≡ purseRule PurseOperation.Cashback limit held command ⌝ }
 {
-    if command.id == stored.id {
+    if command.id == held.id {
         return PurseWrite::Unchanged;
     }
-    if below(limit, stored.cashback, command.purse) {
+    if below(limit, held.cashback, command.purse) {
         return PurseWrite::Failed(Fault::CashbackExceeds);
     }
-    match more(limit, stored.purse, command.purse) {
-        Sum::Inside(purse) => PurseWrite::Stored { purse, cashback: 0 },
-        Sum::Outside => PurseWrite::Failed(outside(limit)),
-    }
+    stored_of(limit, 0, more(limit, held.purse, command.purse))
 }
 
-// What a write makes of a purse block, on the blocks' fields.
+// Decides what a write makes of a purse block, from the fields of the block and of the command.
 pub fn purse_write(
     operation: PurseOperation,
     limit: Limit,

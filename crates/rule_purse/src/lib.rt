@@ -1,4 +1,3 @@
-// What the rules of `blocks.rs` of the Rust share: how one ended, and the purse rule on a block's fields.
-// The purse rule on a block's sixteen bytes.
+// What a write makes of a purse block: the rule on the block's fields, and on its bytes.
 pub mod bytes;
 pub mod fields;

@@ -39,17 +39,36 @@ decodedOf attribute = tableOf (attribute % 64 / 2 * 2)
 unfoldable pub attributeOf : ℕ → Decoded
 attributeOf code = decodedOf (attributesOf code)
 
--- section 3.4: the kinds of service
-abbrev pub kindOf : ServiceAttribute → ServiceKind
-kindOf RandomReadWrite = Random
-kindOf RandomReadOnly = Random
-kindOf CyclicReadWrite = Cyclic
-kindOf CyclicReadOnly = Cyclic
-kindOf PurseDirect = Purse
-kindOf PurseCashback = Purse
-kindOf PurseDecrement = Purse
-kindOf PurseReadOnly = Purse
+-- what an attribute says of its service: of what kind it is, whether it is ever written, whether mode 1 (cashback) is accepted
+pub record Rights : Type 0 where
+  pub kind : ServiceKind
+  pub write : Bool
+  pub cashback : Bool
 
+abbrev pub rights : ServiceKind → Bool → Bool → Rights
+rights kind write cashback = record { kind = kind; write = write; cashback = cashback }
+
+-- tables 3-3, 3-4 and 3-6: a read-only service is never written, and cashback is for the one purse attribute that has it
+abbrev pub rightsOf : ServiceAttribute → Rights
+rightsOf RandomReadWrite = rights Random true false
+rightsOf RandomReadOnly = rights Random false false
+rightsOf CyclicReadWrite = rights Cyclic true false
+rightsOf CyclicReadOnly = rights Cyclic false false
+rightsOf PurseDirect = rights Purse true false
+rightsOf PurseCashback = rights Purse true true
+rightsOf PurseDecrement = rights Purse true false
+rightsOf PurseReadOnly = rights Purse false false
+
+abbrev pub kindOf : ServiceAttribute → ServiceKind
+kindOf a = rightsOf a .kind
+
+abbrev pub allowsWrite : ServiceAttribute → Bool
+allowsWrite a = rightsOf a .write
+
+abbrev pub allowsCashback : ServiceAttribute → Bool
+allowsCashback a = rightsOf a .cashback
+
+-- the kind of a code whose attribute is defined
 abbrev pub decodedKindOf : Decoded → DecodedKind
 decodedKindOf (Defined a) = OfKind (kindOf a)
 decodedKindOf Undefined = NoKind
@@ -60,25 +79,3 @@ codeKindOf code = decodedKindOf (attributeOf code)
 -- table 3-2: lowest bit 0 means that the service needs a key
 unfoldable pub requiresKey : ℕ → Bool
 requiresKey code = eqb (code % 2) 0
-
--- tables 3-3, 3-4 and 3-6: a read-only service is never written
-abbrev pub allowsWrite : ServiceAttribute → Bool
-allowsWrite RandomReadWrite = true
-allowsWrite RandomReadOnly = false
-allowsWrite CyclicReadWrite = true
-allowsWrite CyclicReadOnly = false
-allowsWrite PurseDirect = true
-allowsWrite PurseCashback = true
-allowsWrite PurseDecrement = true
-allowsWrite PurseReadOnly = false
-
--- table 3-6: cashback is for the one purse attribute that has it
-abbrev pub allowsCashback : ServiceAttribute → Bool
-allowsCashback RandomReadWrite = false
-allowsCashback RandomReadOnly = false
-allowsCashback CyclicReadWrite = false
-allowsCashback CyclicReadOnly = false
-allowsCashback PurseDirect = false
-allowsCashback PurseCashback = true
-allowsCashback PurseDecrement = false
-allowsCashback PurseReadOnly = false

@@ -1,15 +1,16 @@
-// Service codes: a number, and an attribute that says what the service is for.
+// Service codes (`types.rs` of the Rust): a number, which services share where they share a store, and an attribute, which says what
+// a service is for and whether it needs a key.
 ghost use mathlib.Core.Path.{_≡_};
 ghost use Rattle.service_code.specs.Code.{numberOf, attributesOf, decodedOf, attributeOf, kindOf, codeKindOf, requiresKey, allowsWrite, allowsCashback};
 
-// The three kinds of service, each with its own rule for a write.
+// The kinds of service, each with its own rule for a write.
 pub enum ServiceKind {
     Random,
     Cyclic,
     Purse,
 }
 
-// What a service is for. Whether it needs a key is said by the code.
+// What a service is for. Whether it needs a key is said by the code's lowest bit, not here.
 pub enum ServiceAttribute {
     RandomReadWrite,
     RandomReadOnly,
@@ -21,20 +22,20 @@ pub enum ServiceAttribute {
     PurseReadOnly,
 }
 
-// The attribute that six bits stand for, or that they stand for none.
+// What six bits stand for: an attribute, or none.
 pub enum Decoded {
     Defined(ServiceAttribute),
     Undefined,
 }
 
-// The same for a kind.
+// What a code says of its kind: one, or none where its attribute is undefined.
 pub enum DecodedKind {
     Defined(ServiceKind),
     Undefined,
 }
 
 impl ServiceAttribute {
-    // The attribute that six bits stand for, their lowest left aside.
+    // Gives what the low six bits of `attribute` stand for. Their lowest says whether a key is needed, and is left aside.
     pub fn from_attribute_bits(attribute: u8) -> Decoded
         ensures { λ r. ⌜ r ≡ decodedOf attribute ⌝ }
     {
@@ -51,81 +52,68 @@ impl ServiceAttribute {
         }
     }
 
-    // The kind of service that an attribute belongs to.
+    // Gives the kind of service that an attribute belongs to.
     pub fn kind(self) -> ServiceKind
         ensures { λ r. ⌜ r ≡ kindOf self ⌝ }
     {
         match self {
-            ServiceAttribute::RandomReadWrite => ServiceKind::Random,
-            ServiceAttribute::RandomReadOnly => ServiceKind::Random,
-            ServiceAttribute::CyclicReadWrite => ServiceKind::Cyclic,
-            ServiceAttribute::CyclicReadOnly => ServiceKind::Cyclic,
-            ServiceAttribute::PurseDirect => ServiceKind::Purse,
-            ServiceAttribute::PurseCashback => ServiceKind::Purse,
-            ServiceAttribute::PurseDecrement => ServiceKind::Purse,
-            ServiceAttribute::PurseReadOnly => ServiceKind::Purse,
+            ServiceAttribute::RandomReadWrite | ServiceAttribute::RandomReadOnly =>
+                ServiceKind::Random,
+            ServiceAttribute::CyclicReadWrite | ServiceAttribute::CyclicReadOnly =>
+                ServiceKind::Cyclic,
+            _ => ServiceKind::Purse,
         }
     }
 
-    // Whether blocks may be written at all.
+    // Tells whether a service with this attribute is ever written: a read-only one is not.
     pub fn allows_write(self) -> bool
         ensures { λ r. ⌜ r ≡ allowsWrite self ⌝ }
     {
         match self {
-            ServiceAttribute::RandomReadWrite => true,
-            ServiceAttribute::RandomReadOnly => false,
-            ServiceAttribute::CyclicReadWrite => true,
-            ServiceAttribute::CyclicReadOnly => false,
-            ServiceAttribute::PurseDirect => true,
-            ServiceAttribute::PurseCashback => true,
-            ServiceAttribute::PurseDecrement => true,
-            ServiceAttribute::PurseReadOnly => false,
+            ServiceAttribute::RandomReadOnly
+            | ServiceAttribute::CyclicReadOnly
+            | ServiceAttribute::PurseReadOnly => false,
+            _ => true,
         }
     }
 
-    // Whether access mode 1, cashback, is accepted.
+    // Tells whether a write in access mode 1, cashback, is accepted: one purse attribute alone has it.
     pub fn allows_cashback(self) -> bool
         ensures { λ r. ⌜ r ≡ allowsCashback self ⌝ }
     {
         match self {
-            ServiceAttribute::RandomReadWrite => false,
-            ServiceAttribute::RandomReadOnly => false,
-            ServiceAttribute::CyclicReadWrite => false,
-            ServiceAttribute::CyclicReadOnly => false,
-            ServiceAttribute::PurseDirect => false,
             ServiceAttribute::PurseCashback => true,
-            ServiceAttribute::PurseDecrement => false,
-            ServiceAttribute::PurseReadOnly => false,
+            _ => false,
         }
     }
 }
 
-// A service code of 16 bits.
+// A service code, of 16 bits.
 pub struct ServiceCode(pub u16);
 
 impl ServiceCode {
-    // The service number: the upper ten bits.
+    // Gives the service number: the code's upper ten bits.
     pub fn number(self) -> u16
         ensures { λ r. ⌜ r ≡ numberOf (self .0) ⌝ }
     {
         self.0 / 64
     }
 
-    // The attribute as its six bits.
+    // Gives the attribute's bits: the code's low six.
     pub fn attributes(self) -> u8
         ensures { λ r. ⌜ r ≡ attributesOf (self .0) ⌝ }
     {
         (self.0 % 64) as u8
     }
 
-    // The attribute that the six bits stand for.
+    // Gives the attribute that those six bits stand for.
     pub fn attribute(self) -> Decoded
         ensures { λ r. ⌜ r ≡ attributeOf (self .0) ⌝ }
     {
         ServiceAttribute::from_attribute_bits(self.attributes())
     }
 
-    // The kind of service.
+    // Gives the kind of service, none where the attribute is undefined.
     pub fn kind(self) -> DecodedKind
         ensures { λ r. ⌜ r ≡ codeKindOf (self .0) ⌝ }
     {
@@ -135,7 +123,7 @@ impl ServiceCode {
         }
     }
 
-    // Whether the service needs a key.
+    // Tells whether a service needs a key: its lowest bit is 0. Of an area's code and of FFFF this says nothing; they always need one.
     pub fn requires_key(self) -> bool
         ensures { λ r. ⌜ r ≡ requiresKey (self .0) ⌝ }
     {

@@ -1,3 +1,3 @@
-// What a service is: what its code says (`types.rs` of the Rust), and the limit that it may carry.
+// What a service is: what its code says, and the limit that it may carry.
 pub mod code;
 pub mod limit;

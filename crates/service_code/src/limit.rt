@@ -1,6 +1,6 @@
-// A service's purse limit, which a card holds and the purse rule goes by.
+// The limit of a purse. It stands beside the codes since a card keeps one with any service, whatever the purse rule makes of it.
 
-// The limits of a purse service, if it has any.
+// The bounds that a service sets its purse, both included, with the number of the setting; or none.
 pub enum Limit {
     Unlimited,
     Limited {

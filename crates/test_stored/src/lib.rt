@@ -1,4 +1,5 @@
 // Stored answers: the lines of the files 0001.in, 0002.in, .. of the folder that a program runs in, and the hex in them.
+use bytes::scan;
 use text_numbers::codes::Code;
 use text_numbers::codes::read_hex16;
 ghost use mathlib.Core.Path.{_≡_};
@@ -109,7 +110,7 @@ fn end_of(text: &[u8], from: usize) -> usize
     requires { ⌜ from ≤ length (now text) ⌝ }
     ensures { λ r. ⌜ (from ≤ r) × (r ≤ length (now (text .entry))) ⌝ }
 {
-    text_fields::field_end(text, from, b'\n')
+    scan::find(text, from, text.len(), b'\n')
 }
 
 // The line of a text that starts at an index.

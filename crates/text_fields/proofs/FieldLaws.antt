@@ -1,15 +1,16 @@
--- Laws of fields: where one ends, how many there are, what they hold. Assumes nothing.
+-- Laws of fields: how many there are, where one ends, what they hold. Assumes nothing.
 use Prim.Native.Nat.{ℕ, zero, suc, _+_, _-_, _≤_, _<_}
 use native.Mathlib.Omega.{arith}
 use native.Mathlib.Decide.{ℕ-discrete}
-use mathlib.Core.Path.{_≡_, refl, ap}
+use mathlib.Core.Path.{_≡_, refl, ap, _∙_}
 use mathlib.Core.Logic.{_⊎_, inl, inr, ⊎-elim}
 use mathlib.Core.List.{List, [], _∷_}
 use lib.ListN.{length, getD, take, drop, length-drop, drop-of-length-le}
-use lib.Seq.{getD-drop, drop-drop, length-take-le, take-all}
+use lib.Seq.{drop-drop, take-all, take-length}
 use borrow.Author.Tests.{eq-eqb, ne-eqb}
 use Rattle.byte_parts.proofs.Part.{here}
-use Rattle.text_fields.specs.Field.{onto, split, fieldEnd}
+use Rattle.bytes.specs.Bytes.{indexAfter, indexOf, slice}
+use Rattle.text_fields.specs.Field.{onto, split}
 
 -- A byte ahead stands in the first field.
 onto-first : (x : ℕ) (fs : List (List ℕ)) → getD (onto x fs) 0 [] ≡ x ∷ getD fs 0 []
@@ -37,21 +38,6 @@ split-some b (x ∷ s) =
     ]
 
 module _ (b : ℕ) (s : List ℕ) (i : ℕ) where
-  -- A field that starts at a separator ends there.
-  pub end-here : i < length s → getD s i 0 ≡ b → fieldEnd b i s ≡ i
-  unfolding fieldEnd split
-  end-here h e = rw (here s i h, eq-eqb _ _ e) (omega arith)
-
-  -- One that starts at another byte ends where one ends that starts after it.
-  pub end-next : i < length s → (getD s i 0 ≡ b → ⊥) → fieldEnd b i s ≡ fieldEnd b (i + 1) s
-  unfolding fieldEnd split
-  end-next h e = rw (here s i h, ne-eqb _ _ e, onto-first (getD s i 0) (split b (drop (i + 1) s))) (omega arith)
-
-  -- Past the end a field ends where it starts.
-  pub end-past : length s ≤ i → fieldEnd b i s ≡ i
-  unfolding fieldEnd split
-  end-past h = rw (drop-of-length-le s h) (omega arith)
-
   -- At a separator another field ends.
   pub count-here : i < length s → getD s i 0 ≡ b → length (split b (drop i s)) ≡ 1 + length (split b (drop (i + 1) s))
   unfolding split
@@ -69,79 +55,56 @@ module _ (b : ℕ) (s : List ℕ) (i : ℕ) where
   unfolding split
   count-end h = rw (drop-of-length-le s h)
 
--- There is one field alone, or a separator at k ends the first and the others are those of the rest.
+-- The first separator, if there is one, ends the first field, and the others are those of the rest; else there is one field alone.
 pub split-cut
     : (b : ℕ) (s : List ℕ)
-    → (split b s ≡ s ∷ [])
-    ⊎ ((k : ℕ) × (k < length s) × (getD s k 0 ≡ b) × (split b s ≡ take k s ∷ split b (drop (suc k) s)))
-unfolding split
-split-cut b [] = inl refl
+    → ((indexOf b s ≡ length s) × (split b s ≡ s ∷ []))
+    ⊎ ((indexOf b s < length s) × (getD s (indexOf b s) 0 ≡ b) × (split b s ≡ take (indexOf b s) s ∷ split b (drop (suc (indexOf b s)) s)))
+unfolding split indexOf indexAfter
+split-cut b [] = inl (refl, refl)
 split-cut b (x ∷ s) =
     elim (ℕ-discrete x b) [
-      | yes e ↦ rw (eq-eqb x b e) (inr (0, omega arith, e, refl))
+      | yes e ↦ rw (eq-eqb x b e) (inr (omega arith, e, refl))
       | no e ↦
           rw (ne-eqb x b e)
           (⊎-elim
-          (λ w. inl (ap (onto x) w))
-          (λ w. inr (suc (w .0), omega (arith, w .1), w .2, ap (onto x) (w .3)))
+          (λ w. inl (ap suc (w .0), ap (onto x) (w .1)))
+          (λ w. inr (omega (arith, w .0), w .1, ap (onto x) (w .2)))
           (split-cut b s))
     ]
 
-module _ (b from : ℕ) (s : List ℕ) where
-  -- A field ends no sooner than it starts.
-  pub end-from : from ≤ fieldEnd b from s
-  unfolding fieldEnd
-  end-from = omega arith
-
-  -- A field ends after its own bytes.
-  end-long : (f : List ℕ) (fs : List (List ℕ)) → split b (drop from s) ≡ f ∷ fs → fieldEnd b from s ≡ from + length f
-  unfolding fieldEnd
-  end-long f fs e = rw e
-
-  -- The field at a place is the last one, or a separator ends it and the next one starts after that.
-  pub end-cut
-      : from ≤ length s
-      → ((fieldEnd b from s ≡ length s) × (split b (drop from s) ≡ drop from s ∷ []))
-      ⊎ ((fieldEnd b from s < length s)
-      × (getD s (fieldEnd b from s) 0 ≡ b)
-      × (split b (drop from s) ≡ take (fieldEnd b from s - from) (drop from s) ∷ split b (drop (fieldEnd b from s + 1) s)))
-  end-cut h =
+-- `end` is where a search for the separator from a place on ended.
+module _ (b from : ℕ) (s : List ℕ) (h : from ≤ length s) (end : ℕ) (e : end ≡ from + indexOf b (slice from (length s) s)) where
+  -- The field at that place is the last one and goes to the end, or the next one starts after `end`.
+  end-cut
+      : ((end ≡ length s) × (split b (drop from s) ≡ drop from s ∷ []))
+      ⊎ ((end < length s) × (split b (drop from s) ≡ take (end - from) (drop from s) ∷ split b (drop (end + 1) s)))
+  unfolding slice
+  end-cut =
+      let f : end ≡ from + indexOf b (drop from s) = e ∙ rw (take-length s) in
       let n = length-drop from s in
+      let m : indexOf b (drop from s) ≡ end - from = omega arith in
+      let o : from + suc (end - from) ≡ end + 1 = omega arith in
       ⊎-elim
-      (λ w. let e = end-long (drop from s) [] w in inl (omega arith, w))
-      (λ w.
-      let k = w .0 in
-      let l = length-take-le k (drop from s) (omega arith) in
-      let e : fieldEnd b from s ≡ from + k = omega (arith, l, end-long (take k (drop from s)) (split b (drop (suc k) (drop from s))) (w .3)) in
-      let m : fieldEnd b from s - from ≡ k = omega arith in
-      let o : fieldEnd b from s + 1 ≡ from + suc k = omega arith in
-      inr (omega arith, rw (e, ← getD-drop from s k 0) (w .2), rw (m, o, ← drop-drop (suc k) from s) (w .3)))
+      (λ w. inl (omega arith, w .1))
+      (λ w. inr (omega arith, rw (m, drop-drop (suc (end - from)) from s, o) at (w .2)))
       (split-cut b (drop from s))
 
-  -- It ends within the text.
-  pub end-bound : from ≤ length s → fieldEnd b from s ≤ length s
-  end-bound h = ⊎-elim (λ w. omega arith) (λ w. omega arith) (end-cut h)
-
-  -- The field at a place is the part from there to its end.
-  pub field-here : from ≤ length s → take (fieldEnd b from s - from) (drop from s) ≡ getD (split b (drop from s)) 0 []
-  field-here h =
+  -- The field at the place is the part from there to `end`.
+  pub field-here : take (end - from) (drop from s) ≡ getD (split b (drop from s)) 0 []
+  field-here =
       let n = length-drop from s in
-      ⊎-elim
-      (λ w. rw (w .1) (take-all (fieldEnd b from s - from) (drop from s) (omega arith)))
-      (λ w. rw (w .2))
-      (end-cut h)
+      ⊎-elim (λ w. rw (w .1) (take-all (end - from) (drop from s) (omega arith))) (λ w. rw (w .1)) end-cut
 
-  -- After the last one there is none.
-  pub field-none
-      : (k : ℕ) → from ≤ length s → length s ≤ fieldEnd b from s → 0 < k → getD (split b (drop from s)) k [] ≡ []
-  field-none zero h g z = absurd (omega arith)
-  field-none (suc k) h g z = ⊎-elim (λ w. rw (w .1)) (λ w. absurd (omega arith)) (end-cut h)
+  -- After the last field there is none.
+  pub field-none : (k : ℕ) → length s ≤ end → 0 < k → getD (split b (drop from s)) k [] ≡ []
+  field-none zero g z = absurd (omega arith)
+  field-none (suc k) g z = ⊎-elim (λ w. rw (w .1)) (λ w. absurd (omega arith)) end-cut
 
   -- After another the fields are those of the rest.
   pub field-next
-      : (k : ℕ) → from ≤ length s → fieldEnd b from s < length s
-      → getD (split b (drop from s)) (suc k) [] ≡ getD (split b (drop (fieldEnd b from s + 1) s)) k []
-  field-next k h g = ⊎-elim (λ w. absurd (omega arith)) (λ w. rw (w .2)) (end-cut h)
+      : (k : ℕ) → end < length s → getD (split b (drop from s)) (suc k) [] ≡ getD (split b (drop (end + 1) s)) k []
+  field-next k g = ⊎-elim (λ w. absurd (omega arith)) (λ w. rw (w .1)) end-cut
 
 -- A text without a separator.
 abbrev pub Bare : ℕ → List ℕ → Type 0
@@ -149,7 +112,7 @@ Bare b s = (i : ℕ) → i < length s → getD s i 0 ≡ b → ⊥
 
 -- It is one field.
 pub split-bare : (b : ℕ) (s : List ℕ) → Bare b s → split b s ≡ s ∷ []
-split-bare b s h = ⊎-elim (λ w. w) (λ w. absurd (h (w .0) (w .1) (w .2))) (split-cut b s)
+split-bare b s h = ⊎-elim (λ w. w .1) (λ w. absurd (h (indexOf b s) (w .0) (w .1))) (split-cut b s)
 
 -- A byte that is no separator ahead of a text without one.
 bare-cons : (b x : ℕ) (s : List ℕ) → (x ≡ b → ⊥) → Bare b s → Bare b (x ∷ s)

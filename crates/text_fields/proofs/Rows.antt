@@ -2,9 +2,9 @@
 use mathlib.Core.Path.{_≡_, refl}
 use mathlib.Core.List.{[], _∷_}
 use lib.ListN.{length, getD}
-use Rattle.text_fields.specs.Field.{split, fieldEnd}
+use Rattle.text_fields.specs.Field.{split}
 
--- Fields of `R`, tab, tab, `-`: there are three, the second is empty, the first ends at 1. Nothing is one empty field.
+-- Fields of `R`, tab, tab, `-`: there are three, the second is empty. Nothing is one empty field.
 pub field-rows
     : (split 9 (82 ∷ 9 ∷ 9 ∷ 45 ∷ []) ≡ (82 ∷ []) ∷ [] ∷ (45 ∷ []) ∷ [])
     × (length (split 9 (82 ∷ 9 ∷ 9 ∷ 45 ∷ [])) ≡ 3)
@@ -12,8 +12,5 @@ pub field-rows
     × (getD (split 9 (82 ∷ 9 ∷ 9 ∷ 45 ∷ [])) 3 [] ≡ [])
     × (split 9 (9 ∷ []) ≡ [] ∷ [] ∷ [])
     × (split 9 [] ≡ [] ∷ [])
-    × (fieldEnd 9 0 (82 ∷ 9 ∷ 9 ∷ 45 ∷ []) ≡ 1)
-    × (fieldEnd 9 2 (82 ∷ 9 ∷ 9 ∷ 45 ∷ []) ≡ 2)
-    × (fieldEnd 9 3 (82 ∷ 9 ∷ 9 ∷ 45 ∷ []) ≡ 4)
-unfolding split fieldEnd
-field-rows = (refl, refl, refl, refl, refl, refl, refl, refl, refl)
+unfolding split
+field-rows = (refl, refl, refl, refl, refl, refl)

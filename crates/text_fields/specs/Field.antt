@@ -1,9 +1,8 @@
--- The fields of a text. Assumes nothing.
-use Prim.Native.Nat.{ℕ, _+_}
+-- The fields of a line. Assumes nothing.
+use Prim.Native.Nat.{ℕ}
 use mathlib.Core.Bool.{cond}
 use mathlib.Core.List.{List, [], _∷_}
 use lib.Dec.{eqb}
-use lib.ListN.{length, getD, drop}
 
 -- a byte ahead of the first field
 abbrev pub onto : ℕ → List (List ℕ) → List (List ℕ)
@@ -14,7 +13,3 @@ onto x (f ∷ fs) = (x ∷ f) ∷ fs
 unfoldable pub split : ℕ → List ℕ → List (List ℕ)
 split separator [] = [] ∷ []
 split separator (x ∷ s) = cond (eqb x separator) ([] ∷ split separator s) (onto x (split separator s))
-
--- the end of the field that starts at a place: that of the first field of the rest
-unfoldable pub fieldEnd : ℕ → ℕ → List ℕ → ℕ
-fieldEnd separator from s = from + length (getD (split separator (drop from s)) 0 [])

@@ -1,4 +1,4 @@
-// Codes in hex: one, or several joined.
+// Codes and versions in hex: four digits, of either case, high byte first. Several codes stand joined, and `-` stands for none.
 use crate::digits::are_digits;
 use crate::digits::digit;
 use crate::hex::is_hex_field;
@@ -10,13 +10,13 @@ ghost use Rattle.byte_parts.specs.Part.{put};
 ghost use Rattle.text_numbers.specs.Digit.{digitOf, digits};
 ghost use Rattle.text_numbers.specs.Codes.{hex16, codesField, codesOf};
 
-// A number of 16 bits that was read, or none.
+// What a field was read as: a number of 16 bits, or malformed.
 pub enum Code {
     Is(u16),
     Bad,
 }
 
-// The byte that the two hex digits at an index spell.
+// Gives the byte that the two hex digits of s at i spell.
 fn byte_at(s: &[u8], i: usize) -> u16
     requires { ⌜ (digits 16 (now s) ≡ true) × (i + 1 < length (now s)) ⌝ }
     ensures { λ r. ⌜ (r ≡ digitOf (getD (now (s .entry)) i 0) * 16 + digitOf (getD (now (s .entry)) (i + 1) 0)) × (r < 256) ⌝ }
@@ -24,7 +24,7 @@ fn byte_at(s: &[u8], i: usize) -> u16
     digit(s[i]) as u16 * 16 + digit(s[i + 1]) as u16
 }
 
-// The code number i, from 0, of those that hex digits spell.
+// Gives code number i, from 0, of those that the hex digits of s spell.
 fn code_at(s: &[u8], i: usize) -> u16
     requires { ⌜ (digits 16 (now s) ≡ true) × (i * 4 + 3 < length (now s)) ⌝ }
     ensures { λ r. ⌜ r ≡ getD (codesOf (now (s .entry))) i 0 ⌝ }
@@ -34,7 +34,7 @@ fn code_at(s: &[u8], i: usize) -> u16
     high * 256 + low
 }
 
-// The number that s spells, where s is four hex digits.
+// Reads the number that s spells, if s is four hex digits.
 pub fn read_hex16(s: &[u8]) -> Code
     ensures { λ r. ⌜ r ≡ hex16 (now (s .entry)) ⌝ }
 {
@@ -47,7 +47,7 @@ pub fn read_hex16(s: &[u8]) -> Code
     Code::Is(code_at(s, 0))
 }
 
-// Whether s is joined codes: four hex digits for each, or `-` for none.
+// Tells whether s is joined codes: four hex digits for each, or `-` for none.
 pub fn is_codes(s: &[u8]) -> bool
     ensures { λ r. ⌜ r ≡ codesField (now (s .entry)) ⌝ }
 {

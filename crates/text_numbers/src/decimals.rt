@@ -1,4 +1,5 @@
-// Decimals: no leading zero, and a sign only where the number is negative.
+// Decimals: no leading zero, a sign only where the number is negative, and none that its field's width does not hold. So each number has
+// one spelling, and what is printed reads back.
 use crate::digits::are_digits;
 use crate::digits::digit;
 ghost use mathlib.Core.Path.{_≡_};
@@ -9,19 +10,19 @@ ghost use Rattle.byte_parts.specs.Part.{put};
 ghost use Rattle.text_numbers.specs.Digit.{spelt};
 ghost use Rattle.text_numbers.specs.Decimal.{plain, upTo, decimal, positive, negative, signed, decText};
 
-// A number that was read, or none.
+// What a field was read as: a number, or malformed.
 pub enum Number {
     Is(u32),
     Bad,
 }
 
-// A number with its sign that was read, or none.
+// What a field was read as: a number of either sign, or malformed.
 pub enum Signed {
     Is(i32),
     Bad,
 }
 
-// Whether s is a decimal: digits with no leading zero.
+// Tells whether s is a decimal: one digit or more, the first no 0 unless it stands alone.
 fn is_plain(s: &[u8]) -> bool
     ensures { λ r. ⌜ r ≡ plain (now (s .entry)) ⌝ }
 {
@@ -34,7 +35,8 @@ fn is_plain(s: &[u8]) -> bool
     are_digits(s, 10)
 }
 
-// The number that the digits of s spell, if it is at most `most`.
+// Gives the number that the digits of s spell, if it is at most `most`. It stops at the first digit that exceeds it, so that no text is too
+// long for 64 bits.
 fn value(s: &[u8], most: u32) -> Number
     ensures { λ r. ⌜ r ≡ upTo most (spelt 10 0 (now (s .entry))) ⌝ }
 {
@@ -50,7 +52,7 @@ fn value(s: &[u8], most: u32) -> Number
     Number::Is(n as u32)
 }
 
-// The decimal s, if it is at most `most`.
+// Reads the decimal s; malformed is one above `most`, the most that its field's width holds.
 pub fn read_dec(s: &[u8], most: u32) -> Number
     ensures { λ r. ⌜ r ≡ decimal most (now (s .entry)) ⌝ }
 {
@@ -60,7 +62,7 @@ pub fn read_dec(s: &[u8], most: u32) -> Number
     value(s, most)
 }
 
-// k as a number with a sign.
+// Gives k as a number of 32 bits with a sign.
 fn plus(k: u32) -> i32
     requires { ⌜ k < 2147483648 ⌝ }
     ensures { λ r. ⌜ r ≡ pos k ⌝ }
@@ -68,7 +70,7 @@ fn plus(k: u32) -> i32
     k as i32
 }
 
-// One below the negative of k.
+// Gives one below the negative of k, so that the lowest number of 32 bits is in reach.
 fn minus(k: u32) -> i32
     requires { ⌜ k < 2147483648 ⌝ }
     ensures { λ r. ⌜ r ≡ negsuc k ⌝ }
@@ -76,7 +78,7 @@ fn minus(k: u32) -> i32
     -1 - (k as i32)
 }
 
-// A number without a sign, if 32 bits hold it.
+// Gives what was read without a sign as a number with one, if 32 bits hold it.
 fn positive_of(n: Number) -> Signed
     ensures { λ r. ⌜ r ≡ positive n ⌝ }
 {
@@ -89,7 +91,7 @@ fn positive_of(n: Number) -> Signed
     Signed::Is(plus(k))
 }
 
-// A number after a sign, if it is not 0 and 32 bits hold its negative.
+// Gives the negative of what was read after a sign, if 32 bits hold it. Of 0 there is none: `-0` is malformed.
 fn negative_of(n: Number) -> Signed
     ensures { λ r. ⌜ r ≡ negative n ⌝ }
 {
@@ -105,7 +107,7 @@ fn negative_of(n: Number) -> Signed
     Signed::Is(minus(k - 1))
 }
 
-// The decimal s of 32 bits, whose first byte is `-` where it is negative.
+// Reads the decimal s of 32 bits with a sign, whose first byte is `-` where it is negative. No other sign is read.
 pub fn read_signed(s: &[u8]) -> Signed
     ensures { λ r. ⌜ r ≡ signed (now (s .entry)) ⌝ }
 {

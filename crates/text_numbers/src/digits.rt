@@ -1,8 +1,8 @@
-// Digits, of decimals and of hex.
+// Digits, of decimals and of hex. Hex is read in either case.
 ghost use mathlib.Core.Path.{_≡_};
 ghost use Rattle.text_numbers.specs.Digit.{digitOf, digits};
 
-// What a digit stands for, in either case; 16 for any other byte.
+// Gives what the digit x stands for, in either case; 16, which is no digit of any base here, for any other byte.
 pub fn digit(x: u8) -> u8
     ensures { λ r. ⌜ r ≡ digitOf x ⌝ }
 {
@@ -14,7 +14,7 @@ pub fn digit(x: u8) -> u8
     }
 }
 
-// Whether every byte of s is a digit of the base.
+// Tells whether every byte of s is a digit of the base. Of nothing it says yes; callers test the length.
 pub fn are_digits(s: &[u8], base: u8) -> bool
     ensures { λ r. ⌜ r ≡ digits base (now (s .entry)) ⌝ }
 {

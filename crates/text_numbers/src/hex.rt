@@ -1,4 +1,4 @@
-// Hex, read in either case and printed in capitals.
+// Bytes in hex, two digits each: read in either case, printed in capitals. A field of none is `-`, so that no field is empty.
 use crate::digits::are_digits;
 use crate::digits::digit;
 ghost use mathlib.Core.Path.{_≡_};
@@ -10,7 +10,7 @@ ghost use Rattle.byte_parts.specs.Part.{put};
 ghost use Rattle.text_numbers.specs.Digit.{digitOf};
 ghost use Rattle.text_numbers.specs.Hex.{hexField, unhex, capital, toHex, hexText};
 
-// Whether s is a hex field: `-` for empty, or whole bytes.
+// Tells whether s is a hex field: `-` for no bytes, or whole bytes.
 pub fn is_hex_field(s: &[u8]) -> bool
     ensures { λ r. ⌜ r ≡ hexField (now (s .entry)) ⌝ }
 {
@@ -26,7 +26,7 @@ pub fn is_hex_field(s: &[u8]) -> bool
     are_digits(s, 16)
 }
 
-// The byte that two hex digits spell.
+// Gives the byte that two hex digits spell.
 fn byte(high: u8, low: u8) -> u8
     requires { ⌜ (digitOf high < 16) × (digitOf low < 16) ⌝ }
     ensures { λ r. ⌜ r ≡ digitOf high * 16 + digitOf low ⌝ }
@@ -49,7 +49,7 @@ pub fn put_bytes(s: &[u8], out: &mut [u8], at: usize) -> usize
     at + n
 }
 
-// The capital hex digit of a number below 16.
+// Gives the capital hex digit of d.
 fn capital_of(d: u8) -> u8
     requires { ⌜ d < 16 ⌝ }
     ensures { λ r. ⌜ r ≡ capital d ⌝ }
@@ -83,7 +83,7 @@ fn put_hex(s: &[u8], out: &mut [u8], at: usize) -> usize
     o
 }
 
-// Puts s as a hex field, `-` if it is empty, and answers the place after it.
+// Puts s as a hex field into `out` from `at` on, `-` if s is empty, and answers the place after it.
 pub fn put_hex_field(s: &[u8], out: &mut [u8], at: usize) -> usize
     requires { ⌜ at + length (hexText (now s)) ≤ length (now out) ⌝ }
     ensures { λ r. ⌜ r ≡ at + length (hexText (now (s .entry))) ⌝ }

@@ -1,7 +1,4 @@
-// Digits, of decimals and of hex.
-// Hex, read in either case and printed in capitals.
-// Codes in hex: one, or several joined.
-// Decimals: no leading zero, and a sign only where the number is negative.
+// Numbers in text: digits, bytes in hex, codes, decimals. Each is read to a number or found malformed, and printed in one way.
 pub mod codes;
 pub mod decimals;
 pub mod digits;

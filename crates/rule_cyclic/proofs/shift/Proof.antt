@@ -1,4 +1,4 @@
--- `cyclic::shift` meets its contract: the bytes from i on have moved. Assumes nothing.
+-- `shift` meets its contract: the bytes from i on have moved. Assumes nothing.
 use Prim.Native.Nat.{_-_, _≤_}
 use native.Mathlib.Omega.{arith}
 use native.Mathlib.Nat.{sub-self}

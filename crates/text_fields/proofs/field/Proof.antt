@@ -1,4 +1,4 @@
--- `fields::field` meets its contract: field k of the whole is field k - i of what starts after i fields. Assumes nothing.
+-- `field` meets its contract: field k of the whole is field k - i of what starts after i fields. Assumes nothing.
 use Prim.Native.Nat.{suc, _+_, _-_, _≤_}
 use mathlib.Core.Path.{_≡_, sym, _∙_}
 use mathlib.Core.List.{[]}
@@ -7,7 +7,7 @@ use denote.Ref.{now}
 use borrow.Author.Needs.{needs}
 use native.Mathlib.Omega.{arith}
 use Rattle.text_fields.specs.Field.{split}
-use Rattle.text_fields.proofs.FieldLaws.{end-from, end-bound, field-here, field-none, field-next}
+use Rattle.text_fields.proofs.FieldLaws.{field-here, field-none, field-next}
 use Rattle.text_fields.proofs.field.Statement.{statement}
 use Rattle.text_fields.proofs.field.Tie as tie
 
@@ -25,35 +25,25 @@ returns : tie.Need-returns Inv-loop μ-loop
 returns c =
     let l = c .before .before .before .before in
     let a = l .before .before .args in
-    let e = c .before .before .field-end .ensures in
-    sym (l .loop .inv .2 ∙ field-none (a .separator) (l .loop .from) (now (a .s)) (a .k - l .loop .i) (omega arith) (omega arith) (omega arith))
+    let e = c .before .before .find .ensures .0 in
+    sym (l .loop .inv .2 ∙ field-none (a .separator) (l .loop .from) (now (a .s)) (omega arith) _ e (a .k - l .loop .i) (omega arith) (omega arith))
 
 loop-again : tie.Need-loop-again Inv-loop μ-loop
 loop-again c =
     let l = c .before .before .before in
     let a = l .before .before .args in
     let i = l .loop .i in
-    let e = c .before .field-end .ensures in
+    let e = c .before .find .ensures .0 in
     let m : a .k - i ≡ suc (a .k - (i + 1)) = omega arith in
-    (omega arith, omega arith, l .loop .inv .2 ∙ rw (m, e) (field-next (a .separator) (l .loop .from) (now (a .s)) (a .k - (i + 1)) (omega arith) (omega arith)))
-
--- the field lies in the text
-inside : (c : tie.After-field-end2 Inv-loop μ-loop) →
-    let l = c .before .before in
-    (l .loop .from ≤ c .field-end2 .result) × (c .field-end2 .result ≤ length (now (l .before .before .args .s)))
-inside c =
-    let l = c .before .before in
-    let a = l .before .before .args in
-    let e = c .field-end2 .ensures in
-    (omega (arith, end-from (a .separator) (l .loop .from) (now (a .s))), omega (arith, end-bound (a .separator) (l .loop .from) (now (a .s)) (omega arith)))
+    (omega arith, omega arith, l .loop .inv .2 ∙ rw m (field-next (a .separator) (l .loop .from) (now (a .s)) (omega arith) _ e (a .k - (i + 1)) (omega arith)))
 
 returns-2 : tie.Need-returns-2 Inv-loop μ-loop
 returns-2 c =
     let l = c .before .before .before in
     let a = l .before .before .args in
-    let e = c .before .field-end2 .ensures in
+    let e = c .before .find2 .ensures .0 in
     let m : a .k - l .loop .i ≡ 0 = omega arith in
-    rw e (field-here (a .separator) (l .loop .from) (now (a .s)) (omega arith)) ∙ sym (rw m at (l .loop .inv .2))
+    field-here (a .separator) (l .loop .from) (now (a .s)) (omega arith) _ e ∙ sym (rw m at (l .loop .inv .2))
 
 pub field-spec : {M : Type 1} → statement M
 field-spec =
@@ -72,7 +62,7 @@ field-spec =
     (λ c. omega arith)
     loop-again
     (λ c κs. search needs)
-    (λ c. omega (arith, inside c .0))
-    (λ c. omega (arith, inside c .0))
-    (λ c. omega (arith, inside c .0, inside c .1))
+    (λ c. omega arith)
+    (λ c. omega arith)
+    (λ c. omega arith)
     returns-2)

@@ -1,4 +1,4 @@
--- `purse::apply_purse_write` meets its contract: each way out is a case of the rule. Assumes nothing.
+-- `bytes::apply_purse_write` meets its contract: each way out is a case of the rule. Assumes nothing.
 use mathlib.Core.Path.{_≡_, refl, sym, _∙_}
 use denote.Ref.{now}
 use borrow.Author.Needs.{needs}

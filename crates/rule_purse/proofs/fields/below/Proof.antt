@@ -1,4 +1,4 @@
--- `blocks::purse::below` meets its contract: the fields are what they stand for. Assumes nothing.
+-- `fields::below` meets its contract: the fields are what they stand for. Assumes nothing.
 use mir.Syntax.{w64}
 use borrow.Author.Needs.{needs}
 use Rattle.byte_parts.proofs.Laws.{clean}

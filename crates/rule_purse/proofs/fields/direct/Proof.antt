@@ -1,4 +1,4 @@
--- `blocks::purse::direct` meets its contract: each way out is a case of the rule. Assumes nothing.
+-- `fields::direct` meets its contract: each way out is a case of the rule. Assumes nothing.
 use borrow.Author.Needs.{needs}
 use Rattle.rule_purse.proofs.Rule.{purse-raised, cashback-raised, sum-large, direct-whole, direct-outside}
 use Rattle.rule_purse.proofs.fields.direct.Statement.{statement}

@@ -1,4 +1,4 @@
--- `blocks::purse::fits` meets its contract. Assumes nothing.
+-- `fields::fits` meets its contract. Assumes nothing.
 use mathlib.Core.Path.{sym}
 use mir.Syntax.{w64}
 use borrow.Author.Needs.{needs}

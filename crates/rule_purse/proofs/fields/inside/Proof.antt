@@ -1,4 +1,4 @@
--- `blocks::purse::inside` meets its contract: the tests are the range's, the lower end first. Assumes nothing.
+-- `fields::inside` meets its contract: the tests are the range's, the lower end first. Assumes nothing.
 use native.Mathlib.Omega.{arith}
 use lib.IntN.{pos}
 use lib.Dec.{lit<}

@@ -1,4 +1,4 @@
--- `blocks::purse::less` meets its contract: a difference of two fields fits 64 bits. Assumes nothing.
+-- `fields::less` meets its contract: a difference of two fields fits 64 bits. Assumes nothing.
 use mathlib.Core.Path.{sym}
 use lib.IntN.{_-ℤ_}
 use borrow.Author.Needs.{needs}

@@ -1,4 +1,4 @@
--- `blocks::purse::more` meets its contract: a sum of two fields fits 64 bits. Assumes nothing.
+-- `fields::more` meets its contract: a sum of two fields fits 64 bits. Assumes nothing.
 use mathlib.Core.Path.{sym}
 use lib.IntN.{_+ℤ_}
 use borrow.Author.Needs.{needs}

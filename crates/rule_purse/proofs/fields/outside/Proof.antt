@@ -1,4 +1,4 @@
--- `blocks::purse::outside` meets its contract. Assumes nothing.
+-- `fields::outside` meets its contract. Assumes nothing.
 use mathlib.Core.Path.{refl}
 use borrow.Author.Needs.{needs}
 use Rattle.rule_purse.specs.Purse.{outsideOf}

@@ -1,4 +1,4 @@
--- `blocks::purse::over` meets its contract: a sum of two fields fits 64 bits. Assumes nothing.
+-- `fields::over` meets its contract: a sum of two fields fits 64 bits. Assumes nothing.
 use lib.IntN.{_+ℤ_}
 use borrow.Author.Needs.{needs}
 use Rattle.byte_parts.proofs.Laws.{plus-mag, op-fits, op-clean}

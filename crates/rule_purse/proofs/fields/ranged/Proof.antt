@@ -1,4 +1,4 @@
--- `blocks::purse::ranged` meets its contract. Assumes nothing.
+-- `fields::ranged` meets its contract. Assumes nothing.
 use mathlib.Core.Path.{sym, _∙_}
 use mir.Syntax.{w64}
 use borrow.Author.Needs.{needs}

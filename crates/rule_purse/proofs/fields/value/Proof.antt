@@ -1,4 +1,4 @@
--- `blocks::purse::value` meets its contract: a field is its bits or what they stand for. Assumes nothing.
+-- `fields::value` meets its contract: a field is its bits or what they stand for. Assumes nothing.
 use native.Mathlib.Omega.{arith}
 use mathlib.Core.Path.{refl}
 use mir.Syntax.{w64}

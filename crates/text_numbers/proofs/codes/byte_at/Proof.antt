@@ -1,4 +1,4 @@
--- `fours::byte_at` meets its contract: two digits are below 256. Assumes nothing.
+-- `codes::byte_at` meets its contract: two digits are below 256. Assumes nothing.
 use borrow.Author.Needs.{needs}
 use native.Mathlib.Omega.{arith}
 use Prim.Native.Nat.{_+_}

@@ -1,4 +1,4 @@
--- `fours::code_at` meets its contract: four digits are two bytes, the high one first. Assumes nothing.
+-- `codes::code_at` meets its contract: four digits are two bytes, the high one first. Assumes nothing.
 use borrow.Author.Needs.{needs}
 use native.Mathlib.Omega.{arith}
 use Prim.Native.Nat.{_+_, _*_}

@@ -1,4 +1,4 @@
--- `fours::is_codes` meets its contract: no hex field, `-`, or whole codes. Assumes nothing.
+-- `codes::is_codes` meets its contract: no hex field, `-`, or whole codes. Assumes nothing.
 use borrow.Author.Needs.{needs}
 use mathlib.Core.Path.{_≡_, sym, _∙_}
 use mathlib.Core.Bool.{Bool}

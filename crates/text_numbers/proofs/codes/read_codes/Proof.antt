@@ -1,4 +1,4 @@
--- `fours::read_codes` meets its contract: after i turns i codes are put. Assumes nothing.
+-- `codes::read_codes` meets its contract: after i turns i codes are put. Assumes nothing.
 use Prim.Native.Nat.{_-_, _/_, _≤_}
 use native.Mathlib.Omega.{arith}
 use native.Mathlib.Nat.{zero-add}

@@ -1,4 +1,4 @@
--- `fours::read_hex16` meets its contract: the tests are those of `hex16`. Assumes nothing.
+-- `codes::read_hex16` meets its contract: the tests are those of `hex16`. Assumes nothing.
 use borrow.Author.Needs.{needs}
 use native.Mathlib.Omega.{arith}
 use mathlib.Core.Path.{sym, ap, _∙_}

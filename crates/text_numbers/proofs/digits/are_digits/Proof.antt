@@ -16,6 +16,24 @@ Inv-loop s base i₀ i = digits base s ≡ digits base (drop i s)
 abbrev μ-loop : tie.MeasureT-loop
 μ-loop s base i₀ i = length s - i
 
+returns : tie.Need-returns Inv-loop μ-loop
+returns c =
+    let l = c .before .before .before .before in
+    let a = l .before .before .args in
+    sym (l .loop .inv ∙ digits-not (a .base) (now (a .s)) (l .loop .i) (omega arith) (rw (c .before .digit .ensures) at (c .if1 .taken)))
+
+loop-again : tie.Need-loop-again Inv-loop μ-loop
+loop-again c =
+    let l = c .before .before .before .before in
+    let a = l .before .before .args in
+    l .loop .inv ∙ digits-here (a .base) (now (a .s)) (l .loop .i) (omega arith) (rw (c .before .digit .ensures) at (c .if1 .left))
+
+returns-2 : tie.Need-returns-2 Inv-loop μ-loop
+returns-2 c =
+    let l = c .before in
+    let a = l .before .before .args in
+    sym (l .loop .inv ∙ digits-end (a .base) (now (a .s)) (l .loop .i) (omega arith))
+
 pub are-digits-spec : {M : Type 1} → statement M
 are-digits-spec =
     tie.close
@@ -25,17 +43,8 @@ are-digits-spec =
     (λ c. refl)
     (λ c. omega arith)
     (λ c. search needs)
-    (λ c.
-    let l = c .before .before .before .before in
-    let a = l .before .before .args in
-    sym (l .loop .inv ∙ digits-not (a .base) (now (a .s)) (l .loop .i) (omega arith) (rw (c .before .digit .ensures) at (c .if1 .taken))))
+    returns
     (λ c. omega arith)
     (λ c. omega arith)
-    (λ c.
-    let l = c .before .before .before .before in
-    let a = l .before .before .args in
-    l .loop .inv ∙ digits-here (a .base) (now (a .s)) (l .loop .i) (omega arith) (rw (c .before .digit .ensures) at (c .if1 .left)))
-    (λ c.
-    let l = c .before in
-    let a = l .before .before .args in
-    sym (l .loop .inv ∙ digits-end (a .base) (now (a .s)) (l .loop .i) (omega arith))))
+    loop-again
+    returns-2)

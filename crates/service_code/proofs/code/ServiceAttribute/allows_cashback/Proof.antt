@@ -1,25 +1,18 @@
--- Each arm says of its own attribute whether it takes cashback.
+-- Whether it takes cashback is the same for each attribute that an arm is for.
+use mathlib.Core.Path.{refl}
+use mathlib.Core.Bool.{true, false}
+use mathlib.Core.List.{[], _∷_}
 use borrow.Author.Needs.{needs}
+use Rattle.service_code.specs.Code.{allowsCashback}
+use Rattle.service_code.proofs.Attributes.{told}
 use Rattle.service_code.proofs.code.ServiceAttribute.allows_cashback.Statement.{statement}
 use Rattle.service_code.proofs.code.ServiceAttribute.allows_cashback.Tie as tie
 
+returns : tie.Need-returns
+returns c = rw (c .enum-told .given .1)
+
+returns-2 : tie.Need-returns-2
+returns-2 c = told false allowsCashback 0 (1 ∷ 2 ∷ 3 ∷ 4 ∷ 6 ∷ 7 ∷ []) (c .before .args .self) (c .match .keys2) (refl, (refl, (refl, (refl, (refl, (refl, refl))))))
+
 pub allows-cashback-spec : {M : Type 1} → statement M
-allows-cashback-spec =
-    tie.close
-    (tie.spec
-    (λ c. search needs)
-    (λ c. search needs)
-    (λ c. search needs)
-    (λ c. search needs)
-    (λ c. search needs)
-    (λ c. search needs)
-    (λ c. search needs)
-    (λ c. search needs)
-    (λ c. rw (c .enum-told .given .1))
-    (λ c. rw (c .enum-told2 .given .1))
-    (λ c. rw (c .enum-told3 .given .1))
-    (λ c. rw (c .enum-told4 .given .1))
-    (λ c. rw (c .enum-told5 .given .1))
-    (λ c. rw (c .enum-told6 .given .1))
-    (λ c. rw (c .enum-told7 .given .1))
-    (λ c. rw (c .enum-told8 .given .1)))
+allows-cashback-spec = tie.close (tie.spec (λ c. search needs) returns returns-2)
