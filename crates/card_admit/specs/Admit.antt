@@ -99,7 +99,7 @@ mostBlocks = 4096
 unfoldable pub usable : ℕ → ℕ
 usable arenaLen = min (arenaLen / blockSize) mostBlocks
 
--- 22, unless the blocks in use and the store's own are usable; the first service of a number makes a store next after those in use
+-- 22: the usable blocks are fewer than those in use and the store's own together, so that fewer are unused than it needs; the first service of a number makes a store next after those in use
 unfoldable pub newStore : ℕ → ℕ → ℕ → Placed
 newStore used arenaLen blocks = cond (ltb (usable arenaLen) (used + blocks)) (NotPlaced NoRoom) (Store used blocks (used + blocks))
 

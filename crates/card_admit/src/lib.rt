@@ -96,7 +96,7 @@ fn service_under(above: Node, code: u16) -> Answer
     ensures { λ r. ⌜ r ≡ serviceUnder above code ⌝ }
 {
     // 13
-    if 0xfffe < code {
+    if code > 0xfffe {
         return Answer::Refused(Refusal::NodeCodeOutOfRange);
     }
     // 16

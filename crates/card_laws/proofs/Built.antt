@@ -27,7 +27,7 @@ pub data Carded : Card → Type 0 where
 
 -- such a card is produced node by node, a service before its limit
 made-built : (system key : ℕ) {ns : List Node} {used : ℕ} → Made ns used → Built (cardOf system key used ns)
-made-built system key Made.root = Built.new system key
+made-built system key Made.root = let new = Built.new system key in new
 made-built system key (Made.area {ns = ns} {used = used} depth code end version m e) =
     Built.area depth code end version (made-built system key m) (area-card system key used ns depth code version end e)
 made-built system key (Made.service {ns = ns} {used = used} {s = s} {b = b} {u = u} depth code version limit m e) =
@@ -38,7 +38,8 @@ made-built system key (Made.service {ns = ns} {used = used} {s = s} {b = b} {u =
         Built (cardOf system key u (ns ++ (nodeAs depth code version (Service s b l) ∷ [])))
     limited Unlimited c = c
     limited (Limited upper lower generation) c =
-        Built.limit upper lower generation c (limit-card system key u ns depth code version s b Unlimited upper lower generation)
+        let limit = Built.limit upper lower generation c (limit-card system key u ns depth code version s b Unlimited upper lower generation) in
+        limit
 
 -- the card after an accepted call: one node more, or another limit on the last service
 pub data Follows : Card → Card → Type 0 where

@@ -13,15 +13,15 @@ use Rattle.card_nodes.specs.declared.find.Sought.{Sought}
 use Rattle.card_nodes.specs.declared.find.Sought.the-variants.{ServiceCode, AreaCode, ServiceNumber}
 use Rattle.card_nodes.specs.Node.{isArea, isService}
 
--- the first node that passes a test, the first of all being counted i
-unfoldable pub firstFrom : (Node → Bool) → ℕ → List Node → Found
-firstFrom test i [] = Nothing
-firstFrom test i (n ∷ ns) = cond (test n) (At i) (firstFrom test (suc i) ns)
-
 -- what was found first, or else second
 abbrev pub orElse : Found → Found → Found
 orElse (At p) other = At p
 orElse Nothing other = other
+
+-- the first node that passes a test, the first of all being counted i
+unfoldable pub firstFrom : (Node → Bool) → ℕ → List Node → Found
+firstFrom test i [] = Nothing
+firstFrom test i (n ∷ ns) = cond (test n) (At i) (firstFrom test (suc i) ns)
 
 -- a service, or an area, of a code
 abbrev pub isServiceOf : ℕ → Node → Bool

@@ -22,26 +22,43 @@ area : (c : tie.After-is-found2) {b : Bool} → c .is-found2 .result ≡ b →
     isFound (areaOf (take (a .count) (a .nodes)) (a .code)) ≡ b
 area c e = sym (c .is-found2 .ensures ∙ ap isFound (c .before .find-area .ensures)) ∙ e
 
-pub list-node-spec : {M : Type 1} → statement M
+returns : tie.Need-returns
 unfolding listNodeOf
-list-node-spec =
-    tie.close
-    (tie.spec
-    (λ c. search tests)
-    (λ c κs. search needs)
-    (λ c κs. search needs)
-    (λ c κs. search needs)
-    (λ c κs. search needs)
-    (λ c.
+returns c = search tests
+
+returns-2 : tie.Need-returns-2
+unfolding listNodeOf
+returns-2 c =
     let i = c .before in
     c .listed .ensures
     ∙ ap (λ (k : Bool). cond k Keyed KeyFree) (i .before .before .before .requires-key .ensures)
-    ∙ search (tests, service (i .before) (i .if2 .taken)))
-    (λ c κs. search needs)
-    (λ c κs. search needs)
-    (λ c κs. search needs)
-    (λ c.
+    ∙ search (tests, service (i .before) (i .if2 .taken))
+
+returns-3 : tie.Need-returns-3
+unfolding listNodeOf
+returns-3 c =
     let j = c .before in
     let i = j .before .before .before in
-    c .listed2 .ensures ∙ search (tests, service (i .before) (i .if2 .left), area (j .before) (j .if3 .taken)))
-    (λ c. let i = c .before .before .before in search (tests, service (i .before) (i .if2 .left), area (c .before) (c .if3 .left))))
+    c .listed2 .ensures ∙ search (tests, service (i .before) (i .if2 .left), area (j .before) (j .if3 .taken))
+
+returns-4 : tie.Need-returns-4
+unfolding listNodeOf
+returns-4 c =
+    let i = c .before .before .before in
+    search (tests, service (i .before) (i .if2 .left), area (c .before) (c .if3 .left))
+
+pub list-node-spec : {M : Type 1} → statement M
+list-node-spec =
+    tie.close
+    (tie.spec
+    returns
+    (λ c κs. search needs)
+    (λ c κs. search needs)
+    (λ c κs. search needs)
+    (λ c κs. search needs)
+    returns-2
+    (λ c κs. search needs)
+    (λ c κs. search needs)
+    (λ c κs. search needs)
+    returns-3
+    returns-4)

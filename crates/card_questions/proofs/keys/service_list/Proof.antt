@@ -27,28 +27,40 @@ loop-again c =
     (λ w. free-read _ (l .has-keyed) (l .seen-free) (l .inv) (omega arith) _ _ (e ∙ w .1 .given .1) (w .2) (w .3))
     (c .match .came)
 
+loop-holds : tie.Need-loop-holds Inv-loop μ-loop
+loop-holds c = none-read _ _
+
+returns : tie.Need-returns Inv-loop μ-loop
+returns c =
+    let n = c .before .before .before in
+    let l = n .before .before .before .loop in
+    disorder _ (l .has-keyed) (l .seen-free) (l .inv) (omega arith) (sym (n .list-node .ensures) ∙ c .before .enum-told .given .1) (c .if1 .taken)
+
+returns-2 : tie.Need-returns-2 Inv-loop μ-loop
+returns-2 c =
+    let n = c .before .before in
+    let l = n .before .before .before .loop in
+    unknown _ (l .has-keyed) (l .seen-free) (l .inv) (omega arith) (sym (n .list-node .ensures) ∙ c .enum-told3 .given .1)
+
+returns-3 : tie.Need-returns-3 Inv-loop μ-loop
+returns-3 c = last-read _ (c .before .loop .has-keyed) (c .before .loop .seen-free) ∙ done (c .before .loop .inv) (omega arith)
+
 pub service-list-spec : {M : Type 1} → statement M
 service-list-spec =
     tie.close
     (tie.spec
     Inv-loop
     μ-loop
-    (λ c. none-read _ _)
+    loop-holds
     (λ c. omega arith)
     (λ c. omega arith)
     (λ c κs. search needs)
     (λ c. search needs)
-    (λ c.
-    let n = c .before .before .before in
-    let l = n .before .before .before .loop in
-    disorder _ (l .has-keyed) (l .seen-free) (l .inv) (omega arith) (sym (n .list-node .ensures) ∙ c .before .enum-told .given .1) (c .if1 .taken))
+    returns
     (λ c. search needs)
     (λ c. search needs)
-    (λ c.
-    let n = c .before .before in
-    let l = n .before .before .before .loop in
-    unknown _ (l .has-keyed) (l .seen-free) (l .inv) (omega arith) (sym (n .list-node .ensures) ∙ c .enum-told3 .given .1))
+    returns-2
     (λ c. omega arith)
     (λ c. omega arith)
     loop-again
-    (λ c. last-read _ (c .before .loop .has-keyed) (c .before .loop .seen-free) ∙ done (c .before .loop .inv) (omega arith)))
+    returns-3)
