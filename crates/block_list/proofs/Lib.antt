@@ -1,4 +1,4 @@
--- The laws of the definitions: what the functions' proofs cite, and what callers may.
+-- Laws of the definitions, which callers cite too: each case, what packing and unpacking say of each other, lists.
 pub mod Cases
 pub mod Round
 pub mod Says

@@ -1,1 +1,2 @@
+-- The rule in each of its cases, which only the proofs here cite.
 mod Ring

@@ -1,4 +1,4 @@
--- The rule in each of its cases.
+-- The rule in each of its cases, which only the proofs here cite.
 mod Range
 mod Rule
 mod Stores

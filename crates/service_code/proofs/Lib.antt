@@ -1,1 +1,2 @@
+-- What only the proofs here cite.
 mod Attributes

@@ -1,3 +1,3 @@
--- What callers cite.
+-- Laws of the definitions, which callers cite too, and examples that antt computes.
 pub mod FieldLaws
 pub mod Rows

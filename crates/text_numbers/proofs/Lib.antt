@@ -1,11 +1,8 @@
--- What callers cite.
+-- Laws of the definitions, which callers cite too, and examples that antt computes.
 pub mod DigitLaws
--- What callers cite.
 pub mod HexLaws
-pub mod Rows
--- What callers cite.
+pub mod HexRows
 pub mod CodeLaws
-pub mod FoursRows
--- What callers cite.
+pub mod CodeRows
 pub mod DecimalLaws
-pub mod DecimalsRows
+pub mod DecimalRows
