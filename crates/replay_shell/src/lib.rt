@@ -1,7 +1,7 @@
 // Replays what a descriptor has: it is read a chunk at a time and cut into lines, and what they print is held back until
 // there is much of it.
 use line_answer::Printed;
-use replay_feed::Place;
+use text_feed::Place;
 use replay_state::Phase;
 use replay_state::Replay;
 use replay_state::Turn;
@@ -42,7 +42,7 @@ fn next_line(fd: i32, start: usize, at: usize, chunk: &mut [u8], line: &mut [u8]
     };
     let mut turns = u64::MAX;
     while turns > 0 && filled > 0 {
-        place = replay_feed::feed(place, &chunk[0..filled], line);
+        place = text_feed::feed(place, &chunk[0..filled], line);
         if place.whole > 0 {
             return Source {
                 filled,

@@ -4,7 +4,7 @@ use native.Mathlib.Omega.{arith}
 use mathlib.Core.Path.{_≡_}
 use lib.ListN.{length}
 use borrow.Author.Needs.{needs}
-use Rattle.replay_feed.proofs.Laws.{fits}
+use Rattle.text_feed.proofs.Laws.{fits}
 use Rattle.replay_shell.proofs.next_line.Statement.{statement}
 use Rattle.replay_shell.proofs.next_line.Tie as tie
 

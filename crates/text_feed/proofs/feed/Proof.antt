@@ -2,9 +2,9 @@
 use native.Mathlib.Omega.{arith}
 use denote.Ref.{now}
 use borrow.Author.Needs.{needs}
-use Rattle.replay_feed.proofs.Laws.{out-of-chunk, out-of-line, past-lf, past-all}
-use Rattle.replay_feed.proofs.feed.Statement.{statement}
-use Rattle.replay_feed.proofs.feed.Tie as tie
+use Rattle.text_feed.proofs.Laws.{out-of-chunk, out-of-line, past-lf, past-all}
+use Rattle.text_feed.proofs.feed.Statement.{statement}
+use Rattle.text_feed.proofs.feed.Tie as tie
 
 returns : tie.Need-returns
 returns c =

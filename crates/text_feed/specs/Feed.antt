@@ -6,7 +6,7 @@ use lib.Dec.{ltb}
 use lib.ListN.{length, drop}
 use Rattle.bytes.specs.Bytes.{indexOf}
 use Rattle.byte_parts.specs.Part.{put}
-use Rattle.replay_feed.specs.declared.Place.{Place}
+use Rattle.text_feed.specs.declared.Place.{Place}
 
 -- how many bytes stand from a place of a chunk on, up to a LF or the end
 unfoldable pub uptoLf : List ℕ → ℕ → ℕ

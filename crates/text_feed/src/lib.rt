@@ -4,7 +4,7 @@ use bytes::scan;
 ghost use mathlib.Core.Path.{_≡_};
 ghost use Prim.Native.Nat.{min};
 ghost use lib.ListN.{length};
-ghost use Rattle.replay_feed.specs.Feed.{placeAfter, lineAfter};
+ghost use Rattle.text_feed.specs.Feed.{placeAfter, lineAfter};
 
 // A reader's place: `at` in the chunk, `len` bytes of a line kept, `whole` 1 where a LF has just ended that line, else 0.
 pub struct Place {

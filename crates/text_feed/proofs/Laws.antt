@@ -9,8 +9,8 @@ use lib.Seq.{sets, set-out, take-nil, take-take, take-length}
 use borrow.Author.Tests.{lt-ltb, le-ltb}
 use Rattle.bytes.specs.Bytes.{indexOf, slice}
 use Rattle.byte_parts.specs.Part.{put}
-use Rattle.replay_feed.specs.declared.Place.{Place}
-use Rattle.replay_feed.specs.Feed.{uptoLf, placePast, placeAfter, lineAfter}
+use Rattle.text_feed.specs.declared.Place.{Place}
+use Rattle.text_feed.specs.Feed.{uptoLf, placePast, placeAfter, lineAfter}
 
 -- Stores past the end leave the list.
 sets-out : (vs l : List ℕ) (i m : ℕ) → length l ≤ i + m → sets l i vs ≡ sets l i (take m vs)
@@ -19,7 +19,7 @@ sets-out (v ∷ vs) l i zero h = rw (set-out l i v (omega arith)) (sets-out vs l
 sets-out (v ∷ vs) l i (suc m) h = sets-out vs (set l i v) (suc i) m (simp length-set (omega arith))
 
 -- A put goes no further than there is room.
-put-room : (s : List ℕ) (at n : ℕ) (t : List ℕ) → put s at n t ≡ put s at (min n (length s - at)) t
+pub put-room : (s : List ℕ) (at n : ℕ) (t : List ℕ) → put s at n t ≡ put s at (min n (length s - at)) t
 unfolding put
 put-room s at n t =
     elim (decLt (length s - at) n) [
