@@ -17,7 +17,7 @@ use Rattle.line_image.specs.declared.line.Line.the-variants.{Malformed, 
 use Rattle.line_image.specs.Line.{imageLine}
 
 -- the card handed back with its answer, and the arena after it
-pub record Turn : Type 0 where
+pub record Imaged : Type 0 where
   pub added : Added
   pub arena : List ℕ
 
@@ -26,7 +26,7 @@ abbrev pub answered : Card → Answer → Added
 answered c x = record { card = c; answer = x }
 
 -- what comes of a line; the last field of `blk` spells the block's bytes
-abbrev pub carried : Card → List ℕ → List (List ℕ) → Line → Turn
+abbrev pub carried : Card → List ℕ → List (List ℕ) → Line → Imaged
 carried c a fs Malformed = record { added = refused c MalformedImage; arena = a }
 carried c a fs (New system version) = record { added = accepted (newCard system version); arena = a }
 carried c a fs (Area depth code end version) = record { added = areaAdded c depth code end version; arena = a }
@@ -37,5 +37,5 @@ carried c a fs (Block code number) =
     record { added = answered c (blockJudged c (length a) code number); arena = arenaSet c a code number (unhex (getD fs 3 [])) }
 
 -- a whole image line, the first of the image or a later one
-unfoldable pub imageTurn : Bool → Card → List ℕ → List ℕ → Turn
-imageTurn first c a s = carried c a (split 9 s) (imageLine first s)
+unfoldable pub imageStep : Bool → Card → List ℕ → List ℕ → Imaged
+imageStep first c a s = carried c a (split 9 s) (imageLine first s)
