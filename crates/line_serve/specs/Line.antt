@@ -14,6 +14,7 @@ use Rattle.request_plan.specs.Serve.{Served, told, serve, readLong, outputAfter
 use Rattle.line_request.specs.declared.Ask.{Ask}
 use Rattle.line_request.specs.declared.Ask.the-variants.{Malformed, Read, Write}
 use Rattle.line_request.specs.Ask.{fieldIn, askOf}
+use Rattle.line_serve.specs.declared.Outcome.{Outcome}
 
 -- several service codes stand joined
 abbrev pub codesIn : List ℕ → List ℕ
@@ -38,6 +39,10 @@ askServed card arena room line (Read «open» count) =
     serve card arena (readRequest «open» (codesIn line) count (listIn line) room)
 askServed card arena room line (Write «open» count) =
     serve card arena (writeRequest «open» (codesIn line) count (listIn line) (dataIn line) room)
+
+-- what is told of it: the reply, and how many bytes were read
+abbrev pub outcomeOf : Served → Outcome
+outcomeOf served = record { reply = served .reply; read = length (served .read) }
 
 unfoldable pub lineServed : Card → List ℕ → ℕ → List ℕ → Served
 lineServed card arena room line = askServed card arena room line (askOf line)
