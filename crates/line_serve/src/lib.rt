@@ -14,7 +14,7 @@ ghost use lib.ListN.{length, take};
 ghost use Rattle.byte_parts.specs.Part.{put};
 ghost use Rattle.text_numbers.specs.Hex.{hexField, unhex};
 ghost use Rattle.text_numbers.specs.Codes.{codesField};
-ghost use Rattle.request_plan.specs.Serve.{readLong};
+ghost use Rattle.request_plan.specs.Serve.{lengthRead};
 ghost use Rattle.line_request.specs.declared.Ask.the-variants.{Read, Write};
 ghost use Rattle.line_request.specs.Ask.{fieldIn, askOf};
 ghost use Rattle.text_stream.specs.Stream.{Written};
@@ -94,7 +94,7 @@ fn write_asked(
 
 // How many bytes a read has put out.
 fn read_long(reply: Reply, count: u32) -> usize
-    ensures { λ r. ⌜ r ≡ readLong reply count ⌝ }
+    ensures { λ r. ⌜ r ≡ lengthRead reply count ⌝ }
 {
     match reply {
         Reply::Refused(_) => 0,
