@@ -1,4 +1,4 @@
--- One answer only: requests: codes and elements, runs, reads and writes, single blocks, turns of two terminals.
+-- One answer only: requests: codes and elements, runs, reads and writes, single blocks.
 use mathlib.Core.Path.{_≡_, refl, sym, _∙_}
 use Prim.Native.Nat.{ℕ, _*_}
 use native.Mathlib.Omega.{arith}
@@ -27,6 +27,7 @@ use Rattle.request_check.proofs.table.table_of as request_check·table-of
 use Rattle.request_rules.proofs.element_on as request_rules·element-on
 use Rattle.request_rules.proofs.end_on as request_rules·end-on
 use Rattle.request_runs.proofs.run.apply as request_runs·apply
+use Rattle.request_plan.proofs.Reply.response as request_plan·Reply·response
 use Rattle.request_plan.proofs.Reply.status_flag1 as request_plan·Reply·status-flag1
 use Rattle.request_plan.proofs.Reply.status_flag2 as request_plan·Reply·status-flag2
 use Rattle.request_plan.proofs.judge as request_plan·judge
@@ -35,8 +36,6 @@ use Rattle.request_block.proofs.set_block as request_block·set-block
 use Rattle.request_block.proofs.stored_block as request_block·stored-block
 use Rattle.request_serve.proofs.reading.read as request_serve·read
 use Rattle.request_serve.proofs.writing.write as request_serve·write
-use Rattle.law_turns.proofs.read_turn as law_turns·read-turn
-use Rattle.law_turns.proofs.write_turn as law_turns·write-turn
 
 -- what was walked to is one answer: the same, and where it is done also the same stage
 walked-once : {S : Type 0} (r r′ : Applied) (s s′ : S) → walkedTo r s ≡ walkedTo r′ s′ → (r ≡ r′) × (r ≡ Done → s ≡ s′)
@@ -72,6 +71,9 @@ module _ {M : Type 1} (𝓤 : URA M) (H : Heap 𝓤) (A : Atoms 𝓤) (mem : Mem
       (fact 𝓤 ((r ≡ r′) × (r ≡ Done → ws ≡ ws′)))
   request_runs·apply-once κs a r r′ ws ws′ = of-one 𝓤 (λ p q. let w = walked-once r r′ (ws .0) (ws′ .0) (sym p ∙ q) in (w .0, λ d i. (w .1 d i, (tt, (tt, (tt, (tt, tt)))))))
 
+  pub request_plan·Reply·response-once : OneAnswer 𝓤 request_plan·Reply·response.ended (request_plan·Reply·response.clauses 𝓤 H A mem run)
+  request_plan·Reply·response-once κs a g r r′ ws ws′ = result 𝓤 refl
+
   pub request_plan·Reply·status-flag1-once : OneAnswer 𝓤 request_plan·Reply·status-flag1.ended (request_plan·Reply·status-flag1.clauses 𝓤 H A mem run)
   request_plan·Reply·status-flag1-once κs a g r r′ ws ws′ = result 𝓤 refl
 
@@ -99,12 +101,3 @@ module _ {M : Type 1} (𝓤 : URA M) (H : Heap 𝓤) (A : Atoms 𝓤) (mem : Mem
       of-three 𝓤 (λ p p′ p″ q q′ q″.
       let staged = staged-once (16 * a .0 .used) (now (a .1 .1 .0)) (once p q) p″ q″ in
       (once p q, λ i. (tt, (once p′ q′ i, (staged i, (tt, (tt, (tt, (tt, (tt, tt))))))))))
-
-  pub law_turns·read-turn-once : OneAnswer 𝓤 law_turns·read-turn.ended (law_turns·read-turn.clauses 𝓤 H A mem run)
-  law_turns·read-turn-once κs a g r r′ ws ws′ = of-one 𝓤 (λ p q. (once (p .0) (q .0), λ i. (tt, (tt, (once (p .1) (q .1) i, (tt, (tt, (tt, (tt, tt)))))))))
-
-  pub law_turns·write-turn-once : OneAnswer 𝓤 law_turns·write-turn.ended (law_turns·write-turn.clauses 𝓤 H A mem run)
-  law_turns·write-turn-once κs a g r r′ ws ws′ =
-      of-one 𝓤 (λ p q.
-      let staged = staged-once (16 * a .0 .used) (now (a .1 .1 .0)) (once (p .0) (q .0)) (p .1) (q .1) in
-      (once (p .0) (q .0), λ i. (tt, (once (p .2) (q .2) i, (staged i, (tt, (tt, (tt, (tt, (tt, tt))))))))))

@@ -1,14 +1,16 @@
--- The theorems are not empty: a card, an order with writes on both sides and its answers, computed; and an order of requests that
--- name one number, where the answers differ. Assumes nothing.
-use Prim.Native.Nat.{ℕ, _≤_}
+-- The theorems are not empty: a card, an order with writes on both sides and its answers, computed; an order of requests that name one
+-- number, where the answers differ; and the race of the sample, an instance of the tower's theorem. Assumes nothing.
+use Prim.Native.Nat.{ℕ, zero, suc, _+_}
 use native.Mathlib.Omega.{arith}
-use mathlib.Core.Path.{_≡_, refl, subst}
-use mathlib.Core.Logic.{inl, inr}
-use mathlib.Core.Bool.{true, false≢true}
+use mathlib.Core.Path.{_≡_, refl, sym, subst}
+use mathlib.Core.Logic.{_⊎_, inl, inr, ⊎-elim}
+use mathlib.Core.Bool.{false, true, _||_, false≢true}
+use lib.Dec.{eqb}
 use mathlib.Core.List.{List, [], _∷_, _++_}
-use lib.ListN.{replicate}
+use lib.IntN.{pos}
+use lib.ListN.{length, replicate}
 use Rattle.answers.specs.declared.status.Fault.{Fault}
-use Rattle.answers.specs.declared.status.Fault.the-variants.{BlockNumber, OutsideWord}
+use Rattle.answers.specs.declared.status.Fault.the-variants.{Attribute, BlockNumber, OutsideWord}
 use Rattle.answers.specs.declared.refusal.Refusal.{Refusal}
 use Rattle.answers.specs.declared.refusal.Refusal.the-variants.{ListLength}
 use Rattle.service_code.specs.Code.{numberOf, attributesOf, tableOf, decodedOf, attributeOf, codeKindOf, requiresKey}
@@ -19,12 +21,13 @@ use Rattle.rule_purse.specs.Purse.{valueOf, insideOf, outsideOf, sumOf, storedO
 use Rattle.rule_cyclic.specs.Cyclic.{cyclicOf}
 use Rattle.rule_purse.specs.Bytes.{purseDataOf, blockOf, purseOf}
 use Rattle.card_nodes.specs.Find.{firstFrom, openAt, parentFrom}
-use Rattle.card_admit.specs.Grow.{parentAt, outside, serviceUnder, sameKind, joinedTo, usable, newStore, placedOf}
+use Rattle.card_admit.specs.Grow.{parentAt, rootMisfit, outside, areaUnder, areaJudged, serviceUnder, sameKind, joinedTo, usable, newStore, placedOf}
 use Rattle.card_sound.specs.Sound.{isRoot, allRoots, stepOf, stepsFrom, stepsOf, soundOf}
 use Rattle.card_build.specs.declared.card.Card.{Card}
 use Rattle.card_build.specs.Card.{newCard}
-use Rattle.card_build.specs.Grow.{addService}
-use Rattle.card_laws.specs.Built.{Built, new, service}
+use Rattle.card_build.specs.Grow.{addArea, addService, setLimit}
+use Rattle.card_laws.specs.Built.{Built, new, area, service, limit}
+use Rattle.card_laws.proofs.Laid.{sized}
 use Rattle.request_check.specs.Row.{rowOf}
 use Rattle.request_check.specs.Check.{modeAllowed, attributeCheck, rowCheck, elementCheck, checkedFrom}
 use Rattle.request_rules.specs.Lens.{back, within}
@@ -35,12 +38,12 @@ use Rattle.request_plan.specs.declared.Reply.the-variants.{Refused, Done, Faile
 use Rattle.request_plan.specs.Request.{Request, readRequest, writeRequest}
 use Rattle.request_plan.specs.Plan.{lentJudged, judgedWith, planOf}
 use Rattle.request_plan.specs.Serve.{blocksRead, committed, carried, serve, outputAfter}
-use Rattle.law_terminals.specs.Orders.{Sent, by, one, two, only, all, after, answers, told, Undisturbed}
-use Rattle.law_terminals.specs.Two.{Answer, answerOf, arenaAfter, Any, Names, NoneShared}
-use Rattle.law_terminals.specs.Last.{arenaThen, Redrawn}
-use Rattle.law_terminals.proofs.Generic.{All}
+use Rattle.law_terminals.specs.Orders.{Marked, by, one, two, only, all, after, answers, told, Undisturbed}
+use Rattle.law_terminals.specs.Two.{Answer, answerOf, arenaAfter, Any, All, Names, HasNumber, NoneShared}
+use Rattle.law_terminals.specs.Last.{NamesBlock, arenaThen, Redrawn}
 use Rattle.law_terminals.proofs.Two.{two-terminals}
 use Rattle.law_terminals.proofs.Last.{tower-reads}
+use Rattle.law_terminals.proofs.Race as Race
 
 -- lanes, a random store of two blocks, number 41h
 abbrev lanes : Card
@@ -58,13 +61,21 @@ credit = addService towers 80 1 0x1095 1 0 .card
 abbrev card : Card
 card = addService credit 80 1 0x10cd 2 0 .card
 
-card-built : Built card
-unfolding addService placedOf parentAt parentFrom openAt firstFrom serviceUnder outside sameKind joinedTo usable newStore numberOf attributesOf tableOf decodedOf attributeOf codeKindOf
-card-built =
-    service {c = credit} 80 1 0x10cd 2 0
-    (service {c = towers} 80 1 0x1095 1 0
-    (service {c = lanes} 80 1 0x104b 9 0
-    (service {c = newCard 1 0} 80 1 0x1049 2 0 (new 1 0) refl) refl) refl) refl
+-- both cards are built
+built : Built card × Built Race.race
+unfolding addArea areaJudged areaUnder rootMisfit setLimit addService placedOf parentAt parentFrom openAt firstFrom serviceUnder outside sameKind joinedTo usable newStore numberOf attributesOf tableOf decodedOf attributeOf codeKindOf
+built = (
+  service {c = credit} 80 1 0x10cd 2 0
+      (service {c = towers} 80 1 0x1095 1 0
+      (service {c = lanes} 80 1 0x104b 9 0
+      (service {c = newCard 1 0} 80 1 0x1049 2 0 (new 1 0) refl) refl) refl) refl,
+  service {c = Race.limited} 112 2 0x1097 1 0
+      (limit {c = Race.credit} (pos 120) (pos 0) 1
+      (service {c = Race.towers} 112 2 0x1095 1 0
+      (service {c = Race.marshals} 112 2 0x104b 6 0
+      (service {c = Race.field} 112 2 0x1049 6 0
+      (area {c = newCard 1 0} 1 0x1040 0x10bf 0 (new 1 0) refl) refl) refl) refl) refl) refl,
+)
 
 -- 80 bytes: empty lanes, a credit of 100, two blocks of 7
 abbrev arena : List ℕ
@@ -95,9 +106,13 @@ fails f = record { reply = Failed 0 f; read = [] }
 abbrev refused : Refusal → Answer
 refused x = record { reply = Refused x; read = [] }
 
--- one writes a lane, reads it through the other service, asks for a lane that is not there, and sends a request cut short;
--- two pays twice from a credit of 100, the second time too much, writes to its ring, and pays the rest
-abbrev order : List (Sent Request)
+-- an open read that lists FFFF, the root's code and an unknown one beside a code, and names block 0 of the code at an index
+abbrev listing : ℕ → ℕ → Request
+listing code index = readRequest true (0xffff ∷ 0 ∷ 0x2009 ∷ code ∷ []) 1 ((0x80 + index) ∷ 0 ∷ []) 16
+
+-- one writes a lane, reads it through the other service, asks for a lane that is not there, and sends a request cut short; both list
+-- FFFF, the root's code and an unknown one, and one names the first of them; two pays twice from a credit of 100, the second time too much, writes to its ring, and pays the rest
+abbrev order : List (Marked Request)
 order =
     by two (paying 60 1)
     ∷ by one (writing 0x1049 1 (replicate 16 9))
@@ -106,11 +121,13 @@ order =
     ∷ by two (writing 0x10cd 0 (replicate 16 5))
     ∷ by one (reading 0x1049 2)
     ∷ by one (cut 0x104b)
+    ∷ by one (listing 0x104b 0)
     ∷ by two (paying 40 3)
+    ∷ by two (listing 0x10cd 3)
     ∷ []
 
 -- what an order is told at this card
-abbrev toldAll : List (Sent Request) → List (Sent Answer)
+abbrev toldAll : List (Marked Request) → List (Marked Answer)
 toldAll zs = told (answerOf card) (arenaAfter card) arena zs
 
 -- what a list is told alone
@@ -132,14 +149,16 @@ Told =
     ∷ by two (done [])
     ∷ by one (fails BlockNumber)
     ∷ by one (refused ListLength)
+    ∷ by one (fails Attribute)
     ∷ by two (done [])
+    ∷ by two (done (replicate 16 5))
     ∷ []
 
 -- the answers of one alone, and of two alone
 abbrev Alone : Type 0
 Alone =
-    (toldAlone (only one order) ≡ done [] ∷ done (replicate 16 9) ∷ fails BlockNumber ∷ refused ListLength ∷ [])
-    × (toldAlone (only two order) ≡ done [] ∷ fails OutsideWord ∷ done [] ∷ done [] ∷ [])
+    (toldAlone (only one order) ≡ done [] ∷ done (replicate 16 9) ∷ fails BlockNumber ∷ refused ListLength ∷ fails Attribute ∷ [])
+    × (toldAlone (only two order) ≡ done [] ∷ fails OutsideWord ∷ done [] ∷ done [] ∷ done (replicate 16 5) ∷ [])
 
 -- the arena after it: the lane written, all credit paid (40 by id 3), the ring turned
 abbrev Ends : Type 0
@@ -148,7 +167,7 @@ Ends =
     ≡ replicate 16 0 ++ replicate 16 9 ++ (0 ∷ 0 ∷ 0 ∷ 0 ∷ 40 ∷ replicate 7 0) ++ (3 ∷ 0 ∷ 0 ∷ 0 ∷ []) ++ replicate 16 5 ++ replicate 16 7
 
 -- both pay from the one credit: in turn two is told 01, alone it is told 00
-abbrev both : List (Sent Request)
+abbrev both : List (Marked Request)
 both = by one (paying 60 1) ∷ by two (paying 60 2) ∷ []
 
 abbrev Disturbed : Type 0
@@ -178,6 +197,16 @@ Redraws =
     (towerTold between ≡ done (replicate 16 3))
     × (towerTold (between ++ (writing 0x1049 1 (replicate 16 4) ∷ [])) ≡ done (replicate 16 4))
 
+-- a number of which the card has a service, by the numbers of its services
+has-one : {k : ℕ} → HasNumber card k → (k ≡ 0x41) ⊎ (k ≡ 0x42) ⊎ (k ≡ 0x43)
+unfolding addService placedOf parentAt parentFrom openAt firstFrom serviceUnder outside sameKind joinedTo usable newStore numberOf attributesOf tableOf decodedOf attributeOf codeKindOf
+has-one (inl h) = absurd (false≢true (h .0))
+has-one (inr (inl h)) = inl (sym (h .1))
+has-one (inr (inr (inl h))) = inl (sym (h .1))
+has-one (inr (inr (inr (inl h)))) = inr (inl (sym (h .1)))
+has-one (inr (inr (inr (inr (inl h))))) = inr (inr (sym (h .1)))
+has-one (inr (inr (inr (inr (inr h))))) = absurd h
+
 -- what holds of the number of each code holds of each number that is named
 module _ (Q : ℕ → Type 0) where
   of-codes : (codes : List ℕ) → All (λ code. Q (numberOf code)) codes → (k : ℕ) → Any (λ code. numberOf code ≡ k) codes → Q k
@@ -190,34 +219,41 @@ module _ (Q : ℕ → Type 0) where
   of-requests (r ∷ rs) f k (inl h) = of-codes (r .codes) (f .0) k h
   of-requests (r ∷ rs) f k (inr h) = of-requests rs (f .1) k h
 
--- the order is one of the theorem: one names 41h only, two 42h and 43h
-order-apart : NoneShared (only one order) (only two order)
+-- the order is one of the theorem: of the card's numbers one names 41h only, and two 42h and 43h
+order-apart : NoneShared card (only one order) (only two order)
 unfolding only numberOf
-order-apart k p q =
-    let x : k ≤ 0x41 =
-    of-requests (λ n. n ≤ 0x41) (only one order)
-    ((omega arith, tt), ((omega arith, tt), ((omega arith, tt), ((omega arith, tt), tt)))) k p in
-    let y : 0x42 ≤ k =
-    of-requests (λ n. 0x42 ≤ n) (only two order)
-    ((omega arith, tt), ((omega arith, tt), ((omega arith, tt), ((omega arith, tt), tt)))) k q in
-    omega arith
+order-apart k h p q =
+    let x : eqb k 0x42 || eqb k 0x43 ≡ false =
+    of-requests (λ n. eqb n 0x42 || eqb n 0x43 ≡ false) (only one order)
+    ((refl, tt), ((refl, tt), ((refl, tt), ((refl, tt), ((refl, (refl, (refl, (refl, tt)))), tt))))) k p in
+    let y : eqb k 0x41 ≡ false =
+    of-requests (λ n. eqb n 0x41 ≡ false) (only two order)
+    ((refl, tt), ((refl, tt), ((refl, tt), ((refl, tt), ((refl, (refl, (refl, (refl, tt)))), tt))))) k q in
+    ⊎-elim (λ e. false≢true (sym (rw e at y))) (⊎-elim (λ e. false≢true (sym (rw e at x))) (λ e. false≢true (sym (rw e at x)))) (has-one h)
 
 order-undisturbed : Undisturbed (answerOf card) (arenaAfter card) arena order
-order-undisturbed = two-terminals card-built arena order order-apart
+order-undisturbed = two-terminals card (sized (built .0) .long) arena order order-apart
 
 -- a payment names no lane
-unnamed : Names 0x41 (paying 60 1) → ⊥
-unfolding numberOf
-unnamed (inl h) = omega arith
-unnamed (inr h) = h
+unnamed : (i : ℕ) → NamesBlock 0x41 1 (paying 60 1) i → ⊥
+unfolding numberOf unpackAt elementsFrom
+unnamed zero h = let n = h .number in omega arith
+unnamed (suc i) h = let l = h .listed in omega arith
 
 -- these are requests of the theorem
 abbrev IsRedrawn : Type 0
 IsRedrawn = Redrawn card 0x41 1 (replicate 16 3) arena redraw between (reading 0x104b 1)
 
+-- The redraw is accepted, and the fourth request is told lane 1 as first drawn, lanes 2 and 3 as redrawn. Of lane 1 the theorem speaks.
+abbrev Raced : Type 0
+Raced =
+    (serve Race.race (arenaAfter Race.race Race.arena Race.draw) Race.redraw .reply ≡ Done)
+    × (answerOf Race.race (arenaThen Race.race Race.arena Race.draw Race.between) Race.look ≡ done (Race.leander ++ Race.moleseyTwo ++ Race.thamesThree))
+    × Redrawn Race.race 0x41 0 Race.leander Race.arena Race.draw Race.between Race.look
+
 -- all of it, computed by the definitions
-computed : Told × Alone × Ends × Disturbed × Redraws × IsRedrawn
-unfolding addService placedOf parentAt parentFrom openAt firstFrom serviceUnder outside sameKind joinedTo usable newStore numberOf attributesOf tableOf decodedOf attributeOf codeKindOf requiresKey unpackAt endsFrom endsAfter elementsFrom part put sameBytes wordAt wordBytes signedOf wordOf cyclicOf valueOf insideOf outsideOf sumOf storedOf purseRule purseDataOf blockOf purseOf isRoot allRoots stepOf stepsFrom stepsOf soundOf rowOf modeAllowed attributeCheck rowCheck elementCheck checkedFrom then push runsOf scan walk back within cashbackIn elementBy endBy onStore staged lentJudged judgedWith planOf blocksRead committed carried serve only all after answers told
+computed : Told × Alone × Ends × Disturbed × Redraws × IsRedrawn × Raced
+unfolding addArea areaJudged areaUnder rootMisfit setLimit addService placedOf parentAt parentFrom openAt firstFrom serviceUnder outside sameKind joinedTo usable newStore numberOf attributesOf tableOf decodedOf attributeOf codeKindOf requiresKey unpackAt endsFrom endsAfter elementsFrom part put sameBytes wordAt wordBytes signedOf wordOf cyclicOf valueOf insideOf outsideOf sumOf storedOf purseRule purseDataOf blockOf purseOf isRoot allRoots stepOf stepsFrom stepsOf soundOf rowOf modeAllowed attributeCheck rowCheck elementCheck checkedFrom then push runsOf scan walk back within cashbackIn elementBy endBy onStore staged lentJudged judgedWith planOf blocksRead committed carried serve only all after answers told
 computed = (
   refl,
   (refl, refl),
@@ -235,17 +271,44 @@ computed = (
       bytes = refl;
     };
     quiet = (
-      λ t e n. let z : _≡_ {A = ℕ} 0 1 = cc in omega arith,
-      (λ t e n. let z : _≡_ {A = ℕ} 0 1 = cc in omega arith, (λ t e n. unnamed n, (λ t e n. absurd (false≢true t), tt))),
+      λ t e i n. let z : _≡_ {A = ℕ} 0 1 = cc in omega arith,
+      (λ t e i n. let z : _≡_ {A = ℕ} 0 1 = cc in omega arith, (λ t e i n. unnamed i n, (λ t e i n. absurd (false≢true t), tt))),
     );
     read = refl;
     answered = refl;
   },
+  (
+    refl,
+    refl,
+    record {
+      write = refl;
+      written = refl;
+      brings = record {
+        place = 0;
+        names = record { listed = omega arith; number = refl; block = refl };
+        last = Race.draw-later;
+        random = refl;
+        bytes = refl;
+      };
+      quiet = (λ t e i n. absurd (false≢true t), (λ t e i n. Race.redraw-spares i n, tt));
+      read = refl;
+      answered = refl;
+    },
+  ),
 )
 
 -- so by the theorem the tower reads what the last element brought
 tower-told : part (outputAfter (replicate 16 0) (serve card (arenaThen card arena redraw between) (reading 0x104b 1))) 0 16 ≡ replicate 16 3
 unfolding numberOf unpackAt elementsFrom
 tower-told =
-    tower-reads card-built 0x41 1 (replicate 16 3) arena redraw between (reading 0x104b 1) (computed .5) 0
+    tower-reads card (sized (built .0) .long) 0x41 1 (replicate 16 3) arena redraw between (reading 0x104b 1) (computed .5) 0
     (record { listed = omega arith; number = refl; block = refl }) (replicate 16 0) refl
+
+-- and what it reads of lane 1 in the race, in whatever output it is lent
+lane-one
+    : (out : List ℕ) → length out ≡ 48
+    → part (outputAfter out (serve Race.race (arenaThen Race.race Race.arena Race.draw Race.between) Race.look)) 0 16 ≡ Race.leander
+unfolding numberOf unpackAt elementsFrom
+lane-one out l =
+    tower-reads Race.race (sized (built .1) .long) 0x41 0 Race.leander Race.arena Race.draw Race.between Race.look (computed .6 .2) 0
+    (record { listed = omega arith; number = refl; block = refl }) out l

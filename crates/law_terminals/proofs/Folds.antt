@@ -107,7 +107,7 @@ replaced hits brings i x v = cond (hits x) (brings i) v
 
 module _ {E A : Type 0} (hits : E → Bool) (brings : ℕ → A) (none : E) where
   -- no hit, no change
-  folded-none : (i : ℕ) (xs : List E) (v : A) → ((j : ℕ) → j < length xs → hits (getD xs j none) ≡ false) →
+  pub folded-none : (i : ℕ) (xs : List E) (v : A) → ((j : ℕ) → j < length xs → hits (getD xs j none) ≡ false) →
       folded (replaced hits brings) i xs v ≡ v
   unfolding folded
   folded-none i [] v h = refl

@@ -1,12 +1,8 @@
 -- Two terminals that see two views of the state: each view is served by itself, and left alone by the other terminal. Assumes nothing.
 use mathlib.Core.List.{List, [], _∷_}
-use mathlib.Core.Path.{_≡_, refl, ap₂}
-use Rattle.law_terminals.specs.Orders.{Terminal, one, two, Sent, by, only, all, after, answers, told, Undisturbed}
-
--- every one of a list
-abbrev pub All : {X : Type 0} → (X → Type 0) → List X → Type 0
-All F [] = Unit {0}
-All F (x ∷ xs) = F x × All F xs
+use mathlib.Core.Path.{_≡_, refl, sym, _∙_, ap, ap₂}
+use Rattle.law_terminals.specs.Orders.{Terminal, one, two, Marked, by, only, all, after, answers, told, Undisturbed}
+use Rattle.law_terminals.specs.Two.{All}
 
 abbrev pub other : Terminal → Terminal
 other one = two
@@ -30,7 +26,7 @@ module _ {S R A : Type 0} (answer : S → R → A) (next : S → R → S) where
   module _ (Same : Terminal → S → S → Type 0) (Fits : Terminal → R → Type 0) (v : Views Same Fits) where
     -- what t sees and hears of an order is what it sees and hears of its own requests, from any state that looks alike
     alone
-        : (t : Terminal) (s u : S) (zs : List (Sent R)) → All (Fits one) (only one zs) → All (Fits two) (only two zs) → Same t s u
+        : (t : Terminal) (s u : S) (zs : List (Marked R)) → All (Fits one) (only one zs) → All (Fits two) (only two zs) → Same t s u
         → (only t (told answer next s zs) ≡ answers answer next u (only t zs)) × Same t (after answer next s (all zs)) (after answer next u (only t zs))
     unfolding only all told after answers
     alone one s u [] f g h = (refl, h)
@@ -54,7 +50,7 @@ module _ {S R A : Type 0} (answer : S → R → A) (next : S → R → S) where
 
     -- so no order disturbs either
     pub undisturbed
-        : (s : S) (zs : List (Sent R)) → All (Fits one) (only one zs) → All (Fits two) (only two zs) → Undisturbed answer next s zs
+        : (s : S) (zs : List (Marked R)) → All (Fits one) (only one zs) → All (Fits two) (only two zs) → Undisturbed answer next s zs
     undisturbed s zs f g =
         let a = after answer next s (only one zs) in
         let b = after answer next s (only two zs) in
@@ -70,3 +66,23 @@ module _ {S R A : Type 0} (answer : S → R → A) (next : S → R → S) where
               v .whole _ _ (alone one s b zs f g (spared one s (only two zs) g) .1)
               (v .join two _ b _ (w₂ .1) (spared two b (only one zs) f));
         }
+
+  -- where no request changes the state, no order disturbs either
+  pub still-undisturbed
+      : ((s : S) (r : R) → next s r ≡ s) → (s : S) (zs : List (Marked R)) → Undisturbed answer next s zs
+  still-undisturbed same s zs =
+      undisturbed (λ t s u. s ≡ u) (λ t r. Unit {0})
+      (record {
+        alike = λ t s. refl;
+        flip = λ t s u h. sym h;
+        join = λ t s u v h k. h ∙ k;
+        whole = λ s u h k. h;
+        hear = λ t s u r f h. ap (λ (x : S). answer x r) h;
+        keep = λ t s u r f h. ap (λ (x : S). next x r) h;
+        spare = λ t s r f. sym (same s r);
+      })
+      s zs (any (only one zs)) (any (only two zs))
+    where
+      any : (rs : List R) → All (λ r. Unit {0}) rs
+      any [] = tt
+      any (r ∷ rs) = (tt, any rs)

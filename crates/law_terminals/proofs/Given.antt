@@ -27,13 +27,18 @@ module _ (c : Card) (a : List ℕ) (q : Request) (t : q .write ≡ false) (e : s
       let k = accepted c a q e in
       all-ready c h (k .fit .sound) (q .codes) (q .write) (q .«open») (elementsIn q) (k .checked) (length a) (k .fit .arena)
 
-  pub given : (j : ℕ) (out : List ℕ) → j < length (elementsIn q) → length out ≡ q .room →
-      part (outputAfter out (serve c a q)) (16 * j) 16
-      ≡ part a (16 * rowIn (rowsIn c q) (elementAt q j) .start + 16 * elementAt q j .number) 16
-  given j out l o =
+  -- what the read gives, at the element's place
+  pub given : (j : ℕ) → j < length (elementsIn q) →
+      part (serve c a q .read) (16 * j) 16 ≡ part a (16 * rowIn (rowsIn c q) (elementAt q j) .start + 16 * elementAt q j .number) 16
+  given j l = rw (blocks-given c a q e t) (read-at (rowsIn c q) a (elementsIn q) j ready l)
+
+  -- the same of the output that it is lent
+  pub put-out : (j : ℕ) (out : List ℕ) → j < length (elementsIn q) → length out ≡ q .room →
+      part (outputAfter out (serve c a q)) (16 * j) 16 ≡ part (serve c a q .read) (16 * j) 16
+  put-out j out l o =
       let k = accepted c a q e in
       let bytes = blocksRead (rowsIn c q) a (elementsIn q) in
       let long : length bytes ≡ 16 * length (elementsIn q) = read-long (rowsIn c q) a (elementsIn q) ready in
       let room = k .fit .output t in
       let whole = part-of-put out 0 (length bytes) bytes (16 * j) 16 (omega (arith, long, room, counted k, o)) refl (omega (arith, long, l)) in
-      rw (blocks-given c a q e t) ((rw (zero-add (16 * j)) at whole) ∙ read-at (rowsIn c q) a (elementsIn q) j ready l)
+      rw (blocks-given c a q e t) (rw (zero-add (16 * j)) at whole)

@@ -1,75 +1,75 @@
 -- The tower reads what the marshal wrote last. Read specs/Last.antt for the statement: `TowerReads c`. The last law says that it holds
--- of every card that accepted additions and limits produce.
-use Prim.Native.Nat.{ℕ, _+_, _*_, _≤_, _<_}
-use native.Mathlib.Omega.{arith}
-use mathlib.Core.Path.{_≡_, refl, sym, _∙_, subst}
+-- of every card.
+use Prim.Native.Nat.{ℕ, _+_, _*_, _<_}
+use mathlib.Core.Path.{_≡_, refl, sym, ap, _∙_}
 use mathlib.Core.Bool.{Bool, true, false}
 use mathlib.Core.List.{List, [], _∷_}
-use mathlib.Core.Logic.{inr, ⊎-elim}
+use mathlib.Core.Logic.{⊎-elim}
+use lib.ListN.{length}
+use Rattle.service_code.specs.declared.code.ServiceKind.the-variants.{Random}
+use Rattle.service_code.specs.declared.code.DecodedKind.the-variants.{Defined as OfKind}
+use Rattle.service_code.specs.Code.{numberOf, codeKindOf}
+use Rattle.byte_parts.specs.Part.{part}
 use Rattle.card_build.specs.declared.card.Card.{Card}
 use Rattle.card_build.specs.Card.{nodesOf}
 use Rattle.card_laws.specs.Built.{Built}
-use Rattle.card_laws.proofs.Laid.{laid, sized}
+use Rattle.card_laws.proofs.Built.{sound-built}
+use Rattle.card_laws.proofs.Laid.{laid}
+use Rattle.request_check.specs.declared.table.Row.{Row}
 use Rattle.request_plan.specs.declared.Reply.the-variants.{Done}
 use Rattle.request_plan.specs.Request.{Request}
-use Rattle.request_plan.specs.Serve.{serve}
+use Rattle.request_plan.specs.Serve.{serve, outputAfter}
 use Rattle.request_plan.proofs.Accepted.{accepted, done-or-left, read-leaves}
-use Rattle.request_plan.proofs.Same.{Same, same-refl, same-trans, part-same}
-use Rattle.request_plan.proofs.Frame.{serve-spares}
 use Rattle.law_terminals.specs.Orders.{after}
-use Rattle.law_terminals.specs.Two.{Names, answerOf, arenaAfter}
-use Rattle.law_terminals.specs.Last.{Quiet, arenaThen, TowerReads}
-use Rattle.law_terminals.proofs.Owned.{Holds, lies-holds, own-row, one-number, one-store}
-use Rattle.law_terminals.proofs.Named.{named-owner}
-use Rattle.law_terminals.proofs.Written.{row, row-owner, block-fits, wrote}
-use Rattle.law_terminals.proofs.Given.{given}
+use Rattle.law_terminals.specs.Two.{answerOf, arenaAfter}
+use Rattle.law_terminals.specs.Last.{NamesBlock, Quiet, arenaThen, Redrawn, TowerReads}
+use Rattle.law_terminals.proofs.Owned.{ServiceRow, one-store}
+use Rattle.law_terminals.proofs.Named.{named-good, named-service}
+use Rattle.law_terminals.proofs.Written.{wrote, kept}
+use Rattle.law_terminals.proofs.Given.{given, put-out}
 
--- Requests of which no accepted write names the number n leave its stores.
-module _ {c : Card} (b : Built c) (n : ℕ) where
-  -- the bytes of its stores are the same
-  abbrev Kept : List ℕ → List ℕ → Type 0
-  Kept s u = Same (Holds (nodesOf c) n) s u
+-- Requests of which no accepted write names block k of the random store of number n leave that block.
+module _ {c : Card} (b : Built c) {own n : ℕ} {v : Row} (o : ServiceRow (nodesOf c) own v) (numbered : numberOf own ≡ n)
+    (random : codeKindOf own ≡ OfKind Random) {k : ℕ} (here : k < v .blocks) where
+  -- the block, in an arena
+  abbrev block : List ℕ → List ℕ
+  block a = part a (16 * v .start + 16 * k) 16
 
-  -- a request that does not name it
-  unnamed-kept : (a : List ℕ) (r : Request) → (Names n r → ⊥) → Kept a (arenaAfter c a r)
-  unnamed-kept a r f =
-      serve-spares (Holds (nodesOf c) n) c r
-      (λ j i l h.
-      let q = own-row (nodesOf c) (r .codes) j i l in
-      f (subst (λ x. Names x r) (one-number (laid b) i (q .0) n (q .1) h) (q .2)))
-      a
-
-  -- a request that leaves the arena
-  left-kept : (a : List ℕ) (r : Request) → arenaAfter c a r ≡ a → Kept a (arenaAfter c a r)
-  left-kept a r e = rw e (same-refl (Holds (nodesOf c) n) a)
-
-  -- any of them
-  one-kept : (a : List ℕ) (r : Request) → (r .write ≡ true → serve c a r .reply ≡ Done → Names n r → ⊥) → Kept a (arenaAfter c a r)
+  -- one of them
+  one-kept : (a : List ℕ) (r : Request) → (r .write ≡ true → serve c a r .reply ≡ Done → (i : ℕ) → NamesBlock n k r i → ⊥) →
+      block (arenaAfter c a r) ≡ block a
   one-kept a r f = by-write (r .write) refl
     where
-      by-write : (t : Bool) → r .write ≡ t → Kept a (arenaAfter c a r)
-      by-write true e = ⊎-elim (λ d. unnamed-kept a r (f e d)) (λ q. left-kept a r q) (done-or-left c a r)
-      by-write false e = left-kept a r (read-leaves c a r e)
+      by-write : (t : Bool) → r .write ≡ t → block (arenaAfter c a r) ≡ block a
+      by-write true e = ⊎-elim (λ d. kept b o numbered random here a r e d (f e d)) (ap block) (done-or-left c a r)
+      by-write false e = ap block (read-leaves c a r e)
 
   -- all of them
-  quiet-kept : (rs : List Request) (a : List ℕ) → Quiet c n a rs → Kept a (after (answerOf c) (arenaAfter c) a rs)
+  quiet-kept : (rs : List Request) (a : List ℕ) → Quiet c n k a rs → block (after (answerOf c) (arenaAfter c) a rs) ≡ block a
   unfolding after
-  quiet-kept [] a q = same-refl (Holds (nodesOf c) n) a
-  quiet-kept (r ∷ rs) a q =
-      same-trans (Holds (nodesOf c) n) a (arenaAfter c a r) _ (one-kept a r (q .0)) (quiet-kept rs (arenaAfter c a r) (q .1))
+  quiet-kept [] a q = refl
+  quiet-kept (r ∷ rs) a q = quiet-kept rs (arenaAfter c a r) (q .1) ∙ one-kept a r (q .0)
 
--- on every finished card the tower reads what was written last
-pub tower-reads : {c : Card} → Built c → TowerReads c
-tower-reads {c} b n k d a w rs q m j p out l =
-    let first = arenaAfter c a w in
-    let then = arenaThen c a w rs in
-    let v = row b a w (m .write) (m .written) (m .brings) in
-    let o = row-owner b a w (m .write) (m .written) (m .brings) in
-    let h = block-fits b a w (m .write) (m .written) (m .brings) in
-    let x = one-store (laid b) (named-owner (accepted c then q (m .answered)) p) o (p .number ∙ sym (m .brings .names .number)) in
-    let inside : (i : ℕ) → 16 * v .start + 16 * k ≤ i → i < 16 * v .start + 16 * k + 16 → Holds (nodesOf c) n i =
-    λ i f g. subst (λ x. Holds (nodesOf c) x i) (m .brings .names .number) (lies-holds (inr o) (omega arith, omega (arith, h, g))) in
-    let kept = quiet-kept b n rs first (m .quiet) in
-    given c then q (m .read) (m .answered) (sized b .long) j out (p .listed) l
-    ∙ rw (x .0, p .block) (sym (part-same (Holds (nodesOf c) n) first then (16 * v .start + 16 * k) 16 kept inside)
-    ∙ wrote b a w (m .write) (m .written) (m .brings))
+module _ (c : Card) (z : length (c .nodes) ≡ 64) {n k : ℕ} {d a : List ℕ} {w : Request} {rs : List Request} {q : Request}
+    (m : Redrawn c n k d a w rs q) {j : ℕ} (p : NamesBlock n k q j) where
+  -- the read gives what was written last; a card that accepts a request is built
+  pub tower-given : part (serve c (arenaThen c a w rs) q .read) (16 * j) 16 ≡ d
+  tower-given =
+      let b = sound-built c z (accepted c a w (m .written) .fit .sound) in
+      let then = arenaThen c a w rs in
+      let t = m .brings in
+      let own = named-service (accepted c a w (m .written)) (t .names) in
+      let here = rw (t .names .block) at (named-good (accepted c a w (m .written)) (t .names) .number) in
+      let x = one-store (laid b) (named-service (accepted c then q (m .answered)) p) own (p .number ∙ sym (t .names .number)) in
+      given c then q (m .read) (m .answered) z j (p .listed)
+      ∙ rw (x .0, p .block) (quiet-kept b own (t .names .number) (t .random) here rs (arenaAfter c a w) (m .quiet)
+      ∙ wrote b own (t .names .number) (t .random) here a w (m .write) (m .written) (t .place) (t .names) (t .last)
+      ∙ t .bytes)
+
+  -- and puts it out
+  pub tower-out : (out : List ℕ) → length out ≡ q .room → part (outputAfter out (serve c (arenaThen c a w rs) q)) (16 * j) 16 ≡ d
+  tower-out out l = put-out c (arenaThen c a w rs) q (m .read) (m .answered) z j out (p .listed) l ∙ tower-given
+
+-- on every card, which has 64 records, the tower reads what was written last
+pub tower-reads : (c : Card) → length (c .nodes) ≡ 64 → TowerReads c
+tower-reads c z n k d a w rs q m j p out l = tower-out c z m p out l

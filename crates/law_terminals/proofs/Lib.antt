@@ -1,5 +1,5 @@
 -- The theorems: Two (two terminals), Runs (the same of the program's own calls), Last (the tower). Example computes orders of both
--- kinds. The others are what these cite.
+-- kinds, and the race of the sample (Race). The others are what these cite.
 mod Generic
 mod Owned
 mod Folds
@@ -11,4 +11,5 @@ pub mod Orders
 pub mod Two
 pub mod Runs
 pub mod Last
+mod Race
 mod Example

@@ -14,17 +14,19 @@ use Rattle.card_nodes.specs.declared.node.Entry.the-variants.{Area, Service}
 use Rattle.card_nodes.specs.declared.node.Node.{Node}
 use Rattle.card_nodes.specs.declared.find.Found.{Found}
 use Rattle.card_nodes.specs.declared.find.Found.the-variants.{At, Nothing}
-use Rattle.card_nodes.specs.Node.{isService, startOf, blocksOf}
+use Rattle.card_nodes.specs.Node.{rootNode, isService, startOf, blocksOf}
 use Rattle.card_nodes.specs.Find.{serviceOf}
+use Rattle.card_build.specs.declared.card.Card.{Card}
+use Rattle.card_build.specs.Card.{nodesOf}
 use Rattle.card_laws.proofs.Laid.{nodeAt, Laid, served, shared, apart}
 use Rattle.request_check.specs.declared.table.Row.{Row}
 use Rattle.request_check.specs.Row.{rowBy, rowAt, rowOf, rowsOf, rowAtIndex, rowIn}
 use Rattle.request_check.proofs.Laws.{Good}
 use Rattle.request_plan.proofs.Frame.{LiesIn}
-use Rattle.law_terminals.specs.Two.{Any}
+use Rattle.law_terminals.specs.Two.{Any, HasNumber}
 
 -- a row is that of a service of the code
-pub record Owner (ns : List Node) (code : ℕ) (w : Row) : Type 0 where
+pub record ServiceRow (ns : List Node) (code : ℕ) (w : Row) : Type 0 where
   pub node : ℕ
   pub service : isService (nodeAt ns node .entry) ≡ true
   pub coded : nodeAt ns node .code ≡ code
@@ -34,7 +36,7 @@ pub record Owner (ns : List Node) (code : ℕ) (w : Row) : Type 0 where
 
 -- a row that holds no byte, or one of such a service
 abbrev pub Owned : List Node → ℕ → Row → Type 0
-Owned ns code w = (w .blocks ≡ 0) ⊎ Owner ns code w
+Owned ns code w = (w .blocks ≡ 0) ⊎ ServiceRow ns code w
 
 module _ (ns : List Node) where
   -- the row of a code
@@ -42,7 +44,7 @@ module _ (ns : List Node) where
   unfolding rowOf
   row-owned code = here (serviceOf ns code) refl
     where
-      by-entry : (j : ℕ) (e : Entry) → nodeAt ns j .entry ≡ e → nodeAt ns j .code ≡ code → isService e ≡ true → Owner ns code (rowBy code e)
+      by-entry : (j : ℕ) (e : Entry) → nodeAt ns j .entry ≡ e → nodeAt ns j .code ≡ code → isService e ≡ true → ServiceRow ns code (rowBy code e)
       by-entry j (Area end) q k h = absurd (false≢true h)
       by-entry j (Service start blocks limit) q k h = record {
         node = j;
@@ -65,9 +67,9 @@ module _ (ns : List Node) where
   index-owned (code ∷ codes) (suc j) = index-owned codes j
 
 -- so the row of an element that passed its check is that of a service
-pub good-owner : (ns : List Node) (codes : List ℕ) {write : Bool} {e : BlockListElement} → Good (rowsOf ns codes) write e →
-    Owner ns (getD codes (e .index) 0) (rowIn (rowsOf ns codes) e)
-good-owner ns codes {e = e} g = ⊎-elim (λ z. let k = g .number in absurd (omega arith)) (λ o. o) (index-owned ns codes (e .index))
+pub good-service : (ns : List Node) (codes : List ℕ) {write : Bool} {e : BlockListElement} → Good (rowsOf ns codes) write e →
+    ServiceRow ns (getD codes (e .index) 0) (rowIn (rowsOf ns codes) e)
+good-service ns codes {e = e} g = ⊎-elim (λ z. let k = g .number in absurd (omega arith)) (λ o. o) (index-owned ns codes (e .index))
 
 -- byte i of the arena is one of a store of the number k
 pub record Holds (ns : List Node) (k i : ℕ) : Type 0 where
@@ -76,6 +78,17 @@ pub record Holds (ns : List Node) (k i : ℕ) : Type 0 where
   pub number : numberOf (nodeAt ns node .code) ≡ k
   pub from : 16 * startOf (nodeAt ns node .entry) ≤ i
   pub to : i < 16 * startOf (nodeAt ns node .entry) + 16 * blocksOf (nodeAt ns node .entry)
+
+-- what holds of one of a list, found by its index
+any-at : {X : Type 0} (F : X → Type 0) (none : X) (xs : List X) (j : ℕ) → F (getD xs j none) → (F none → ⊥) → Any F xs
+any-at F none [] zero h f = f h
+any-at F none [] (suc j) h f = f h
+any-at F none (x ∷ xs) zero h f = inl h
+any-at F none (x ∷ xs) (suc j) h f = inr (any-at F none xs j h f)
+
+-- then the card has a service of that number
+pub holds-has : (c : Card) {k i : ℕ} → Holds (nodesOf c) k i → HasNumber c k
+holds-has c h = any-at _ rootNode (nodesOf c) (h .node) (h .service, h .number) (λ z. false≢true (z .0))
 
 -- so it is where it lies in the store of an owned row
 pub lies-holds : {ns : List Node} {code i : ℕ} {w : Row} → Owned ns code w → LiesIn w i → Holds ns (numberOf code) i
@@ -107,7 +120,7 @@ one-number d i k l h g =
           (apart d (h .node) (g .node) (h .service) (g .service) (λ q. e (sym (h .number) ∙ q ∙ g .number))))
     ]
 
-module _ {ns : List Node} {used : ℕ} (d : Laid ns used) {a b : ℕ} {w v : Row} (o : Owner ns a w) (p : Owner ns b v) where
+module _ {ns : List Node} {used : ℕ} (d : Laid ns used) {a b : ℕ} {w v : Row} (o : ServiceRow ns a w) (p : ServiceRow ns b v) where
   -- codes of one number have one store, and are of one kind
   pub one-store : numberOf a ≡ numberOf b → (w .start ≡ v .start) × (w .blocks ≡ v .blocks) × (codeKindOf a ≡ codeKindOf b)
   one-store e =

@@ -30,7 +30,7 @@ use Rattle.request_rules.specs.Lens.{back, within}
 use Rattle.request_rules.specs.Rules.{elementBy, endBy, onStore}
 use Rattle.request_runs.specs.Runs.{good, runsOf}
 use Rattle.request_runs.specs.Staged.{atIndex, elementOn, endOn, staged}
-use Rattle.law_terminals.proofs.Owned.{Owner, good-owner, one-store, two-stores}
+use Rattle.law_terminals.proofs.Owned.{ServiceRow, good-service, one-store, two-stores}
 use Rattle.law_terminals.proofs.Folds.{failure, AllFrom, folded, replaced, flat-runs, walk-tracks}
 
 -- a part of what was put
@@ -131,7 +131,7 @@ pub record Checks (rows : List Row) (d : List ℕ) (i : ℕ) (x : BlockListEleme
 
 -- Block b of a random store, that of the service `own`, in a stage of `size` bytes, over a write of the codes and the data d.
 module _ {ns : List Node} {used : ℕ} (l : Laid ns used) (codes d : List ℕ) {own : ℕ} (random : codeKindOf own ≡ OfKind Random) {v : Row}
-    (o : Owner ns own v) (size b : ℕ) (fits : 16 * v .start + 16 * v .blocks ≤ size) (here : b < v .blocks) where
+    (o : ServiceRow ns own v) (size b : ℕ) (fits : 16 * v .start + 16 * v .blocks ≤ size) (here : b < v .blocks) where
   abbrev rows : List Row
   rows = rowsOf ns codes
 
@@ -152,7 +152,7 @@ module _ {ns : List Node} {used : ℕ} (l : Laid ns used) (codes d : List ℕ) {
     written : numberOf (codeOf x) ≡ numberOf own → rowIn rows x .attribute ≡ Defined RandomReadWrite
     unfolding codeKindOf
     written same =
-        let p = good-owner ns codes g in
+        let p = good-service ns codes g in
         let a : attributeOf (codeOf x) ≡ Defined (g .attribute) = sym (p .attribute) ∙ g .defined in
         g .defined
         ∙ random-writes (g .attribute) (sym (ap decodedKindOf a) ∙ one-store l p o same .2 ∙ random) (g .writable refl)
@@ -163,7 +163,7 @@ module _ {ns : List Node} {used : ℕ} (l : Laid ns used) (codes d : List ℕ) {
     others other i rule s t e =
         let w = rowIn rows x in
         let q = step-put i w rule s t e in
-        let k = two-stores l (good-owner ns codes g) o other in
+        let k = two-stores l (good-service ns codes g) o other in
         rw (q .2) (
           length-put s (16 * w .start) (16 * w .blocks) (q .0),
           part-put-apart s (16 * w .start) (16 * w .blocks) (q .0) (16 * v .start + 16 * b) 16
@@ -176,7 +176,7 @@ module _ {ns : List Node} {used : ℕ} (l : Laid ns used) (codes d : List ℕ) {
   element-is i x s t g f e =
       elim (ℕ-discrete (numberOf (codeOf x)) (numberOf own)) [
         | yes same ↦
-            let k = one-store l (good-owner ns codes (g .passes)) o same in
+            let k = one-store l (good-service ns codes (g .passes)) o same in
             let p = rw (k .0, k .1) at
             (random-element i (rowIn rows x) (written x (g .passes) same) s t (x .number) (x .mode) (dataAt d i) e) in
             let n : x .number < v .blocks = rw (k .1) at (g .passes .number) in

@@ -1,23 +1,27 @@
--- Two terminals at one card. Read specs/Two.antt for the statement: `TwoTerminals c`. Its last law says that it holds of every card
--- that accepted additions and limits produce.
+-- Two terminals at one card. Read specs/Two.antt for the statement: `TwoTerminals c`. The law `two-terminals` says that it holds of every
+-- card: those that accepted additions and limits produce, and all others, where every request is refused.
 use Prim.Native.Nat.{ℕ, _*_}
 use mathlib.Core.Path.{_≡_, refl, ap, subst}
+use mathlib.Core.Bool.{Bool, true, false}
 use mathlib.Core.List.{List, [], _∷_}
 use mathlib.Core.Logic.{inl, inr}
+use lib.ListN.{length}
 use Rattle.card_build.specs.declared.card.Card.{Card}
-use Rattle.card_build.specs.Card.{nodesOf}
+use Rattle.card_build.specs.Card.{nodesOf, isSound}
 use Rattle.card_laws.specs.Built.{Built}
+use Rattle.card_laws.proofs.Built.{sound-built}
 use Rattle.card_laws.proofs.Laid.{Laid, laid}
 use Rattle.request_check.specs.Row.{rowAtIndex}
 use Rattle.request_plan.specs.Request.{Request}
 use Rattle.request_plan.specs.Plan.{rowsIn}
 use Rattle.request_plan.specs.Serve.{serve, outputAfter, stagingBy}
+use Rattle.request_plan.proofs.Accepted.{unsound-left}
 use Rattle.request_plan.proofs.Same.{Same, same-refl, same-sym, same-trans, same-whole}
 use Rattle.request_plan.proofs.Frame.{LiesIn, serve-keeps, serve-spares}
-use Rattle.law_terminals.specs.Orders.{Terminal, one, two, Sent, only, Undisturbed}
-use Rattle.law_terminals.specs.Two.{Answer, answerOf, outputOf, stagingOf, arenaAfter, Any, Names, TwoTerminals}
-use Rattle.law_terminals.proofs.Generic.{All, other, Views, undisturbed}
-use Rattle.law_terminals.proofs.Owned.{Holds, own-row, one-number}
+use Rattle.law_terminals.specs.Orders.{Terminal, one, two, Marked, only, Undisturbed}
+use Rattle.law_terminals.specs.Two.{Answer, answerOf, outputOf, stagingOf, arenaAfter, Any, All, Names, HasNumber, TwoTerminals}
+use Rattle.law_terminals.proofs.Generic.{other, Views, undisturbed, still-undisturbed}
+use Rattle.law_terminals.proofs.Owned.{Holds, holds-has, own-row, one-number}
 
 -- The terminals ask by whatever makes a request (`ask`), and keep of the answer whatever they keep (`leave`): requests and their
 -- answers themselves, or calls and the buffers that they leave.
@@ -33,8 +37,8 @@ module _ (c : Card) {K L : Type 0} (ask : K → Request) (leave : K → Answer �
   named-all [] N w = tt
   named-all (x ∷ xs) N w = (λ k n. w k (inl n), named-all xs N (λ k n. w k (inr n)))
 
-  -- the numbers of the two terminals, none of them shared
-  module _ (N : Terminal → ℕ → Type 0) (none : (k : ℕ) → N one k → N two k → ⊥) where
+  -- the numbers of the two terminals, none of a service of the card shared
+  module _ (N : Terminal → ℕ → Type 0) (none : (k : ℕ) → HasNumber c k → N one k → N two k → ⊥) where
     -- one sees the bytes of its stores, two all others
     Seen : Terminal → ℕ → Type 0
     Seen one i = (k : ℕ) × N one k × Holds (nodesOf c) k i
@@ -52,7 +56,7 @@ module _ (c : Card) {K L : Type 0} (ask : K → Request) (leave : K → Answer �
       inside : (t : Terminal) (i k : ℕ) → Holds (nodesOf c) k i → N t k → Seen t i
       unfolding Seen
       inside one i k h n = (k, n, h)
-      inside two i k h n = λ s. none k (subst (N one) (one-number l i (s .0) k (s .2) h) (s .1)) n
+      inside two i k h n = λ s. none k (holds-has c h) (subst (N one) (one-number l i (s .0) k (s .2) h) (s .1)) n
 
       -- and the other does not
       outside : (t : Terminal) (i k : ℕ) → Holds (nodesOf c) k i → N (other t) k → Seen t i → ⊥
@@ -85,20 +89,31 @@ module _ (c : Card) {K L : Type 0} (ask : K → Request) (leave : K → Answer �
         spare = λ t s x f. serve-spares (Seen t) c (ask x) (theirs t x f) s;
       }
 
-  -- no order disturbs either
-  pub two-askers
-      : Built c → (a : List ℕ) (zs : List (Sent K))
-      → ((k : ℕ) → Any (λ x. Names k (ask x)) (only one zs) → Any (λ x. Names k (ask x)) (only two zs) → ⊥)
+  -- no order disturbs either, on a card that accepted additions and limits produce
+  built-askers
+      : Built c → (a : List ℕ) (zs : List (Marked K))
+      → ((k : ℕ) → HasNumber c k → Any (λ x. Names k (ask x)) (only one zs) → Any (λ x. Names k (ask x)) (only two zs) → ⊥)
       → Undisturbed leftOf arenaOf a zs
   unfolding Fits
-  two-askers b a zs none =
+  built-askers b a zs none =
       let N : Terminal → ℕ → Type 0 = λ t k. Any (λ x. Names k (ask x)) (only t zs) in
       undisturbed leftOf arenaOf (Sees N none) (Fits N none) (views N none (laid b)) a zs
       (named-all (only one zs) (N one) (λ k n. n)) (named-all (only two zs) (N two) (λ k n. n))
 
--- on every finished card no terminal disturbs another with which it shares no service number
-pub two-terminals : {c : Card} → Built c → TwoTerminals c
-two-terminals {c} b = two-askers c (λ r. r) (λ r x. x) b
+  -- nor on another, where every request is refused
+  pub two-askers
+      : length (c .nodes) ≡ 64 → (a : List ℕ) (zs : List (Marked K))
+      → ((k : ℕ) → HasNumber c k → Any (λ x. Names k (ask x)) (only one zs) → Any (λ x. Names k (ask x)) (only two zs) → ⊥)
+      → Undisturbed leftOf arenaOf a zs
+  two-askers h a zs none = by-sound (isSound c) refl
+    where
+      by-sound : (t : Bool) → isSound c ≡ t → Undisturbed leftOf arenaOf a zs
+      by-sound true e = built-askers (sound-built c h e) a zs none
+      by-sound false e = still-undisturbed leftOf arenaOf (λ s x. unsound-left c s (ask x) e) a zs
+
+-- on every card, which has 64 records, no terminal disturbs another with which it shares no number of a service of the card
+pub two-terminals : (c : Card) → length (c .nodes) ≡ 64 → TwoTerminals c
+two-terminals c = two-askers c (λ r. r) (λ r x. x)
 
 module _ (c : Card) (a : List ℕ) (r : Request) where
   -- what `read` promises of its output follows from the answer

@@ -15,7 +15,7 @@ use Rattle.request_plan.specs.Request.{Request}
 use Rattle.request_plan.specs.Plan.{elementsIn}
 use Rattle.request_plan.specs.Serve.{serve, outputAfter}
 use Rattle.law_terminals.specs.Orders.{after}
-use Rattle.law_terminals.specs.Two.{answerOf, arenaAfter, Names}
+use Rattle.law_terminals.specs.Two.{answerOf, arenaAfter}
 
 -- element i of a request's list, counted from 0
 abbrev pub elementAt : Request → ℕ → BlockListElement
@@ -43,10 +43,13 @@ pub record LastBrings (n b : ℕ) (d : List ℕ) (r : Request) : Type 0 where
   -- of the data its own sixteen bytes are d
   pub bytes : part (r .«data») (16 * place) 16 ≡ d
 
--- From an arena on, no write of the list names the number n and is accepted. Reads may name it, and writes that fail or are refused.
-abbrev pub Quiet : Card → ℕ → List ℕ → List Request → Type 0
-Quiet c n a [] = Unit {0}
-Quiet c n a (r ∷ rs) = (r .write ≡ true → serve c a r .reply ≡ Done → Names n r → ⊥) × Quiet c n (arenaAfter c a r) rs
+-- From an arena on, no accepted write of the list has an element that names block b of number n. Reads may name it, and writes that
+-- fail or are refused; accepted writes may name other blocks of the number.
+abbrev pub Quiet : Card → ℕ → ℕ → List ℕ → List Request → Type 0
+Quiet c n b a [] = Unit {0}
+Quiet c n b a (r ∷ rs) =
+    (r .write ≡ true → serve c a r .reply ≡ Done → (i : ℕ) → NamesBlock n b r i → ⊥)
+    × Quiet c n b (arenaAfter c a r) rs
 
 -- the arena after a write and the requests that follow it
 abbrev pub arenaThen : Card → List ℕ → Request → List Request → List ℕ
@@ -59,8 +62,8 @@ pub record Redrawn (c : Card) (n b : ℕ) (d a : List ℕ) (w : Request) (rs : L
   pub written : serve c a w .reply ≡ Done
   -- its last element for block b of the random store of number n brings the bytes d
   pub brings : LastBrings n b d w
-  -- of the requests after it no accepted write names a service of number n
-  pub quiet : Quiet c n (arenaAfter c a w) rs
+  -- of the requests after it no accepted write names that block
+  pub quiet : Quiet c n b (arenaAfter c a w) rs
   -- the tower's read is accepted
   pub read : q .write ≡ false
   pub answered : serve c (arenaThen c a w rs) q .reply ≡ Done

@@ -8,11 +8,11 @@ pub data Terminal : Type 0 where
   one two : Terminal
 
 -- a request, or an answer, and whose it is: `by one r`, `by two r`
-pub data Sent (X : Type 0) : Type 0 where
-  by : Terminal → X → Sent X
+pub data Marked (X : Type 0) : Type 0 where
+  by : Terminal → X → Marked X
 
 -- one terminal's own, in its own order
-unfoldable pub only : {X : Type 0} → Terminal → List (Sent X) → List X
+unfoldable pub only : {X : Type 0} → Terminal → List (Marked X) → List X
 only t [] = []
 only one (by one x ∷ zs) = x ∷ only one zs
 only one (by two x ∷ zs) = only one zs
@@ -20,7 +20,7 @@ only two (by one x ∷ zs) = only two zs
 only two (by two x ∷ zs) = x ∷ only two zs
 
 -- both terminals', as they come
-unfoldable pub all : {X : Type 0} → List (Sent X) → List X
+unfoldable pub all : {X : Type 0} → List (Marked X) → List X
 all [] = []
 all (by t x ∷ zs) = x ∷ all zs
 
@@ -36,12 +36,12 @@ module _ {S R A : Type 0} (answer : S → R → A) (next : S → R → S) where
   answers s (r ∷ rs) = answer s r ∷ answers (next s r) rs
 
   -- what the requests of an order are answered, each answer marked with the terminal that is told it
-  unfoldable pub told : S → List (Sent R) → List (Sent A)
+  unfoldable pub told : S → List (Marked R) → List (Marked A)
   told s [] = []
   told s (by t r ∷ zs) = by t (answer s r) ∷ told (next s r) zs
 
   -- what is promised of an order
-  pub record Undisturbed (s : S) (zs : List (Sent R)) : Type 0 where
+  pub record Undisturbed (s : S) (zs : List (Marked R)) : Type 0 where
     -- terminal one is told, request for request, what its own list is told alone from the same state
     pub told-one : only one (told s zs) ≡ answers s (only one zs)
     -- so is terminal two

@@ -1,15 +1,85 @@
--- The same of the program's own `read` and `write`: calls, what their contracts promise, and runs of them.
+-- Runs of calls, and both statements of them. A call makes a request, and its answer leaves the caller something. The program's own `read`
+-- and `write`, the library's calls and request lines are calls of this kind: `ask` says what request a call makes, `leave` what the
+-- answer leaves its caller.
 use Prim.Native.Nat.{ℕ, _*_}
-use mathlib.Core.Bool.{Bool}
+use mathlib.Core.Bool.{Bool, true, false}
 use mathlib.Core.List.{List, [], _∷_, _++_, map}
 use mathlib.Core.Path.{_≡_}
 use lib.ListN.{length}
+use Rattle.byte_parts.specs.Part.{part}
 use Rattle.card_build.specs.declared.card.Card.{Card}
 use Rattle.request_plan.specs.declared.Reply.{Reply}
 use Rattle.request_plan.specs.Request.{Request, readRequest, writeRequest}
-use Rattle.request_plan.specs.Serve.{serve, outputAfter, stagingBy}
-use Rattle.law_terminals.specs.Orders.{Sent, one, two, only, all}
-use Rattle.law_terminals.specs.Two.{NoneShared}
+use Rattle.law_terminals.specs.Orders.{Marked, one, two, only, all}
+use Rattle.law_terminals.specs.Two.{Answer, answerOf, outputOf, stagingOf, arenaAfter, All, NoneShared}
+use Rattle.law_terminals.specs.Last.{NamesBlock, LastBrings}
+
+-- a call, and what it left its caller
+pub record Exchange (K L : Type 0) : Type 0 where
+  pub call : K
+  pub left : L
+
+abbrev pub callsOf : {K L : Type 0} → List (Exchange K L) → List K
+callsOf {K} {L} xs = map (λ (x : Exchange K L). x .call) xs
+
+module _ (c : Card) {K L : Type 0} (ask : K → Request) (leave : K → Answer → L) where
+  -- the call k on the arena a leaves its caller x, and the arena b
+  abbrev pub Leaves : List ℕ → K → L → List ℕ → Type 0
+  Leaves a k x b = (x ≡ leave k (answerOf c a (ask k))) × (b ≡ arenaAfter c a (ask k))
+
+  -- a run: calls one after another, each on the arena that the one before it left; the last leaves e
+  abbrev pub Ran : List ℕ → List (Exchange K L) → List ℕ → Type 0
+  Ran a [] e = e ≡ a
+  Ran a (x ∷ xs) e = (b : List ℕ) × Leaves a (x .call) (x .left) b × Ran b xs e
+
+  abbrev pub requestsOf : List (Exchange K L) → List Request
+  requestsOf xs = map (λ (x : Exchange K L). ask (x .call)) xs
+
+  -- what is promised of a run of both terminals' calls, as they came, from the arena a to the arena e
+  pub record Apart (a : List ℕ) (zs : List (Marked (Exchange K L))) (e : List ℕ) : Type 0 where
+    -- whenever the calls of one are run alone from a, they leave one what they left it here, call for call
+    pub one-alone : (xs : List (Exchange K L)) (b : List ℕ) → Ran a xs b → callsOf xs ≡ callsOf (only one zs) → xs ≡ only one zs
+    -- so with two
+    pub two-alone : (xs : List (Exchange K L)) (b : List ℕ) → Ran a xs b → callsOf xs ≡ callsOf (only two zs) → xs ≡ only two zs
+    -- whenever all calls of one are run and then all of two, they leave the same arena
+    pub one-first : (xs : List (Exchange K L)) (b : List ℕ) → Ran a xs b → callsOf xs ≡ callsOf (only one zs ++ only two zs) → b ≡ e
+    -- so with all of two and then all of one
+    pub two-first : (xs : List (Exchange K L)) (b : List ℕ) → Ran a xs b → callsOf xs ≡ callsOf (only two zs ++ only one zs) → b ≡ e
+
+  -- Any run of both terminals' calls, in whatever order they came, where no number of a service of the card is named by both.
+  abbrev pub TwoRuns : Type 0
+  TwoRuns =
+      (a : List ℕ) (zs : List (Marked (Exchange K L))) (e : List ℕ)
+      → Ran a (all zs) e
+      → NoneShared c (requestsOf (only one zs)) (requestsOf (only two zs))
+      → Apart a zs e
+
+  -- `Done x`: by what it was left the caller sees that its request was accepted
+  module _ (Done : L → Type 0) where
+    -- A write, calls after it that are run from the arena that it leaves, and a read on the arena m that these leave.
+    pub record RedrawnBy (n b : ℕ) (d a : List ℕ) (w : Exchange K L) (xs : List (Exchange K L)) (m : List ℕ) (q : Exchange K L) (e : List ℕ) : Type 0 where
+      pub ran : Ran a (w ∷ xs) m
+      pub asked : Leaves m (q .call) (q .left) e
+      -- the marshal's write is accepted, and its last element for block b of the random store of number n brings the bytes d
+      pub write : ask (w .call) .write ≡ true
+      pub written : Done (w .left)
+      pub brings : LastBrings n b d (ask (w .call))
+      -- of the calls after it no accepted write names that block
+      pub quiet : All (λ x. ask (x .call) .write ≡ true → Done (x .left) → (i : ℕ) → NamesBlock n b (ask (x .call)) i → ⊥) xs
+      -- the tower's read is accepted
+      pub read : ask (q .call) .write ≡ false
+      pub answered : Done (q .left)
+
+    -- The read is left what an answer leaves: for each of its elements that names the block, the sixteen bytes at the element's place are d
+    -- in the answer, and in an output of the length that the call lends.
+    abbrev pub TowerRuns : Type 0
+    TowerRuns =
+        (n b : ℕ) (d a : List ℕ) (w : Exchange K L) (xs : List (Exchange K L)) (m : List ℕ) (q : Exchange K L) (e : List ℕ)
+        → RedrawnBy n b d a w xs m q e
+        → (x : Answer)
+        × (q .left ≡ leave (q .call) x)
+        × ((j : ℕ) → NamesBlock n b (ask (q .call)) j → (part (x .read) (16 * j) 16 ≡ d)
+        × ((out : List ℕ) → length out ≡ ask (q .call) .room → part (outputOf x out) (16 * j) 16 ≡ d))
 
 -- A call of `read`, with the output lent to it, or of `write`, with the staging lent to it.
 pub data Call : Type 0 where
@@ -21,54 +91,11 @@ abbrev pub requestOf : Call → Request
 requestOf (reads «open» codes count list out) = readRequest «open» codes count list (length out)
 requestOf (writes «open» codes count list «data» staging) = writeRequest «open» codes count list «data» (length staging)
 
--- what a call leaves its caller: the reply, and the output or the staging as it then is
-pub record Left : Type 0 where
-  pub reply : Reply
+-- what it leaves its caller: the reply in whatever form it is given, and the output or the staging as it then is
+pub record Left (R : Type 0) : Type 0 where
+  pub reply : R
   pub buffer : List ℕ
 
--- What the contracts of `read` and `write` promise of a call on the arena a: what it leaves, and the arena b after it.
--- `read` is lent the arena for reading only.
-abbrev pub Did : Card → List ℕ → Call → Left → List ℕ → Type 0
-Did c a (reads «open» codes count list out) x b =
-    (x .reply ≡ serve c a (readRequest «open» codes count list (length out)) .reply)
-    × (x .buffer ≡ outputAfter out (serve c a (readRequest «open» codes count list (length out))))
-    × (b ≡ a)
-Did c a (writes «open» codes count list «data» staging) x b =
-    (x .reply ≡ serve c a (writeRequest «open» codes count list «data» (length staging)) .reply)
-    × (x .buffer ≡ stagingBy (x .reply) (16 * c .used) staging)
-    × (b ≡ serve c a (writeRequest «open» codes count list «data» (length staging)) .arena)
-
--- a call and what it left
-pub record Turn : Type 0 where
-  pub call : Call
-  pub left : Left
-
--- a run: turns one after another, each on the arena that the one before it left; the last leaves e
-abbrev pub Ran : Card → List ℕ → List Turn → List ℕ → Type 0
-Ran c a [] e = e ≡ a
-Ran c a (t ∷ ts) e = (b : List ℕ) × Did c a (t .call) (t .left) b × Ran c b ts e
-
-abbrev pub callsOf : List Turn → List Call
-callsOf ts = map (λ (t : Turn). t .call) ts
-
-abbrev pub requestsOf : List Turn → List Request
-requestsOf ts = map (λ (t : Turn). requestOf (t .call)) ts
-
--- what is promised of a run of both terminals' turns, as they came, from the arena a to the arena e
-pub record Apart (c : Card) (a : List ℕ) (zs : List (Sent Turn)) (e : List ℕ) : Type 0 where
-  -- whenever the calls of one are run alone from a, they leave one what they left it here, turn for turn
-  pub one-alone : (ts : List Turn) (b : List ℕ) → Ran c a ts b → callsOf ts ≡ callsOf (only one zs) → ts ≡ only one zs
-  -- so with two
-  pub two-alone : (ts : List Turn) (b : List ℕ) → Ran c a ts b → callsOf ts ≡ callsOf (only two zs) → ts ≡ only two zs
-  -- whenever all calls of one are run and then all of two, they leave the same arena
-  pub one-first : (ts : List Turn) (b : List ℕ) → Ran c a ts b → callsOf ts ≡ callsOf (only one zs ++ only two zs) → b ≡ e
-  -- so with all of two and then all of one
-  pub two-first : (ts : List Turn) (b : List ℕ) → Ran c a ts b → callsOf ts ≡ callsOf (only two zs ++ only one zs) → b ≡ e
-
--- At the card c: any run of both terminals' calls, in whatever order they came, where no service number is named by both.
-abbrev pub TwoRuns : Card → Type 0
-TwoRuns c =
-    (a : List ℕ) (zs : List (Sent Turn)) (e : List ℕ)
-    → Ran c a (all zs) e
-    → NoneShared (requestsOf (only one zs)) (requestsOf (only two zs))
-    → Apart c a zs e
+abbrev pub leftBy : {R : Type 0} → (Reply → R) → Card → Call → Answer → Left R
+leftBy form c (reads «open» codes count list out) x = record { reply = form (x .reply); buffer = outputOf x out }
+leftBy form c (writes «open» codes count list «data» staging) x = record { reply = form (x .reply); buffer = stagingOf c x staging }

@@ -10,6 +10,7 @@ use Rattle.block_list.specs.declared.element.BlockListElement.{BlockListElement
 use Rattle.block_list.specs.Element.{endsAfter}
 use Rattle.block_list.proofs.ListsLaws.{ends-count}
 use Rattle.card_build.specs.declared.card.Card.{Card}
+use Rattle.card_build.specs.Card.{isSound}
 use Rattle.byte_parts.specs.Part.{put}
 use Rattle.request_check.specs.declared.check.Checked.{Checked}
 use Rattle.request_check.specs.declared.check.Checked.the-variants.{Passed as AllPassed, Failed as FailedAt}
@@ -22,7 +23,7 @@ use Rattle.request_plan.specs.declared.Reply.the-variants.{Done, Failed}
 use Rattle.request_plan.specs.declared.Judged.{Judged}
 use Rattle.request_plan.specs.declared.Judged.the-variants.{Refused as NotFit, ShortData as NoData, Fit}
 use Rattle.request_plan.specs.Request.{Request}
-use Rattle.request_plan.specs.Plan.{Plan, stop, go, planOf, rowsIn, elementsIn, lengthsOf, judgedOf, judgedPlan, checkedPlan}
+use Rattle.request_plan.specs.Plan.{Plan, stop, go, judgedWith, planOf, rowsIn, elementsIn, lengthsOf, judgedOf, judgedPlan, checkedPlan}
 use Rattle.request_plan.specs.Serve.{Served, blocksRead, committed, carried, planServed, serve}
 use Rattle.request_plan.proofs.Ready.{Fitting, fits}
 use Rattle.request_plan.proofs.Serves.{passed}
@@ -75,6 +76,11 @@ module _ (c : Card) (a : List ℕ) (r : Request) where
       by-plan : (p : Plan) → planServed c a r p .arena ≡ a
       by-plan (stop x) = refl
       by-plan (go es) = rw w
+
+  -- so does every request on a card that was not built
+  pub unsound-left : isSound c ≡ false → serve c a r .arena ≡ a
+  unfolding serve planOf judgedWith
+  unsound-left s = rw s
 
   module _ (e : serve c a r .reply ≡ Done) where
     -- an accepted read gives the blocks that its elements name

@@ -2,10 +2,12 @@
 use Prim.Native.Nat.{ℕ}
 use mathlib.Core.List.{List, []}
 use mathlib.Core.Bool.{Bool, true, false}
-use Rattle.answers.specs.declared.status.Fault.{Fault}
 use Rattle.answers.specs.Status.{sf1Of, sf2Of}
+use Rattle.answers.specs.Refusal.{refusalNumber}
 use Rattle.request_plan.specs.declared.Reply.{Reply}
 use Rattle.request_plan.specs.declared.Reply.the-variants.{Refused, Done, ShortData, Failed}
+use Rattle.request_plan.specs.declared.Response.{Response}
+use Rattle.request_plan.specs.declared.Response.the-variants.{Pair, Refusal}
 
 -- A whole request: a write or a read; open (no service that needs a key) or in a session; its service codes, how many elements its
 -- list has, the list's bytes, the data of a write; and the length of the staging (write) or of the output (read) that is lent.
@@ -25,6 +27,13 @@ readRequest «open» codes count list room =
 abbrev pub writeRequest : Bool → List ℕ → ℕ → List ℕ → List ℕ → ℕ → Request
 writeRequest «open» codes count list «data» room =
     record { write = true; «open» = «open»; codes = codes; count = count; list = list; «data» = «data»; room = room }
+
+-- what a request is told: the number of a refusal, or the pair 00 00, FF AC for short data, or the failed element's place and fault
+abbrev pub responseOf : Reply → Response
+responseOf (Refused r) = Refusal (refusalNumber r)
+responseOf Done = Pair 0 0
+responseOf ShortData = Pair 0xff 0xac
+responseOf (Failed i f) = Pair (sf1Of i) (sf2Of f)
 
 -- status flag 1: 00, FF for short data, or the place of the element that failed
 abbrev pub flag1 : Reply → ℕ

@@ -4,7 +4,7 @@ use answers::status;
 use answers::status::Fault;
 use block_list::reader;
 ghost use mathlib.Core.Path.{_≡_};
-ghost use Rattle.request_plan.specs.Request.{flag1, flag2};
+ghost use Rattle.request_plan.specs.Request.{flag1, flag2, responseOf};
 ghost use Rattle.request_plan.specs.Plan.{lentJudged, judgedWith};
 
 // The reply to a request. Only `Done` is a request carried out.
@@ -17,7 +17,35 @@ pub enum Reply {
     Failed { index: usize, fault: Fault },
 }
 
+// What a request is told: a status pair, or the number of a refusal.
+pub enum Response {
+    Pair { flag1: u8, flag2: u8 },
+    Refusal(u8),
+}
+
 impl Reply {
+    // Gives what a request with this reply is told, so that a refusal is never taken for a status pair.
+    pub fn response(self) -> Response
+        ensures { λ r. ⌜ r ≡ responseOf self ⌝ }
+    {
+        match self {
+            Reply::Refused(refusal) => Response::Refusal(refusal.number()),
+            Reply::Done => Response::Pair { flag1: 0, flag2: 0 },
+            Reply::ShortData => Response::Pair {
+                flag1: 0xff,
+                flag2: 0xac,
+            },
+            Reply::Failed { index, fault } => {
+                let flag1 = status::list_error_index(index);
+                let flag2 = fault.status_flag2();
+                Response::Pair {
+                    flag1: flag1,
+                    flag2: flag2,
+                }
+            }
+        }
+    }
+
     // Status flag 1.
     pub fn status_flag1(self) -> u8
         ensures { λ r. ⌜ r ≡ flag1 self ⌝ }
