@@ -25,7 +25,6 @@ module _ {M : Type 1} (𝓤 : URA M) where
   pub of-three : {φ φ′ φ″ χ : Type 0} → (φ → φ′ → φ″ → χ) → ent 𝓤 (three φ φ′ φ″) (fact 𝓤 χ)
   of-three {φ′ = φ′} {φ″ = φ″} f = more (two φ′ φ″) (λ x. of-two (f x))
 
-  -- of five
-  pub of-five : {φ φ′ φ″ φ‴ ψ χ : Type 0} → (φ → φ′ → φ″ → φ‴ → ψ → χ) → ent 𝓤 (sep 𝓤 (fact 𝓤 φ) (four φ′ φ″ φ‴ ψ)) (fact 𝓤 χ)
-  of-five {φ′ = φ′} {φ″ = φ″} {φ‴ = φ‴} {ψ = ψ} f =
-      more (four φ′ φ″ φ‴ ψ) (λ x. more (three φ″ φ‴ ψ) (λ y. of-three (f x y)))
+  -- of four
+  pub of-four : {φ φ′ φ″ φ‴ χ : Type 0} → (φ → φ′ → φ″ → φ‴ → χ) → ent 𝓤 (four φ φ′ φ″ φ‴) (fact 𝓤 χ)
+  of-four {φ′ = φ′} {φ″ = φ″} {φ‴ = φ‴} f = more (three φ′ φ″ φ‴) (λ x. of-three (f x))

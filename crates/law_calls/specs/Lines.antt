@@ -1,5 +1,5 @@
 -- Request lines as calls: the request that a line makes, and what its answer leaves whoever put the line.
-use Prim.Native.Nat.{ℕ}
+use Prim.Native.Nat.{ℕ, _+_}
 use mathlib.Core.Bool.{true}
 use mathlib.Core.List.{List, []}
 use lib.ListN.{length}
@@ -11,19 +11,18 @@ use Rattle.request_plan.specs.Request.{Request, readRequest, writeRequest}
 use Rattle.line_request.specs.declared.Ask.{Ask}
 use Rattle.line_request.specs.declared.Ask.the-variants.{Malformed, Read, Write}
 use Rattle.line_request.specs.Ask.{askOf}
-use Rattle.line_answer.specs.declared.Printed.{Printed}
-use Rattle.line_answer.specs.declared.Printed.the-variants.{Bytes}
 use Rattle.line_answer.specs.Answer.{answerText}
 use Rattle.line_serve.specs.Line.{codesIn, listIn, dataIn, lineServed, bytesAfter}
 use Rattle.law_terminals.specs.Two.{Answer, outputOf, stagingOf}
 
--- a line, its ordinal, and the buffers lent to it
+-- a line, its ordinal, the buffers lent to it, and the place in `out` from which its answer is put
 pub record LineCall : Type 0 where
   pub line : List ℕ
   pub ordinal : ℕ
   pub work : List ℕ
   pub bytes : List ℕ
   pub out : List ℕ
+  pub at : ℕ
 
 -- A malformed line makes no request: it counts as a read of nothing, whose answer nobody is told.
 abbrev pub requestBy : ℕ → List ℕ → Ask → Request
@@ -53,10 +52,10 @@ workLeft c work x Malformed = work
 workLeft c work x (Read «open» count) = outputOf x work
 workLeft c work x (Write «open» count) = stagingOf c x work
 
--- what a line leaves: the answer, how much was printed of it, and the buffers after it; the answer's text stands in `out`
+-- what a line leaves: the answer, the place after its text, and the buffers after it; the text stands in `out`
 pub record LineLeft : Type 0 where
   pub answer : Answer
-  pub printed : Printed
+  pub last : ℕ
   pub work : List ℕ
   pub bytes : List ℕ
   pub out : List ℕ
@@ -67,10 +66,10 @@ textOf ordinal x = answerText ordinal (x .reply) (x .read)
 abbrev pub leftWith : Card → LineCall → Answer → Answer → LineLeft
 leftWith c k x told = record {
   answer = told;
-  printed = Bytes (length (textOf (k .ordinal) told));
+  last = k .at + length (textOf (k .ordinal) told);
   work = workLeft c (k .work) x (askOf (k .line));
   bytes = bytesAfter (k .bytes) (k .line);
-  out = put (k .out) 0 (length (textOf (k .ordinal) told)) (textOf (k .ordinal) told);
+  out = put (k .out) (k .at) (length (textOf (k .ordinal) told)) (textOf (k .ordinal) told);
 }
 
 abbrev pub lineLeft : Card → LineCall → Answer → LineLeft
