@@ -7,7 +7,6 @@ use Rattle.byte_parts.specs.Part.{put}
 use Rattle.text_numbers.specs.Hex.{unhex}
 use Rattle.text_numbers.specs.Codes.{codesOf}
 use Rattle.card_build.specs.declared.card.Card.{Card}
-use Rattle.request_plan.specs.declared.Reply.{Reply}
 use Rattle.request_plan.specs.declared.Reply.the-variants.{Refused}
 use Rattle.request_plan.specs.Request.{readRequest, writeRequest}
 use Rattle.request_plan.specs.Serve.{Served, answeredOnly, serve, lengthRead, outputAfter, stagingBy}
@@ -40,12 +39,12 @@ askServed card arena room line (Read «open» count) =
 askServed card arena room line (Write «open» count) =
     serve card arena (writeRequest «open» (codesIn line) count (listIn line) (dataIn line) room)
 
+unfoldable pub lineServed : Card → List ℕ → ℕ → List ℕ → Served
+lineServed card arena room line = askServed card arena room line (askOf line)
+
 -- what is told of it: the reply, and how many bytes were read
 abbrev pub outcomeOf : Served → Outcome
 outcomeOf served = record { reply = served .reply; read = length (served .read) }
-
-unfoldable pub lineServed : Card → List ℕ → ℕ → List ℕ → Served
-lineServed card arena room line = askServed card arena room line (askOf line)
 
 -- the buffer is the output of a read and the staging of a write
 abbrev pub workBy : ℕ → List ℕ → Served → Ask → List ℕ
