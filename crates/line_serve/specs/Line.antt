@@ -9,7 +9,7 @@ use Rattle.text_numbers.specs.Codes.{codesOf}
 use Rattle.card_build.specs.declared.card.Card.{Card}
 use Rattle.request_plan.specs.declared.Reply.the-variants.{Refused}
 use Rattle.request_plan.specs.Request.{readRequest, writeRequest}
-use Rattle.request_plan.specs.Serve.{Served, answeredOnly, serve, lengthRead, outputAfter, stagingBy}
+use Rattle.request_plan.specs.Serve.{Served, answeredOnly, serve, outputAfter, stagingBy}
 use Rattle.line_request.specs.declared.Ask.{Ask}
 use Rattle.line_request.specs.declared.Ask.the-variants.{Malformed, Read, Write}
 use Rattle.line_request.specs.Ask.{fieldIn, askOf}
@@ -24,12 +24,6 @@ listIn line = unhex (fieldIn line 4)
 
 abbrev pub dataIn : List ℕ → List ℕ
 dataIn line = unhex (fieldIn line 5)
-
--- how many bytes what is asked puts out
-abbrev pub bytesRead : Reply → Ask → ℕ
-bytesRead reply Malformed = 0
-bytesRead reply (Read «open» count) = lengthRead reply count
-bytesRead reply (Write «open» count) = 0
 
 -- malformed is refusal 6, anything else a whole request on a buffer of `room` bytes
 abbrev pub askServed : Card → List ℕ → ℕ → List ℕ → Ask → Served
