@@ -17,7 +17,7 @@ use Rattle.card_questions.specs.Keys.{versionAnswer, areaListAnswer, serviceLis
 use Rattle.request_plan.specs.declared.Reply.the-variants.{Refused as NotServed}
 use Rattle.request_plan.specs.Request.{Request}
 use Rattle.request_plan.specs.Plan.{judgedWith, planOf}
-use Rattle.request_plan.specs.Serve.{told, serve}
+use Rattle.request_plan.specs.Serve.{answeredOnly, serve}
 use Rattle.request_block.specs.Block.{blockJudged}
 use Rattle.handset_bytes.specs.Card.{isCard, decodedOf}
 use Rattle.law_bytes.proofs.Round.{unsound}
@@ -60,6 +60,6 @@ module _ (s : List ℕ) (no : isCard s ≡ false) where
   unfolding blockJudged
   block-none arenaLen code number = rw (unsound s no)
 
-  pub request-none : (arena : List ℕ) (r : Request) → serve (decodedOf s) arena r ≡ told arena (NotServed NotBuilt)
+  pub request-none : (arena : List ℕ) (r : Request) → serve (decodedOf s) arena r ≡ answeredOnly arena (NotServed NotBuilt)
   unfolding serve planOf judgedWith
   request-none arena r = rw (unsound s no)

@@ -14,18 +14,18 @@ module _ {M : Type 1} (𝓤 : URA M) where
   abbrev three : Type 0 → Type 0 → Type 0 → SProp 𝓤
   three φ φ′ φ″ = sep 𝓤 (fact 𝓤 φ) (two φ′ φ″)
 
-  abbrev four : Type 0 → Type 0 → Type 0 → Type 0 → SProp 𝓤
-  four φ φ′ φ″ φ‴ = sep 𝓤 (fact 𝓤 φ) (three φ′ φ″ φ‴)
+  -- of one
+  pub of-one : {φ χ : Type 0} → (φ → χ) → ent 𝓤 (fact 𝓤 φ) (fact 𝓤 χ)
+  of-one {φ} {χ} f = fact-mono 𝓤 φ χ f
 
   -- of two
   pub of-two : {φ φ′ χ : Type 0} → (φ → φ′ → χ) → ent 𝓤 (two φ φ′) (fact 𝓤 χ)
-  of-two {φ′ = φ′} {χ = χ} f = more (fact 𝓤 φ′) (λ x. fact-mono 𝓤 φ′ χ (f x))
+  of-two {φ′ = φ′} f = more (fact 𝓤 φ′) (λ x. of-one (f x))
 
   -- of three
   pub of-three : {φ φ′ φ″ χ : Type 0} → (φ → φ′ → φ″ → χ) → ent 𝓤 (three φ φ′ φ″) (fact 𝓤 χ)
   of-three {φ′ = φ′} {φ″ = φ″} f = more (two φ′ φ″) (λ x. of-two (f x))
 
-  -- of five
-  pub of-five : {φ φ′ φ″ φ‴ ψ χ : Type 0} → (φ → φ′ → φ″ → φ‴ → ψ → χ) → ent 𝓤 (sep 𝓤 (fact 𝓤 φ) (four φ′ φ″ φ‴ ψ)) (fact 𝓤 χ)
-  of-five {φ′ = φ′} {φ″ = φ″} {φ‴ = φ‴} {ψ = ψ} f =
-      more (four φ′ φ″ φ‴ ψ) (λ x. more (three φ″ φ‴ ψ) (λ y. of-three (f x y)))
+  -- of four
+  pub of-four : {φ φ′ φ″ φ‴ χ : Type 0} → (φ → φ′ → φ″ → φ‴ → χ) → ent 𝓤 (sep 𝓤 (fact 𝓤 φ) (three φ′ φ″ φ‴)) (fact 𝓤 χ)
+  of-four {φ′ = φ′} {φ″ = φ″} {φ‴ = φ‴} f = more (three φ′ φ″ φ‴) (λ x. of-three (f x))

@@ -1,6 +1,6 @@
 -- The library's `uluvoli_read` and `uluvoli_write`: they promise to be calls of which the laws on runs speak, and those laws hold of them,
 -- whatever bytes stand for the card. 0 is returned where, and only where, a request is accepted.
-use Prim.Native.Nat.{ℕ, zero, suc, _+_, _*_}
+use Prim.Native.Nat.{ℕ, zero, suc}
 use native.Mathlib.Omega.{arith}
 use mathlib.Core.Path.{_≡_, refl, sym, ap, _∙_}
 use mathlib.Core.Bool.{Bool, true, false, cond}

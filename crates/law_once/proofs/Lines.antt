@@ -20,7 +20,7 @@ use Rattle.replay_state.proofs.start as replay_state·start
 use Rattle.replay_state.proofs.put_refusal as replay_state·put-refusal
 use Rattle.replay_state.proofs.finish as replay_state·finish
 use Rattle.replay_line.proofs.line as replay_line·line
-use Rattle.replay_feed.proofs.feed as replay_feed·feed
+use Rattle.text_feed.proofs.feed as text_feed·feed
 
 module _ {M : Type 1} (𝓤 : URA M) (H : Heap 𝓤) (A : Atoms 𝓤) (mem : Memory → SProp 𝓤) (run : Routine → Fun 𝓤) where
   pub line_image·read-line-once : OneAnswer 𝓤 line_image·read-line.ended (line_image·read-line.clauses 𝓤 H A mem run)
@@ -56,5 +56,5 @@ module _ {M : Type 1} (𝓤 : URA M) (H : Heap 𝓤) (A : Atoms 𝓤) (mem : Mem
   pub replay_line·line-once : OneAnswer 𝓤 replay_line·line.ended (replay_line·line.clauses 𝓤 H A mem run)
   replay_line·line-once κs a g r r′ ws ws′ = of-five 𝓤 (λ e arena work bytes out. (e, λ i. (tt, (arena i, (work i, (bytes i, (out i, (tt, tt))))))))
 
-  pub replay_feed·feed-once : OneAnswer 𝓤 replay_feed·feed.ended (replay_feed·feed.clauses 𝓤 H A mem run)
-  replay_feed·feed-once κs a g r r′ ws ws′ = of-two 𝓤 (λ p p′ q q′. (once p q, λ i. (tt, (tt, (once p′ q′ i, tt)))))
+  pub text_feed·feed-once : OneAnswer 𝓤 text_feed·feed.ended (text_feed·feed.clauses 𝓤 H A mem run)
+  text_feed·feed-once κs a g r r′ ws ws′ = of-two 𝓤 (λ p p′ q q′. (once p q, λ i. (tt, (tt, (once p′ q′ i, tt)))))

@@ -20,7 +20,7 @@ use Rattle.request_runs.specs.declared.run.Applied.the-variants.{Done, Failed}
 use Rattle.request_plan.specs.Serve.{stagingBy}
 use Rattle.request_plan.specs.declared.Reply.{Reply}
 use Rattle.law_once.specs.One.{Promised, OneAnswer, OneSeen}
-use Rattle.law_once.proofs.Law.{once, once-by, of-one, of-two, of-three, result}
+use Rattle.law_once.proofs.Law.{once, once-by, of-one, of-two, result}
 use Rattle.request_check.proofs.check.check_all as request_check·check-all
 use Rattle.request_check.proofs.table.row_of as request_check·row-of
 use Rattle.request_check.proofs.table.table_of as request_check·table-of
@@ -94,10 +94,10 @@ module _ {M : Type 1} (𝓤 : URA M) (H : Heap 𝓤) (A : Atoms 𝓤) (mem : Mem
   request_block·stored-block-once κs a g r r′ ws ws′ = result 𝓤 refl
 
   pub request_serve·read-once : OneAnswer 𝓤 request_serve·read.ended (request_serve·read.clauses 𝓤 H A mem run)
-  request_serve·read-once κs a g r r′ ws ws′ = of-two 𝓤 (λ p p′ q q′. (once p q, λ i. (tt, (tt, (once p′ q′ i, (tt, (tt, (tt, (tt, tt)))))))))
+  request_serve·read-once κs a g r r′ ws ws′ = of-one 𝓤 (λ p q. (once (p .0) (q .0), λ i. (tt, (tt, (once (p .1) (q .1) i, (tt, (tt, (tt, (tt, tt)))))))))
 
   pub request_serve·write-once : OneAnswer 𝓤 request_serve·write.ended (request_serve·write.clauses 𝓤 H A mem run)
   request_serve·write-once κs a g r r′ ws ws′ =
-      of-three 𝓤 (λ p p′ p″ q q′ q″.
-      let staged = staged-once (16 * a .0 .used) (now (a .1 .1 .0)) (once p q) p″ q″ in
-      (once p q, λ i. (tt, (once p′ q′ i, (staged i, (tt, (tt, (tt, (tt, (tt, tt))))))))))
+      of-one 𝓤 (λ p q.
+      let staged = staged-once (16 * a .0 .used) (now (a .1 .1 .0)) (once (p .0) (q .0)) (p .1 .1) (q .1 .1) in
+      (once (p .0) (q .0), λ i. (tt, (once (p .1 .0) (q .1 .0) i, (staged i, (tt, (tt, (tt, (tt, (tt, tt))))))))))

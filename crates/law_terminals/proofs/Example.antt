@@ -34,13 +34,15 @@ use Rattle.request_rules.specs.Lens.{back, within}
 use Rattle.request_rules.specs.Rules.{cashbackIn, elementBy, endBy, onStore}
 use Rattle.request_runs.specs.Runs.{then, push, runsOf, scan, walk}
 use Rattle.request_runs.specs.Staged.{staged}
+use Rattle.request_plan.specs.declared.Reply.{Reply}
 use Rattle.request_plan.specs.declared.Reply.the-variants.{Refused, Done, Failed}
 use Rattle.request_plan.specs.Request.{Request, readRequest, writeRequest}
 use Rattle.request_plan.specs.Plan.{writeJudged, readJudged, judgedWith, planOf}
 use Rattle.request_plan.specs.Serve.{blocksRead, committed, carried, serve, outputAfter}
 use Rattle.law_terminals.specs.Orders.{Marked, by, one, two, only, all, after, answers, told, Undisturbed}
 use Rattle.law_terminals.specs.Two.{Answer, answerOf, arenaAfter, Any, All, Names, HasNumber, NoneShared}
-use Rattle.law_terminals.specs.Last.{NamesBlock, arenaThen, Redrawn}
+use Rattle.law_terminals.specs.Last.{NamesBlock, Quiet, arenaThen, Redrawn}
+use Rattle.law_terminals.specs.Runs.{Exchange, Ran, Call, reads, writes, requestOf, Left, leftBy}
 use Rattle.law_terminals.proofs.Two.{two-terminals}
 use Rattle.law_terminals.proofs.Last.{tower-reads}
 use Rattle.law_terminals.proofs.Race as Race
@@ -251,8 +253,24 @@ Raced =
     × (answerOf Race.race (arenaThen Race.race Race.arena Race.draw Race.between) Race.look ≡ done (Race.leander ++ Race.moleseyTwo ++ Race.thamesThree))
     × Redrawn Race.race 0x41 0 Race.leander Race.arena Race.draw Race.between Race.look
 
+-- The premises are not idle: an accepted write to the lane is not quiet, and the two codes of the lanes' number are shared.
+abbrev Premises : Type 0
+Premises =
+    (Quiet card 0x41 1 (arenaAfter card arena redraw) (writing 0x1049 1 (replicate 16 4) ∷ []) → ⊥)
+    × (NoneShared card (reading 0x1049 0 ∷ []) (reading 0x104b 0 ∷ []) → ⊥)
+
+-- a run of two calls: a lane is written, and read through the other service; the staging is left zero
+abbrev exchanges : List (Exchange Call (Left Reply))
+exchanges =
+    record { call = writes true (0x1049 ∷ []) 1 (0x80 ∷ 1 ∷ []) (replicate 16 9) (replicate 80 1); left = record { reply = Done; buffer = replicate 80 0 } }
+    ∷ record { call = reads true (0x104b ∷ []) 1 (0x80 ∷ 1 ∷ []) (replicate 16 0); left = record { reply = Done; buffer = replicate 16 9 } }
+    ∷ []
+
+abbrev IsRun : Type 0
+IsRun = Ran card requestOf (leftBy (λ (x : Reply). x) card) arena exchanges (leaves (writing 0x1049 1 (replicate 16 9) ∷ []))
+
 -- all of it, computed by the definitions
-computed : Told × Alone × Ends × Disturbed × Redraws × IsRedrawn × Raced
+computed : Told × Alone × Ends × Disturbed × Redraws × Premises × IsRun × IsRedrawn × Raced
 unfolding addArea areaJudged areaUnder rootMisfit setLimit addService placedOf isDepth parentAt parentFrom openAt firstFrom serviceUnder outside sameKind joinedTo usable newStore numberOf attributesOf tableOf decodedOf attributeOf codeKindOf requiresKey unpackAt endsFrom endsAfter elementsFrom part put sameBytes wordAt wordBytes signedOf wordOf cyclicOf valueOf insideOf outsideOf sumOf storedOf purseRule purseDataOf blockOf purseOf isRoot allRoots stepOf stepsFrom stepsOf soundOf rowOf modeAllowed attributeCheck serviceCheck rowCheck elementCheck checkedFrom then push runsOf scan walk back within cashbackIn elementBy endBy onStore staged writeJudged readJudged judgedWith planOf blocksRead committed carried serve only all after answers told
 computed = (
   refl,
@@ -260,6 +278,11 @@ computed = (
   refl,
   (refl, refl),
   (refl, refl),
+  (
+    λ q. q .0 refl refl 0 (record { listed = omega arith; number = refl; block = refl }),
+    λ n. n 0x41 (inr (inl (refl, refl))) (inl (inl refl)) (inl (inl refl)),
+  ),
+  (_, (refl, refl), (_, (refl, refl), refl)),
   record {
     write = refl;
     written = refl;
@@ -301,7 +324,7 @@ computed = (
 tower-told : part (outputAfter (replicate 16 0) (serve card (arenaThen card arena redraw between) (reading 0x104b 1))) 0 16 ≡ replicate 16 3
 unfolding numberOf unpackAt elementsFrom
 tower-told =
-    tower-reads card (sized (built .0) .long) 0x41 1 (replicate 16 3) arena redraw between (reading 0x104b 1) (computed .5) 0
+    tower-reads card (sized (built .0) .long) 0x41 1 (replicate 16 3) arena redraw between (reading 0x104b 1) (computed .7) 0
     (record { listed = omega arith; number = refl; block = refl }) (replicate 16 0) refl
 
 -- and what it reads of lane 1 in the race, in whatever output it is lent
@@ -310,5 +333,5 @@ lane-one
     → part (outputAfter out (serve Race.race (arenaThen Race.race Race.arena Race.draw Race.between) Race.look)) 0 16 ≡ Race.leander
 unfolding numberOf unpackAt elementsFrom
 lane-one out l =
-    tower-reads Race.race (sized (built .1) .long) 0x41 0 Race.leander Race.arena Race.draw Race.between Race.look (computed .6 .2) 0
+    tower-reads Race.race (sized (built .1) .long) 0x41 0 Race.leander Race.arena Race.draw Race.between Race.look (computed .8 .2) 0
     (record { listed = omega arith; number = refl; block = refl }) out l

@@ -14,7 +14,7 @@ use Rattle.request_plan.specs.Request.{Request}
 use Rattle.law_terminals.specs.Orders.{Terminal, one, two, Marked, by, only, all, after, answers, told, Undisturbed}
 use Rattle.law_terminals.specs.Two.{Answer, answerOf, arenaAfter, Any, All, Names, NoneShared}
 use Rattle.law_terminals.specs.Last.{NamesBlock, Quiet, arenaThen, Redrawn}
-use Rattle.law_terminals.specs.Runs.{Exchange, callsOf, Leaves, Ran, requestsOf, Apart, TwoRuns, RedrawnBy, TowerRuns}
+use Rattle.law_terminals.specs.Runs.{Exchange, callsOf, Ran, requestsOf, TwoRuns, TowerRuns}
 use Rattle.law_terminals.proofs.Two.{leftOf, arenaOf, two-askers}
 use Rattle.law_terminals.proofs.Last.{tower-given, tower-out}
 

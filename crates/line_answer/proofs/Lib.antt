@@ -1,3 +1,3 @@
 -- What callers cite, and what this crate's proofs share.
 pub mod Rows
-pub mod Writing
+mod Where

@@ -6,7 +6,7 @@ use Rattle.answers.specs.declared.status.Fault.the-variants.{BlockNumber}
 use Rattle.text_numbers.specs.Hex.{capital, toHex, hexText}
 use Rattle.text_numbers.specs.Decimal.{digitsOf, decText}
 use Rattle.request_plan.specs.declared.Reply.the-variants.{Refused, Done, ShortData, Failed}
-use Rattle.line_answer.specs.Answer.{whereText, statusText, refusalText, answerText}
+use Rattle.line_answer.specs.Answer.{whereText, statusFields, refusalFields, answerText}
 
 -- `1 00 00 - -`, `2 00 00 - 11AB`, `3 01 A8 1 -`, `10 FF AC 255 -` and `11 ! 6 - -`.
 pub answer-rows
@@ -15,5 +15,5 @@ pub answer-rows
     × (answerText 3 (Failed 0 BlockNumber) [] ≡ 51 ∷ 9 ∷ 48 ∷ 49 ∷ 9 ∷ 65 ∷ 56 ∷ 9 ∷ 49 ∷ 9 ∷ 45 ∷ 10 ∷ [])
     × (answerText 10 ShortData [] ≡ 49 ∷ 48 ∷ 9 ∷ 70 ∷ 70 ∷ 9 ∷ 65 ∷ 67 ∷ 9 ∷ 50 ∷ 53 ∷ 53 ∷ 9 ∷ 45 ∷ 10 ∷ [])
     × (answerText 11 (Refused MalformedRequest) [] ≡ 49 ∷ 49 ∷ 9 ∷ 33 ∷ 9 ∷ 54 ∷ 9 ∷ 45 ∷ 9 ∷ 45 ∷ 10 ∷ [])
-unfolding statusText refusalText whereText hexText toHex capital decText digitsOf
+unfolding statusFields refusalFields whereText hexText toHex capital decText digitsOf
 answer-rows = (refl, refl, refl, refl, refl)

@@ -11,29 +11,33 @@ use Rattle.request_plan.specs.declared.Reply.the-variants.{Refused, Done, Short
 use Rattle.request_plan.specs.Request.{flag1, flag2}
 
 -- a field and the byte that ends it
-abbrev pub ended : ℕ → List ℕ → List ℕ
-ended end t = t ++ (end ∷ [])
+abbrev pub closed : ℕ → List ℕ → List ℕ
+closed end t = t ++ (end ∷ [])
 
--- five fields as a line
+-- five fields parted by tabs
 abbrev pub fiveFields : List ℕ → List ℕ → List ℕ → List ℕ → List ℕ → List ℕ
-fiveFields a b c d e = ended 9 a ++ ended 9 b ++ ended 9 c ++ ended 9 d ++ ended 10 e
+fiveFields a b c d e = closed 9 a ++ closed 9 b ++ closed 9 c ++ closed 9 d ++ e
 
 -- where: status flag 1 in decimal, or `-` (45) for 00
 unfoldable pub whereText : ℕ → List ℕ
 whereText flag = cond (eqb flag 0) (45 ∷ []) (decText flag)
 
 -- ordinal, status flags in hex, where, data read
-unfoldable pub statusText : ℕ → ℕ → ℕ → List ℕ → List ℕ
-statusText ordinal flag1 flag2 read =
+unfoldable pub statusFields : ℕ → ℕ → ℕ → List ℕ → List ℕ
+statusFields ordinal flag1 flag2 read =
     fiveFields (decText ordinal) (hexText (flag1 ∷ [])) (hexText (flag2 ∷ [])) (whereText flag1) (hexText read)
 
 -- ordinal, `!` (33), the refusal's number, `-`, `-`
-unfoldable pub refusalText : ℕ → ℕ → List ℕ
-refusalText ordinal number = fiveFields (decText ordinal) (33 ∷ []) (decText number) (45 ∷ []) (45 ∷ [])
+unfoldable pub refusalFields : ℕ → ℕ → List ℕ
+refusalFields ordinal number = fiveFields (decText ordinal) (33 ∷ []) (decText number) (45 ∷ []) (45 ∷ [])
 
 -- a refused request is told by its number, any other by its status flags
+abbrev pub answerFields : ℕ → Reply → List ℕ → List ℕ
+answerFields ordinal (Refused r) read = refusalFields ordinal (refusalNumber r)
+answerFields ordinal Done read = statusFields ordinal (flag1 Done) (flag2 Done) read
+answerFields ordinal ShortData read = statusFields ordinal (flag1 ShortData) (flag2 ShortData) read
+answerFields ordinal (Failed i f) read = statusFields ordinal (flag1 (Failed i f)) (flag2 (Failed i f)) read
+
+-- the whole line
 abbrev pub answerText : ℕ → Reply → List ℕ → List ℕ
-answerText ordinal (Refused r) read = refusalText ordinal (refusalNumber r)
-answerText ordinal Done read = statusText ordinal (flag1 Done) (flag2 Done) read
-answerText ordinal ShortData read = statusText ordinal (flag1 ShortData) (flag2 ShortData) read
-answerText ordinal (Failed i f) read = statusText ordinal (flag1 (Failed i f)) (flag2 (Failed i f)) read
+answerText ordinal reply read = closed 10 (answerFields ordinal reply read)

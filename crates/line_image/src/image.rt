@@ -13,7 +13,7 @@ ghost use lib.ListN.{length};
 ghost use Rattle.text_numbers.specs.Hex.{unhex};
 ghost use Rattle.request_block.specs.Block.{blockJudged, arenaSet};
 ghost use Rattle.line_image.specs.Line.{hex32};
-ghost use Rattle.line_image.specs.Turn.{imageTurn, answered};
+ghost use Rattle.line_image.specs.Image.{imageStep, answered};
 
 // The card that an answer leaves as it was.
 fn keep(card: Card, answer: Answer) -> Added
@@ -35,8 +35,8 @@ fn set_hex(card: Card, arena: &mut [u8], code: u16, number: u32, digits: &[u8]) 
 
 // Carries out an image line, the first of the image or a later one.
 pub fn image_line(card: Card, first: bool, arena: &mut [u8], line: &[u8]) -> Added
-    ensures { λ r. ⌜ r ≡ imageTurn first card (now (arena .entry)) (now (line .entry)) .added ⌝ }
-    ensures { λ _. ⌜ now (arena .exit) ≡ imageTurn first card (now (arena .entry)) (now (line .entry)) .arena ⌝ }
+    ensures { λ r. ⌜ r ≡ imageStep first card (now (arena .entry)) (now (line .entry)) .added ⌝ }
+    ensures { λ _. ⌜ now (arena .exit) ≡ imageStep first card (now (arena .entry)) (now (line .entry)) .arena ⌝ }
 {
     match read_line(line, first) {
         Line::Malformed => keep(card, Answer::Refused(Refusal::MalformedImage)),

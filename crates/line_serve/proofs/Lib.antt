@@ -1,4 +1,3 @@
--- What this crate's proofs share.
-mod Rooms
-mod Lines
+-- What callers cite, and what this crate's proofs share.
+pub mod Lines
 mod Parts

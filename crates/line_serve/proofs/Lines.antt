@@ -22,7 +22,7 @@ use Rattle.line_request.specs.declared.Ask.{Ask}
 use Rattle.line_request.specs.declared.Ask.the-variants.{Malformed, Read, Write}
 use Rattle.line_request.specs.Ask.{fieldIn, askOf}
 use Rattle.line_request.proofs.Asking.{Fields}
-use Rattle.line_serve.specs.Line.{codesIn, listIn, dataIn, bytesRead, askServed, lineServed, workBy, workAfter, spelledBy, bytesAfter}
+use Rattle.line_serve.specs.Line.{codesIn, listIn, dataIn, bytesRead, outcomeOf, askServed, lineServed, workBy, workAfter, spelledBy, bytesAfter}
 use Rattle.line_serve.proofs.Parts.{front-put, both, first, second}
 
 module _ {line : List ℕ} (f : Fields line) {room : ℕ} (h : 16384 ≤ room) where
@@ -152,3 +152,7 @@ module _ (card : Card) (arena work line : List ℕ) where
         : {n : ℕ} {after : List ℕ} → n ≡ length (lineServed card arena (length work) line .read) → after ≡ workAfter card arena work line
         → take (n - 0) (drop 0 after) ≡ lineServed card arena (length work) line .read
     read-part {n} e p = rw (sub-zero n, e, p) (shown .front)
+
+-- What is told of a line.
+pub outcome-line : (s : Served) {x : Reply} {n : ℕ} → x ≡ s .reply → n ≡ length (s .read) → record { reply = x; read = n } ≡ outcomeOf s
+outcome-line s e f = λ i. record { reply = e i; read = f i }

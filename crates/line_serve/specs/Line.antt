@@ -10,10 +10,11 @@ use Rattle.card_build.specs.declared.card.Card.{Card}
 use Rattle.request_plan.specs.declared.Reply.{Reply}
 use Rattle.request_plan.specs.declared.Reply.the-variants.{Refused}
 use Rattle.request_plan.specs.Request.{readRequest, writeRequest}
-use Rattle.request_plan.specs.Serve.{Served, told, serve, readLong, outputAfter, stagingBy}
+use Rattle.request_plan.specs.Serve.{Served, answeredOnly, serve, lengthRead, outputAfter, stagingBy}
 use Rattle.line_request.specs.declared.Ask.{Ask}
 use Rattle.line_request.specs.declared.Ask.the-variants.{Malformed, Read, Write}
 use Rattle.line_request.specs.Ask.{fieldIn, askOf}
+use Rattle.line_serve.specs.declared.Outcome.{Outcome}
 
 -- several service codes stand joined
 abbrev pub codesIn : List ℕ → List ℕ
@@ -28,16 +29,20 @@ dataIn line = unhex (fieldIn line 5)
 -- how many bytes what is asked puts out
 abbrev pub bytesRead : Reply → Ask → ℕ
 bytesRead reply Malformed = 0
-bytesRead reply (Read «open» count) = readLong reply count
+bytesRead reply (Read «open» count) = lengthRead reply count
 bytesRead reply (Write «open» count) = 0
 
 -- malformed is refusal 6, anything else a whole request on a buffer of `room` bytes
 abbrev pub askServed : Card → List ℕ → ℕ → List ℕ → Ask → Served
-askServed card arena room line Malformed = told arena (Refused MalformedRequest)
+askServed card arena room line Malformed = answeredOnly arena (Refused MalformedRequest)
 askServed card arena room line (Read «open» count) =
     serve card arena (readRequest «open» (codesIn line) count (listIn line) room)
 askServed card arena room line (Write «open» count) =
     serve card arena (writeRequest «open» (codesIn line) count (listIn line) (dataIn line) room)
+
+-- what is told of it: the reply, and how many bytes were read
+abbrev pub outcomeOf : Served → Outcome
+outcomeOf served = record { reply = served .reply; read = length (served .read) }
 
 unfoldable pub lineServed : Card → List ℕ → ℕ → List ℕ → Served
 lineServed card arena room line = askServed card arena room line (askOf line)

@@ -1,7 +1,6 @@
 // Request lines, carried out on a card and answered.
 use answers::refusal::Refusal;
 use card_build::card::Card;
-use line_answer::Printed;
 use line_request::Ask;
 use request_plan::Reply;
 use request_serve::reading;
@@ -15,11 +14,12 @@ ghost use lib.ListN.{length, take};
 ghost use Rattle.byte_parts.specs.Part.{put};
 ghost use Rattle.text_numbers.specs.Hex.{hexField, unhex};
 ghost use Rattle.text_numbers.specs.Codes.{codesField};
-ghost use Rattle.request_plan.specs.Serve.{readLong};
+ghost use Rattle.request_plan.specs.Serve.{lengthRead};
 ghost use Rattle.line_request.specs.declared.Ask.the-variants.{Read, Write};
 ghost use Rattle.line_request.specs.Ask.{fieldIn, askOf};
-ghost use Rattle.line_serve.specs.Line.{codesIn, bytesRead, lineServed, workAfter, bytesAfter};
-ghost use Rattle.line_serve.specs.Answered.{answeredLine};
+ghost use Rattle.text_stream.specs.Stream.{Written};
+ghost use Rattle.line_serve.specs.Line.{codesIn, bytesRead, outcomeOf, lineServed, workAfter, bytesAfter};
+ghost use Rattle.line_serve.specs.Text.{mostSpelled, mostPrinted, requestText};
 
 // Puts the codes of a line to the front of `codes`, as many as it holds, and answers how many.
 fn read_codes(line: &[u8], codes: &mut [u16]) -> usize
@@ -39,7 +39,7 @@ fn put_field(line: &[u8], k: usize, bytes: &mut [u8], at: usize) -> usize
     hex::put_bytes(text_fields::field(line, k, b'\t'), bytes, at)
 }
 
-// A read that a line asks. Seventeen codes are as good as all: more than sixteen are refused.
+// Carries out a read that a line asks. Seventeen codes are as good as all: more than sixteen are refused.
 fn read_asked(
     card: Card,
     arena: &[u8],
@@ -49,7 +49,7 @@ fn read_asked(
     open: bool,
     count: u32,
 ) -> Reply
-    requires { ⌜ (askOf (now line) ≡ Read «open» count) × (16384 ≤ length (now bytes)) ⌝ }
+    requires { ⌜ (askOf (now line) ≡ Read «open» count) × (mostSpelled ≤ length (now bytes)) ⌝ }
     ensures { λ r. ⌜ r ≡ lineServed card (now (arena .entry)) (length (now (work .entry))) (now (line .entry)) .reply ⌝ }
     ensures { λ _. ⌜ now (work .exit) ≡ workAfter card (now (arena .entry)) (now (work .entry)) (now (line .entry)) ⌝ }
     ensures { λ _. ⌜ now (bytes .exit) ≡ bytesAfter (now (bytes .entry)) (now (line .entry)) ⌝ }
@@ -60,7 +60,7 @@ fn read_asked(
     reading::read(card, arena, work, open, &codes[0..n], count, &bytes[0..end])
 }
 
-// A write that a line asks.
+// Carries out a write that a line asks.
 fn write_asked(
     card: Card,
     arena: &mut [u8],
@@ -70,7 +70,7 @@ fn write_asked(
     open: bool,
     count: u32,
 ) -> Reply
-    requires { ⌜ (askOf (now line) ≡ Write «open» count) × (16384 ≤ length (now bytes)) ⌝ }
+    requires { ⌜ (askOf (now line) ≡ Write «open» count) × (mostSpelled ≤ length (now bytes)) ⌝ }
     ensures { λ r. ⌜ r ≡ lineServed card (now (arena .entry)) (length (now (work .entry))) (now (line .entry)) .reply ⌝ }
     ensures { λ _. ⌜ now (arena .exit) ≡ lineServed card (now (arena .entry)) (length (now (work .entry))) (now (line .entry)) .arena ⌝ }
     ensures { λ _. ⌜ now (work .exit) ≡ workAfter card (now (arena .entry)) (now (work .entry)) (now (line .entry)) ⌝ }
@@ -94,7 +94,7 @@ fn write_asked(
 
 // How many bytes a read has put out.
 fn read_long(reply: Reply, count: u32) -> usize
-    ensures { λ r. ⌜ r ≡ readLong reply count ⌝ }
+    ensures { λ r. ⌜ r ≡ lengthRead reply count ⌝ }
 {
     match reply {
         Reply::Refused(_) => 0,
@@ -115,7 +115,7 @@ fn bytes_read(ask: Ask, reply: Reply) -> usize
     }
 }
 
-// What a line asks, carried out.
+// Carries out what a line asks, and answers the reply.
 fn carry_out(
     card: Card,
     arena: &mut [u8],
@@ -124,7 +124,7 @@ fn carry_out(
     line: &[u8],
     ask: Ask,
 ) -> Reply
-    requires { ⌜ (ask ≡ askOf (now line)) × (16384 ≤ length (now bytes)) ⌝ }
+    requires { ⌜ (ask ≡ askOf (now line)) × (mostSpelled ≤ length (now bytes)) ⌝ }
     ensures { λ r. ⌜ r ≡ lineServed card (now (arena .entry)) (length (now (work .entry))) (now (line .entry)) .reply ⌝ }
     ensures { λ _. ⌜ now (arena .exit) ≡ lineServed card (now (arena .entry)) (length (now (work .entry))) (now (line .entry)) .arena ⌝ }
     ensures { λ _. ⌜ now (work .exit) ≡ workAfter card (now (arena .entry)) (now (work .entry)) (now (line .entry)) ⌝ }
@@ -137,31 +137,53 @@ fn carry_out(
     }
 }
 
-// Carries out a request line and prints its answer line: `work` is the output of a read or the staging of a write, `bytes` takes the
-// bytes of list and data, `out` the answer line.
+// What a request line came to: the reply, and how many bytes were read, which stand at the front of the buffer lent as `work`.
+pub struct Outcome {
+    pub reply: Reply,
+    pub read: usize,
+}
+
+// Carries out a request line: `work` is the output of a read or the staging of a write, `bytes` takes the bytes of list and data.
+pub fn serve_line(
+    card: Card,
+    arena: &mut [u8],
+    work: &mut [u8],
+    bytes: &mut [u8],
+    line: &[u8],
+) -> Outcome
+    requires { ⌜ mostSpelled ≤ length (now bytes) ⌝ }
+    ensures { λ r. ⌜ r ≡ outcomeOf (lineServed card (now (arena .entry)) (length (now (work .entry))) (now (line .entry))) ⌝ }
+    ensures { λ _. ⌜ now (arena .exit) ≡ lineServed card (now (arena .entry)) (length (now (work .entry))) (now (line .entry)) .arena ⌝ }
+    ensures { λ _. ⌜ now (work .exit) ≡ workAfter card (now (arena .entry)) (now (work .entry)) (now (line .entry)) ⌝ }
+    ensures { λ _. ⌜ now (bytes .exit) ≡ bytesAfter (now (bytes .entry)) (now (line .entry)) ⌝ }
+{
+    let ask = line_request::ask_of(line);
+    let reply = carry_out(card, arena, work, bytes, line, ask);
+    Outcome {
+        reply,
+        read: bytes_read(ask, reply),
+    }
+}
+
+// Carries out a request line, puts the line that answers it into `out` from `at` on, and answers the place after it.
 pub fn request_line(
     card: Card,
     arena: &mut [u8],
     work: &mut [u8],
     bytes: &mut [u8],
-    out: &mut [u8],
     line: &[u8],
     ordinal: u64,
-) -> Printed
-    ensures { λ r. ⌜ r ≡ answeredLine card (now (arena .entry)) (now (work .entry)) (now (bytes .entry)) (now (out .entry)) (now (line .entry)) ordinal .printed ⌝ }
-    ensures { λ _. ⌜ now (arena .exit) ≡ answeredLine card (now (arena .entry)) (now (work .entry)) (now (bytes .entry)) (now (out .entry)) (now (line .entry)) ordinal .arena ⌝ }
-    ensures { λ _. ⌜ now (work .exit) ≡ answeredLine card (now (arena .entry)) (now (work .entry)) (now (bytes .entry)) (now (out .entry)) (now (line .entry)) ordinal .work ⌝ }
-    ensures { λ _. ⌜ now (bytes .exit) ≡ answeredLine card (now (arena .entry)) (now (work .entry)) (now (bytes .entry)) (now (out .entry)) (now (line .entry)) ordinal .bytes ⌝ }
-    ensures { λ _. ⌜ now (out .exit) ≡ answeredLine card (now (arena .entry)) (now (work .entry)) (now (bytes .entry)) (now (out .entry)) (now (line .entry)) ordinal .out ⌝ }
+    out: &mut [u8],
+    at: usize,
+) -> usize
+    requires { ⌜ (mostSpelled ≤ length (now bytes)) × (at + mostPrinted ≤ length (now out)) ⌝ }
+    ensures { λ r. ⌜ Written (now (out .entry)) at (requestText card (now (arena .entry)) (length (now (work .entry))) (now (line .entry)) ordinal) r (now (out .exit)) × (r ≤ at + mostPrinted) ⌝ }
+    ensures { λ _. ⌜ now (arena .exit) ≡ lineServed card (now (arena .entry)) (length (now (work .entry))) (now (line .entry)) .arena ⌝ }
+    ensures { λ _. ⌜ now (work .exit) ≡ workAfter card (now (arena .entry)) (now (work .entry)) (now (line .entry)) ⌝ }
+    ensures { λ _. ⌜ now (bytes .exit) ≡ bytesAfter (now (bytes .entry)) (now (line .entry)) ⌝ }
 {
-    if bytes.len() < 16384 {
-        return Printed::NoRoom;
-    }
-    if out.len() < 16448 {
-        return Printed::NoRoom;
-    }
-    let ask = line_request::ask_of(line);
-    let reply = carry_out(card, arena, work, bytes, line, ask);
-    let n = bytes_read(ask, reply);
-    Printed::Bytes(line_answer::put_answer(ordinal, reply, &work[0..n], out))
+    let outcome = serve_line(card, arena, work, bytes, line);
+    let reply = outcome.reply;
+    let n = outcome.read;
+    line_answer::put_answer(ordinal, reply, &work[0..n], out, at)
 }

@@ -1,1 +1,2 @@
-mod Turns
+-- What a line comes to, by what it is taken for.
+mod Takes

@@ -1,16 +1,31 @@
 // Replay, line by line: an image, then requests and their answers.
 use answers::refusal::Answer;
-use line_answer::Printed;
 use line_image::image;
 use replay_state::Phase;
 use replay_state::Replay;
-use replay_state::Turn;
 use replay_state::put_refusal;
 ghost use mathlib.Core.Path.{_≡_};
-ghost use Prim.Native.Nat.{_≤_};
+ghost use Prim.Native.Nat.{_+_, _≤_};
 ghost use lib.ListN.{length};
+ghost use Rattle.text_stream.specs.Stream.{Written};
+ghost use Rattle.line_image.specs.Image.{imageStep};
+ghost use Rattle.line_serve.specs.Line.{workAfter, bytesAfter};
+ghost use Rattle.line_serve.specs.Text.{mostSpelled, mostPrinted, requestText};
 ghost use Rattle.replay_state.specs.Phases.{oneMore};
-ghost use Rattle.replay_line.specs.Lines.{imageCame, askedCame, takenAs, lineCame};
+ghost use Rattle.replay_line.specs.Replay.{lentBytes, held, kindOf, imageHeld, imageText, requestHeld, lineHeld, lineText, workHeld, bytesHeld};
+
+// What a line is taken for: an image line, the first or a later one; a request; or nothing, after the end of the run.
+pub enum Kind {
+    Image(bool),
+    Request,
+    Nothing,
+}
+
+// A replay after a line, and the place after what the line printed.
+pub struct Taken {
+    pub replay: Replay,
+    pub at: usize,
+}
 
 // One more; a count that 64 bits cannot hold stays.
 fn one_more(n: u64) -> u64
@@ -19,117 +34,113 @@ fn one_more(n: u64) -> u64
     if n < u64::MAX { n + 1 } else { n }
 }
 
-// An image line, the first or a later one.
-fn image_line(replay: Replay, first: bool, arena: &mut [u8], out: &mut [u8], line: &[u8]) -> Turn
-    requires { ⌜ 64 ≤ length (now out) ⌝ }
-    ensures { λ r. ⌜ r ≡ imageCame first replay (now (arena .entry)) (now (out .entry)) (now (line .entry)) .turn ⌝ }
-    ensures { λ _. ⌜ now (arena .exit) ≡ imageCame first replay (now (arena .entry)) (now (out .entry)) (now (line .entry)) .arena ⌝ }
-    ensures { λ _. ⌜ now (out .exit) ≡ imageCame first replay (now (arena .entry)) (now (out .entry)) (now (line .entry)) .out ⌝ }
+// Takes an image line, the first or a later one: a refused one is printed into `out` from `at` on and ends the run.
+fn image_line(
+    replay: Replay,
+    first: bool,
+    arena: &mut [u8],
+    line: &[u8],
+    out: &mut [u8],
+    at: usize,
+) -> Taken
+    requires { ⌜ at + 48 ≤ length (now out) ⌝ }
+    ensures { λ r. ⌜ held (r .replay) (now (arena .exit)) ≡ imageHeld replay (imageStep first (replay .card) (now (arena .entry)) (now (line .entry))) ⌝ }
+    ensures { λ r. ⌜ Written (now (out .entry)) at (imageText (oneMore (replay .lines)) (imageStep first (replay .card) (now (arena .entry)) (now (line .entry)) .added .answer)) (r .at) (now (out .exit)) × (r .at ≤ at + 48) ⌝ }
 {
     let lines = one_more(replay.lines);
     let added = image::image_line(replay.card, first, arena, line);
     let card = added.card;
     let answer = added.answer;
+    let asked = replay.asked;
     match answer {
-        Answer::Done => Turn {
+        Answer::Done => Taken {
             replay: Replay {
                 card,
                 phase: Phase::Image,
                 lines,
-                asked: replay.asked,
+                asked,
             },
-            printed: Printed::Bytes(0),
+            at,
         },
-        Answer::Refused(refusal) => Turn {
+        Answer::Refused(refusal) => Taken {
             replay: Replay {
                 card,
                 phase: Phase::Ended,
                 lines,
-                asked: replay.asked,
+                asked,
             },
-            printed: Printed::Bytes(put_refusal(lines, refusal, out)),
+            at: put_refusal(lines, refusal, out, at),
         },
     }
 }
 
-// A request, or any line after the first of them: it takes an ordinal.
+// Takes a request, or any line after the first of them: its answer takes the next ordinal.
 fn request_line(
     replay: Replay,
     arena: &mut [u8],
     work: &mut [u8],
     bytes: &mut [u8],
-    out: &mut [u8],
     line: &[u8],
-) -> Turn
-    ensures { λ r. ⌜ r ≡ askedCame replay (now (arena .entry)) (now (work .entry)) (now (bytes .entry)) (now (out .entry)) (now (line .entry)) .turn ⌝ }
-    ensures { λ _. ⌜ now (arena .exit) ≡ askedCame replay (now (arena .entry)) (now (work .entry)) (now (bytes .entry)) (now (out .entry)) (now (line .entry)) .arena ⌝ }
-    ensures { λ _. ⌜ now (work .exit) ≡ askedCame replay (now (arena .entry)) (now (work .entry)) (now (bytes .entry)) (now (out .entry)) (now (line .entry)) .work ⌝ }
-    ensures { λ _. ⌜ now (bytes .exit) ≡ askedCame replay (now (arena .entry)) (now (work .entry)) (now (bytes .entry)) (now (out .entry)) (now (line .entry)) .bytes ⌝ }
-    ensures { λ _. ⌜ now (out .exit) ≡ askedCame replay (now (arena .entry)) (now (work .entry)) (now (bytes .entry)) (now (out .entry)) (now (line .entry)) .out ⌝ }
+    out: &mut [u8],
+    at: usize,
+) -> Taken
+    requires { ⌜ (length (now work) ≡ lentBytes) × (mostSpelled ≤ length (now bytes)) × (at + mostPrinted ≤ length (now out)) ⌝ }
+    ensures { λ r. ⌜ held (r .replay) (now (arena .exit)) ≡ requestHeld (held replay (now (arena .entry))) (now (line .entry)) ⌝ }
+    ensures { λ r. ⌜ Written (now (out .entry)) at (requestText (replay .card) (now (arena .entry)) lentBytes (now (line .entry)) (oneMore (replay .asked))) (r .at) (now (out .exit)) × (r .at ≤ at + mostPrinted) ⌝ }
+    ensures { λ _. ⌜ now (work .exit) ≡ workAfter (replay .card) (now (arena .entry)) (now (work .entry)) (now (line .entry)) ⌝ }
+    ensures { λ _. ⌜ now (bytes .exit) ≡ bytesAfter (now (bytes .entry)) (now (line .entry)) ⌝ }
 {
     let card = replay.card;
     let asked = one_more(replay.asked);
-    let printed = line_serve::request_line(card, arena, work, bytes, out, line, asked);
-    Turn {
+    let last = line_serve::request_line(card, arena, work, bytes, line, asked, out, at);
+    Taken {
         replay: Replay {
             card,
             phase: Phase::Requests,
             lines: replay.lines,
             asked,
         },
-        printed,
+        at: last,
     }
 }
 
-// What a line is taken for: an image line, the first or a later one; a request; or nothing, and what is printed then.
-enum Taken {
-    Image(bool),
-    Request,
-    Nothing(Printed),
-}
-
-// What a line is taken for where a replay is, by its first field. With less room than any line may need it is not taken.
-fn taken_for(phase: Phase, bytes: usize, out: usize, line: &[u8]) -> Taken
-    ensures { λ r. ⌜ r ≡ takenAs phase bytes out (now (line .entry)) ⌝ }
+// What a line is taken for where a replay is, by its first field.
+fn kind_of(phase: Phase, line: &[u8]) -> Kind
+    ensures { λ r. ⌜ r ≡ kindOf phase (now (line .entry)) ⌝ }
 {
-    if bytes < 16384 {
-        return Taken::Nothing(Printed::NoRoom);
-    }
-    if out < 16448 {
-        return Taken::Nothing(Printed::NoRoom);
-    }
     match phase {
-        Phase::First => Taken::Image(true),
+        Phase::First => Kind::Image(true),
         Phase::Image => {
             if line_request::is_request(line) {
-                return Taken::Request;
+                return Kind::Request;
             }
-            Taken::Image(false)
+            Kind::Image(false)
         }
-        Phase::Requests => Taken::Request,
-        Phase::Ended => Taken::Nothing(Printed::Bytes(0)),
+        Phase::Requests => Kind::Request,
+        Phase::Ended => Kind::Nothing,
     }
 }
 
-// One line of a replay. With less room than any line may need nothing is printed and nothing changes.
+// Takes one line of a replay, and puts what it prints into `out` from `at` on.
 pub fn line(
     replay: Replay,
     arena: &mut [u8],
     work: &mut [u8],
     bytes: &mut [u8],
-    out: &mut [u8],
     line: &[u8],
-) -> Turn
-    ensures { λ r. ⌜ r ≡ lineCame replay (now (arena .entry)) (now (work .entry)) (now (bytes .entry)) (now (out .entry)) (now (line .entry)) .turn ⌝ }
-    ensures { λ _. ⌜ now (arena .exit) ≡ lineCame replay (now (arena .entry)) (now (work .entry)) (now (bytes .entry)) (now (out .entry)) (now (line .entry)) .arena ⌝ }
-    ensures { λ _. ⌜ now (work .exit) ≡ lineCame replay (now (arena .entry)) (now (work .entry)) (now (bytes .entry)) (now (out .entry)) (now (line .entry)) .work ⌝ }
-    ensures { λ _. ⌜ now (bytes .exit) ≡ lineCame replay (now (arena .entry)) (now (work .entry)) (now (bytes .entry)) (now (out .entry)) (now (line .entry)) .bytes ⌝ }
-    ensures { λ _. ⌜ now (out .exit) ≡ lineCame replay (now (arena .entry)) (now (work .entry)) (now (bytes .entry)) (now (out .entry)) (now (line .entry)) .out ⌝ }
+    out: &mut [u8],
+    at: usize,
+) -> Taken
+    requires { ⌜ (length (now work) ≡ lentBytes) × (mostSpelled ≤ length (now bytes)) × (at + mostPrinted ≤ length (now out)) ⌝ }
+    ensures { λ r. ⌜ held (r .replay) (now (arena .exit)) ≡ lineHeld (held replay (now (arena .entry))) (now (line .entry)) ⌝ }
+    ensures { λ r. ⌜ Written (now (out .entry)) at (lineText (held replay (now (arena .entry))) (now (line .entry))) (r .at) (now (out .exit)) × (r .at ≤ at + mostPrinted) ⌝ }
+    ensures { λ _. ⌜ now (work .exit) ≡ workHeld (held replay (now (arena .entry))) (now (work .entry)) (now (line .entry)) ⌝ }
+    ensures { λ _. ⌜ now (bytes .exit) ≡ bytesHeld (held replay (now (arena .entry))) (now (bytes .entry)) (now (line .entry)) ⌝ }
 {
     let phase = replay.phase;
-    match taken_for(phase, bytes.len(), out.len(), line) {
-        Taken::Image(first) => image_line(replay, first, arena, out, line),
-        Taken::Request => request_line(replay, arena, work, bytes, out, line),
-        Taken::Nothing(printed) => Turn { replay, printed },
+    match kind_of(phase, line) {
+        Kind::Image(first) => image_line(replay, first, arena, line, out, at),
+        Kind::Request => request_line(replay, arena, work, bytes, line, out, at),
+        Kind::Nothing => Taken { replay, at },
     }
 }

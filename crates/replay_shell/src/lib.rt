@@ -1,175 +1,149 @@
-// Replays what a descriptor has: it is read a chunk at a time and cut into lines, and what they print is held back until
-// there is much of it.
-use line_answer::Printed;
-use replay_feed::Place;
+// The program's loop: it reads a chunk, replays its lines and writes what they print, until the text ends or a refused image line ends the
+// run.
 use replay_state::Phase;
 use replay_state::Replay;
-use replay_state::Turn;
-ghost use Prim.Native.Nat.{_≤_};
-ghost use lib.ListN.{length};
+use text_shell::Flow;
+ghost use mathlib.Core.Path.{_≡_};
+ghost use mathlib.Core.Bool.{cond};
+ghost use Prim.Native.Nat.{_+_, _≤_, _<_};
+ghost use lib.ListN.{length, take};
+ghost use Rattle.text_shell.specs.Flow.{Advanced, Speech, Flushed, Told};
+ghost use Rattle.line_serve.specs.Text.{mostSpelled, mostPrinted};
+ghost use Rattle.replay_state.specs.Phases.{startOf};
+ghost use Rattle.replay_line.specs.Replay.{lentBytes, held, replayMachine, atStart};
+ghost use Rattle.replay_shell.specs.Stop.{stopsIn, stops};
 
-// No line prints more than this.
-const MOST_PRINTED: usize = 16448;
+// All is printed.
+const DONE: u64 = 4;
 
-// Where the reading is: so much of the chunk is filled, nothing once the input has ended, and so much of that is taken. The
-// line at hand has `len` bytes; `there` is 0 where there is none.
-struct Source {
-    filled: usize,
-    at: usize,
-    len: usize,
-    there: usize,
+// A replay, and where the reading is.
+struct Moved {
+    replay: Replay,
+    flow: Flow,
 }
 
-// One read: how much of the chunk it filled, nothing where the input has ended.
-fn refill(fd: i32, chunk: &mut [u8]) -> usize
-    ensures { λ r. ⌜ r ≤ length (now (chunk .entry)) ⌝ }
+// The stage after a step: a refused image line ends the reading.
+fn stage_in(phase: Phase) -> u64
+    ensures { λ r. ⌜ r ≡ cond (stopsIn phase) 4 0 ⌝ }
 {
-    let got = libc::read(fd, chunk);
-    io::count(got, chunk)
-}
-
-// The next line of the input: up to a LF, or what is left at the input's end. Nothing says that the input ends, so the turns
-// are counted down from a number that no run uses up.
-fn next_line(fd: i32, start: usize, at: usize, chunk: &mut [u8], line: &mut [u8]) -> Source
-    requires { ⌜ start ≤ length (now chunk) ⌝ }
-    ensures { λ r. ⌜ (r .filled ≤ length (now (chunk .entry))) × (r .len ≤ length (now (line .entry))) ⌝ }
-{
-    let mut filled = start;
-    let mut place = Place {
-        at,
-        len: 0,
-        whole: 0,
-    };
-    let mut turns = u64::MAX;
-    while turns > 0 && filled > 0 {
-        place = replay_feed::feed(place, &chunk[0..filled], line);
-        if place.whole > 0 {
-            return Source {
-                filled,
-                at: place.at,
-                len: place.len,
-                there: 1,
-            };
-        }
-        place.at = 0;
-        filled = refill(fd, chunk);
-        turns -= 1;
-    }
-    Source {
-        filled,
-        at: 0,
-        len: place.len,
-        there: place.len,
-    }
-}
-
-// How much is held once a line has printed so much behind what was held, as far as it is there: all is written out where
-// another line might want more room.
-fn hold(out: &[u8], held: usize, printed: Printed) -> usize
-    requires { ⌜ held ≤ length (now out) ⌝ }
-    ensures { λ r. ⌜ r ≤ length (now (out .entry)) ⌝ }
-{
-    match printed {
-        Printed::NoRoom => held,
-        Printed::Bytes(n) => {
-            if out.len() - held < n {
-                return held;
-            }
-            if MOST_PRINTED <= out.len() - held - n {
-                return held + n;
-            }
-            io::write_all(1, &out[0..held + n]);
-            0
-        }
-    }
-}
-
-// How much of a chunk is wanted: none of it once a refused image line has ended the replay.
-fn wanted(replay: Replay, filled: usize) -> usize
-    ensures { λ r. ⌜ r ≤ filled ⌝ }
-{
-    let phase = replay.phase;
     match phase {
-        Phase::First => filled,
-        Phase::Image => filled,
-        Phase::Requests => filled,
-        Phase::Ended => 0,
+        Phase::First => 0,
+        Phase::Image => 0,
+        Phase::Requests => 0,
+        Phase::Ended => DONE,
     }
 }
 
-// Replays every line from the first on, with so much held as is begun; answers how much is held then.
-fn lines_from(
-    fd: i32,
-    first: Source,
-    begun: usize,
-    chunk: &mut [u8],
-    line: &mut [u8],
+// Takes what the chunk has, as far as there is room for what it prints; ends the text where it has ended.
+fn advance(
+    replay: Replay,
+    flow: Flow,
     arena: &mut [u8],
     work: &mut [u8],
     bytes: &mut [u8],
+    chunk: &[u8],
+    line: &mut [u8],
     out: &mut [u8],
-) -> usize
-    requires { ⌜ (first .filled ≤ length (now chunk)) × (first .len ≤ length (now line)) × (begun ≤ length (now out)) ⌝ }
-    ensures { λ r. ⌜ r ≤ length (now (out .entry)) ⌝ }
+) -> Moved
+    requires { ⌜ (flow .made ≡ 0) × (flow .at ≤ flow .filled) × (flow .filled ≤ length (now chunk)) × (flow .len ≤ length (now line)) ⌝ }
+    requires { ⌜ (length (now work) ≡ lentBytes) × (mostSpelled ≤ length (now bytes)) × (1 ≤ length (now line)) × (mostPrinted + 48 ≤ length (now out)) ⌝ }
+    ensures { λ r. ⌜ Advanced replayMachine stops mostPrinted flow (held replay (now (arena .entry))) (now (line .entry)) (now (chunk .entry)) (now (out .entry)) (r .flow) (held (r .replay) (now (arena .exit))) (now (line .exit)) (now (out .exit)) ⌝ }
 {
-    let mut turn = Turn {
-        replay: replay_state::start(),
-        printed: Printed::Bytes(0),
-    };
-    let mut source = first;
-    let mut held = begun;
-    let mut turns = u64::MAX;
-    while turns > 0 && source.there > 0 {
+    let mut after = flow;
+    if 1 < flow.stage {
+        return Moved {
+            replay,
+            flow: after,
+        };
+    }
+    if flow.stage == 1 {
+        after.made = replay_text::close(replay, arena, work, bytes, flow.len, line, out);
+        after.stage = DONE;
+        return Moved {
+            replay,
+            flow: after,
+        };
+    }
+    let filled = flow.filled;
+    let reached = replay_text::step(
+        replay,
+        arena,
+        work,
+        bytes,
+        flow.len,
+        &chunk[0..filled],
+        flow.at,
+        line,
+        out,
+    );
+    let now = reached.replay;
+    let phase = now.phase;
+    after.len = reached.len;
+    after.at = reached.at;
+    after.made = reached.written;
+    after.stage = stage_in(phase);
+    Moved {
+        replay: now,
+        flow: after,
+    }
+}
+
+// Writes what was printed.
+fn flush(flow: Flow, out: &[u8]) -> Flow
+    requires { ⌜ (flow .made ≤ length (now out)) × (flow .written + flow .made < 18446744073709551616) ⌝ }
+    requires { ⌜ Speech replayMachine (take 32769) (take (flow .made) (now out)) ⌝ }
+    ensures { λ r. ⌜ Flushed flow r ⌝ }
+{
+    let made = flow.made;
+    let all = io::write_all(1, &out[0..made]);
+    text_shell::wrote(flow, all)
+}
+
+// Replays what the descriptor has over lent buffers, to standard output. Nothing says that a text ends, so the turns are counted down from
+// a number that no run uses up.
+fn run(
+    fd: i32,
+    arena: &mut [u8],
+    work: &mut [u8],
+    bytes: &mut [u8],
+    chunk: &mut [u8],
+    line: &mut [u8],
+    out: &mut [u8],
+) -> Flow
+    requires { ⌜ (length (now work) ≡ lentBytes) × (mostSpelled ≤ length (now bytes)) × (length (now chunk) ≡ 65536) × (length (now line) ≡ 32769) × (length (now out) ≡ 65536) ⌝ }
+    ensures { λ r. ⌜ (r .stage ≡ 4 → Told replayMachine (held startOf (now (arena .entry))) r) ⌝ }
+{
+    let mut replay = replay_state::start();
+    let mut flow = text_shell::start();
+    let mut turns = 140737488355328u64;
+    while turns > 0 && flow.stage < 2 {
         turns -= 1;
-        let len = source.len;
-        turn = replay_line::line(
-            turn.replay,
-            arena,
-            work,
-            bytes,
-            &mut out[held..],
-            &line[0..len],
-        );
-        let printed = turn.printed;
-        held = hold(out, held, printed);
-        let filled = wanted(turn.replay, source.filled);
-        source = next_line(fd, filled, source.at, chunk, line);
+        flow = text_shell::refill(fd, flow, chunk);
+        let moved = advance(replay, flow, arena, work, bytes, chunk, line, out);
+        replay = moved.replay;
+        flow = flush(moved.flow, out);
     }
-    held
+    flow
 }
 
-// What is printed of a text without a line: nothing where there is one. Answers how much is held then.
-fn without(first: Source, out: &mut [u8]) -> usize
-    ensures { λ r. ⌜ r ≤ length (now (out .entry)) ⌝ }
+// Replays what the descriptor has, to standard output, and answers where the reading is then: after its end as many bytes are written as
+// `replayOf` a text of the length read has.
+pub fn replay(fd: i32) -> Flow
+    ensures { λ r. ⌜ (r .stage ≡ 4 → Told replayMachine atStart r) ⌝ }
 {
-    if first.there > 0 {
-        return 0;
-    }
-    let printed = replay_state::finish(replay_state::start(), out);
-    hold(out, 0, printed)
-}
-
-// Replays what the descriptor has, to standard output.
-pub fn replay(fd: i32) {
-    let mut chunk = io::large_buffer();
-    let mut line = [0u8; 32769];
-    let mut arena = io::large_buffer();
-    let mut work = io::large_buffer();
+    let mut arena = [0u8; 65536];
+    let mut work = [0u8; 65536];
     let mut bytes = [0u8; 16384];
-    let mut out = io::large_buffer();
-    let filled = refill(fd, &mut chunk);
-    let first = next_line(fd, filled, 0, &mut chunk, &mut line);
-    let begun = without(first, &mut out);
-    let held = lines_from(
+    let mut chunk = [0u8; 65536];
+    let mut line = [0u8; 32769];
+    let mut out = [0u8; 65536];
+    run(
         fd,
-        first,
-        begun,
-        &mut chunk,
-        &mut line,
         &mut arena,
         &mut work,
         &mut bytes,
+        &mut chunk,
+        &mut line,
         &mut out,
-    );
-    io::write_all(1, &out[0..held]);
+    )
 }

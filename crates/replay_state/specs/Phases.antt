@@ -2,17 +2,13 @@
 use Prim.Native.Nat.{ℕ, _+_}
 use mathlib.Core.Bool.{cond}
 use mathlib.Core.List.{List, [], _∷_, _++_}
-use lib.Dec.{ltb, leb}
-use lib.ListN.{length}
-use Rattle.byte_parts.specs.Part.{put}
+use lib.Dec.{ltb}
 use Rattle.answers.specs.declared.refusal.Refusal.{Refusal}
 use Rattle.answers.specs.declared.refusal.Refusal.the-variants.{MalformedImage}
 use Rattle.answers.specs.Refusal.{refusalNumber}
 use Rattle.text_numbers.specs.Decimal.{decText}
 use Rattle.card_build.specs.Card.{newCard}
-use Rattle.line_answer.specs.Answer.{ended}
-use Rattle.line_answer.specs.declared.Printed.{Printed}
-use Rattle.line_answer.specs.declared.Printed.the-variants.{Bytes, NoRoom}
+use Rattle.line_answer.specs.Answer.{closed}
 use Rattle.replay_state.specs.declared.Phase.{Phase}
 use Rattle.replay_state.specs.declared.Phase.the-variants.{First, Image, Requests, Ended}
 use Rattle.replay_state.specs.declared.Replay.{Replay}
@@ -28,11 +24,7 @@ oneMore n = cond (ltb n 18446744073709551615) (n + 1) n
 -- `image` (105 109 97 103 101), line number, refusal number
 unfoldable pub refusalText : ℕ → Refusal → List ℕ
 refusalText line refusal =
-    ended 9 (105 ∷ 109 ∷ 97 ∷ 103 ∷ 101 ∷ []) ++ ended 9 (decText line) ++ ended 10 (decText (refusalNumber refusal))
-
--- a text in front of a buffer
-abbrev pub printedIn : List ℕ → List ℕ → List ℕ
-printedIn out t = put out 0 (length t) t
+    closed 9 (105 ∷ 109 ∷ 97 ∷ 103 ∷ 101 ∷ []) ++ closed 9 (decText line) ++ closed 10 (decText (refusalNumber refusal))
 
 -- the end of a text: empty input is refused at line 1
 abbrev pub finishText : Phase → List ℕ
@@ -40,9 +32,3 @@ finishText First = refusalText 1 MalformedImage
 finishText Image = []
 finishText Requests = []
 finishText Ended = []
-
-unfoldable pub finished : Replay → List ℕ → Printed
-finished p out = cond (leb 16448 (length out)) (Bytes (length (finishText (p .phase)))) NoRoom
-
-unfoldable pub finishOut : Replay → List ℕ → List ℕ
-finishOut p out = cond (leb 16448 (length out)) (printedIn out (finishText (p .phase))) out

@@ -2,12 +2,11 @@
 use answers::refusal::Refusal;
 use byte_parts::spans;
 use card_build::card::Card;
-use line_answer::Printed;
 ghost use mathlib.Core.Path.{_≡_};
-ghost use Prim.Native.Nat.{_≤_};
+ghost use Prim.Native.Nat.{_+_, _≤_};
 ghost use lib.ListN.{length};
-ghost use Rattle.byte_parts.specs.Part.{put};
-ghost use Rattle.replay_state.specs.Phases.{startOf, refusalText, finished, finishOut};
+ghost use Rattle.text_stream.specs.Stream.{Written};
+ghost use Rattle.replay_state.specs.Phases.{startOf, refusalText, finishText};
 
 // Where a replay is: ahead of its first line, in the image, among the requests, or ended by a refused image line.
 pub enum Phase {
@@ -25,12 +24,6 @@ pub struct Replay {
     pub asked: u64,
 }
 
-// A replay after a line, and what was printed of the line.
-pub struct Turn {
-    pub replay: Replay,
-    pub printed: Printed,
-}
-
 // A replay ahead of its first line.
 pub fn start() -> Replay
     ensures { λ r. ⌜ r ≡ startOf ⌝ }
@@ -43,30 +36,30 @@ pub fn start() -> Replay
     }
 }
 
-// Puts the line of a refused image line, and answers its length.
-pub fn put_refusal(line: u64, refusal: Refusal, out: &mut [u8]) -> usize
-    requires { ⌜ 64 ≤ length (now out) ⌝ }
-    ensures { λ r. ⌜ r ≡ length (refusalText line refusal) ⌝ }
-    ensures { λ _. ⌜ now (out .exit) ≡ put (now (out .entry)) 0 (length (refusalText line refusal)) (refusalText line refusal) ⌝ }
+// Puts the line of a refused image line, `image`, line number and refusal number, into `out` from `at` on, and answers the place
+// after it.
+pub fn put_refusal(line: u64, refusal: Refusal, out: &mut [u8], at: usize) -> usize
+    requires { ⌜ at + 48 ≤ length (now out) ⌝ }
+    ensures { λ r. ⌜ Written (now (out .entry)) at (refusalText line refusal) r (now (out .exit)) ⌝ }
+    ensures { λ r. ⌜ r ≤ at + 48 ⌝ }
 {
-    spans::copy(out, 0, b"image\t", 0, 6);
-    let last = line_answer::put_number(line, b'\t', out, 6);
+    spans::copy(out, at, b"image\t", 0, 6);
+    let last = line_answer::put_number(line, b'\t', out, at + 6);
     line_answer::put_number(refusal.number() as u64, b'\n', out, last)
 }
 
-// The end of a text: one without a line is refused at line 1.
-pub fn finish(replay: Replay, out: &mut [u8]) -> Printed
-    ensures { λ r. ⌜ r ≡ finished replay (now (out .entry)) ⌝ }
-    ensures { λ _. ⌜ now (out .exit) ≡ finishOut replay (now (out .entry)) ⌝ }
+// Puts what the end of a text prints into `out` from `at` on, and answers the place after it: a text without a line is refused at
+// line 1.
+pub fn finish(replay: Replay, out: &mut [u8], at: usize) -> usize
+    requires { ⌜ at + 48 ≤ length (now out) ⌝ }
+    ensures { λ r. ⌜ Written (now (out .entry)) at (finishText (replay .phase)) r (now (out .exit)) ⌝ }
+    ensures { λ r. ⌜ r ≤ at + 48 ⌝ }
 {
-    if out.len() < 16448 {
-        return Printed::NoRoom;
-    }
     let phase = replay.phase;
     match phase {
-        Phase::First => Printed::Bytes(put_refusal(1, Refusal::MalformedImage, out)),
-        Phase::Image => Printed::Bytes(0),
-        Phase::Requests => Printed::Bytes(0),
-        Phase::Ended => Printed::Bytes(0),
+        Phase::First => put_refusal(1, Refusal::MalformedImage, out, at),
+        Phase::Image => at,
+        Phase::Requests => at,
+        Phase::Ended => at,
     }
 }

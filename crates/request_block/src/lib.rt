@@ -26,7 +26,7 @@ pub fn judge_block(card: Card, arena_len: usize, code: u16, number: u32) -> Answ
     Answer::Done
 }
 
-// The sixteen bytes of a stored block, which are the arena's own, or none.
+// Gives the sixteen bytes of a stored block, which are the arena's own, or none where it is refused.
 pub fn stored_block<'a>(card: Card, arena: &'a [u8], code: u16, number: u32) -> &'a [u8]
     ensures { λ r. ⌜ now r ≡ storedBlock card (now (arena .entry)) code number ⌝ }
 {
@@ -41,7 +41,7 @@ pub fn stored_block<'a>(card: Card, arena: &'a [u8], code: u16, number: u32) -> 
     }
 }
 
-// Sets a stored block.
+// Sets a stored block to sixteen bytes, unless it is refused.
 pub fn set_block(card: Card, arena: &mut [u8], code: u16, number: u32, block: [u8; 16]) -> Answer
     ensures { λ r. ⌜ r ≡ blockJudged card (length (now (arena .entry))) code number ⌝ }
     ensures { λ _. ⌜ now (arena .exit) ≡ arenaSet card (now (arena .entry)) code number block ⌝ }

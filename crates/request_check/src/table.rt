@@ -27,7 +27,7 @@ pub struct Table {
     pub count: usize,
 }
 
-// What is read of a code that is not there.
+// Gives the row that stands where there is no code.
 fn no_row() -> Row
     ensures { λ r. ⌜ r ≡ noRow ⌝ }
 {
@@ -41,7 +41,7 @@ fn no_row() -> Row
     }
 }
 
-// A code whose first service is a node of this entry.
+// Makes the row of a code whose first service has this entry. An area's entry stands for no service.
 fn row_by(code: u16, entry: Entry) -> Row
     ensures { λ r. ⌜ r ≡ rowBy code entry ⌝ }
 {
@@ -70,7 +70,7 @@ fn row_by(code: u16, entry: Entry) -> Row
     }
 }
 
-// What a code comes to: the first service of that code.
+// Looks a code up among the first `count` nodes: its row is that of the first service of the code.
 pub fn row_of(nodes: [Node; 64], count: usize, code: u16) -> Row
     ensures { λ r. ⌜ r ≡ rowOf (take count nodes) code ⌝ }
 {
@@ -84,7 +84,7 @@ pub fn row_of(nodes: [Node; 64], count: usize, code: u16) -> Row
     }
 }
 
-// The rows of the first sixteen codes.
+// Looks the first sixteen codes up, each once.
 pub fn table_of(nodes: [Node; 64], count: usize, codes: &[u16]) -> Table
     ensures { λ r. ⌜ r ≡ tableOf (take count nodes) (now (codes .entry)) ⌝ }
 {

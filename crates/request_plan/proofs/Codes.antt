@@ -17,7 +17,7 @@ use Rattle.request_plan.specs.declared.Reply.the-variants.{Refused}
 use Rattle.request_plan.specs.declared.Judged.the-variants.{Refused as NotFit}
 use Rattle.request_plan.specs.Request.{Request}
 use Rattle.request_plan.specs.Plan.{judgedWith}
-use Rattle.request_plan.specs.Serve.{told, serve}
+use Rattle.request_plan.specs.Serve.{answeredOnly, serve}
 use Rattle.request_plan.proofs.Serves.{refused}
 
 -- The refusal of a request of more than sixteen codes: 8, 1, 2.
@@ -48,7 +48,7 @@ coded r codes = record {
 
 module _ (c : Card) (a : List ℕ) (r : Request) where
   -- more than sixteen codes are refused, whatever they are
-  many : (codes : List ℕ) → 16 < length codes → serve c a (coded r codes) ≡ told a (Refused (manyRefusal (isSound c) (ltb 512 (r .count))))
+  many : (codes : List ℕ) → 16 < length codes → serve c a (coded r codes) ≡ answeredOnly a (Refused (manyRefusal (isSound c) (ltb 512 (r .count))))
   unfolding judgedWith
   many codes h = refused c a (coded r codes) (rw (lt-ltb 16 (length codes) h) (many-judged (isSound c) (ltb 512 (r .count))))
 

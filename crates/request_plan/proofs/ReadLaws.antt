@@ -24,7 +24,7 @@ use Rattle.request_plan.specs.declared.Judged.{Judged}
 use Rattle.request_plan.specs.declared.Judged.the-variants.{Refused as NotFit, ShortData as NoData, Fit}
 use Rattle.request_plan.specs.Request.{Request, readRequest, writeRequest}
 use Rattle.request_plan.specs.Plan.{judgedOf, rowsIn, elementsIn, checkedPlan, judgedPlan, planOf}
-use Rattle.request_plan.specs.Serve.{Served, storeIn, blocksRead, committed, carried, planServed, serve, readLong}
+use Rattle.request_plan.specs.Serve.{Served, storeIn, blocksRead, committed, carried, planServed, serve, lengthRead}
 use Rattle.request_plan.proofs.Ready.{fits, all-ready}
 use Rattle.request_plan.proofs.Accepted.{nothing}
 
@@ -61,7 +61,7 @@ module _ (rows : List Row) (a : List ℕ) where
 -- What a read says: the arena is as it was, and the bytes read are sixteen for each element, which the output has room for, or none.
 pub record ReadSaid (a : List ℕ) (r : Request) (x : Served) : Type 0 where
   pub kept : x .arena ≡ a
-  pub long : length (x .read) ≡ readLong (x .reply) (r .count)
+  pub long : length (x .read) ≡ lengthRead (x .reply) (r .count)
   pub room : length (x .read) ≤ r .room
   pub most : length (x .read) ≤ 8192
 

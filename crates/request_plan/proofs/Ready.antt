@@ -2,7 +2,7 @@
 use mathlib.Core.Path.{_≡_}
 use mathlib.Core.Bool.{Bool, true, false, not}
 use mathlib.Core.List.{List, [], _∷_}
-use Prim.Native.Nat.{ℕ, zero, suc, _+_, _*_, _≤_, _<_}
+use Prim.Native.Nat.{ℕ, zero, suc, _+_, _*_, _≤_}
 use native.Mathlib.Omega.{arith}
 use lib.Dec.{ltb}
 use lib.ListN.{length, getD}
@@ -27,7 +27,7 @@ use Rattle.request_check.specs.declared.check.Checked.the-variants.{Passed as A
 use Rattle.request_check.specs.Row.{rowBy, rowAt, rowOf, rowsOf, rowAtIndex}
 use Rattle.request_check.specs.Check.{checkedFrom}
 use Rattle.request_check.proofs.Laws.{AllPass, all-pass, good}
-use Rattle.request_runs.specs.Ready.{Ready, AllReady}
+use Rattle.request_runs.specs.Ready.{AllReady}
 use Rattle.request_plan.specs.declared.Sizes.{Sizes}
 use Rattle.request_plan.specs.declared.Judged.the-variants.{Refused as NotFit, ShortData as NoData, Fit}
 use Rattle.request_plan.specs.Request.{Request}

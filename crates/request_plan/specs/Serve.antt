@@ -4,7 +4,6 @@ use mathlib.Core.List.{List, [], _∷_, _++_}
 use mathlib.Core.Bool.{Bool, true, false}
 use lib.ListN.{length, take, replicate}
 use Rattle.block_list.specs.declared.element.BlockListElement.{BlockListElement}
-use Rattle.answers.specs.declared.refusal.Refusal.{Refusal}
 use Rattle.byte_parts.specs.Part.{part, put}
 use Rattle.card_build.specs.declared.card.Card.{Card}
 use Rattle.request_check.specs.declared.table.Row.{Row}
@@ -16,14 +15,15 @@ use Rattle.request_plan.specs.declared.Reply.the-variants.{Refused, Done
 use Rattle.request_plan.specs.Request.{Request}
 use Rattle.request_plan.specs.Plan.{Plan, stop, go, planOf, rowsIn}
 
+-- what a request comes to: its reply, the bytes that are read, and the arena after it
 pub record Served : Type 0 where
   pub reply : Reply
   pub read : List ℕ
   pub arena : List ℕ
 
--- a reply that changes nothing
-abbrev pub told : List ℕ → Reply → Served
-told a x = record { reply = x; read = []; arena = a }
+-- what a request comes to that is answered, reads nothing and leaves the arena
+abbrev pub answeredOnly : List ℕ → Reply → Served
+answeredOnly a x = record { reply = x; read = []; arena = a }
 
 -- the bytes of a row's store
 abbrev pub storeIn : List ℕ → Row → List ℕ
@@ -36,15 +36,17 @@ blocksRead rows a (e ∷ es) = part (storeIn a (rowIn rows e)) (16 * e .number) 
 
 -- the staged stores go into the arena only if every run passed; else the first failing run answers
 unfoldable pub committed : ℕ → List ℕ → Walked (List ℕ) → Served
-committed size a (bad i f) = told a (Failed i f)
+committed size a (bad i f) = answeredOnly a (Failed i f)
 committed size a (good s) = record { reply = Done; read = []; arena = put a 0 size s }
 
+-- a request whose elements all passed, carried out: on a write the runs work on the staged stores, of `size` bytes
 unfoldable pub carried : Bool → List Row → ℕ → List ℕ → List ℕ → List BlockListElement → Served
 carried true rows size d a es = committed size a (staged rows d es (take size a))
 carried false rows size d a es = record { reply = Done; read = blocksRead rows a es; arena = a }
 
+-- a request, once its plan is settled
 abbrev pub planServed : Card → List ℕ → Request → Plan → Served
-planServed c a r (stop x) = told a x
+planServed c a r (stop x) = answeredOnly a x
 planServed c a r (go es) = carried (r .write) (rowsIn c r) (16 * c .used) (r .«data») a es
 
 -- a whole request, on a card and an arena
@@ -52,11 +54,11 @@ unfoldable pub serve : Card → List ℕ → Request → Served
 serve c a r = planServed c a r (planOf c (length a) r)
 
 -- how many bytes a read puts out: sixteen for each element, if it is carried out
-abbrev pub readLong : Reply → ℕ → ℕ
-readLong (Refused r) count = 0
-readLong Done count = 16 * count
-readLong ShortData count = 0
-readLong (Failed i f) count = 0
+abbrev pub lengthRead : Reply → ℕ → ℕ
+lengthRead (Refused r) count = 0
+lengthRead Done count = 16 * count
+lengthRead ShortData count = 0
+lengthRead (Failed i f) count = 0
 
 -- output: beyond the answer it stays as it was
 abbrev pub outputAfter : List ℕ → Served → List ℕ

@@ -14,7 +14,7 @@ ghost use lib.ListN.{length};
 ghost use Rattle.answers.specs.Outcome.{writtenOf, bytesAfter};
 ghost use Rattle.request_rules.specs.Rules.{purseIn, cashbackIn, elementBy, endBy, onStore};
 
-// A block of a purse store.
+// Applies a purse operation to block `number` of a purse store, with the element's sixteen bytes.
 fn purse_in(
     store: &mut [u8],
     block: &[u8],
@@ -30,7 +30,7 @@ fn purse_in(
     bytes::apply_purse_write(&mut store[at..at + 16], block, operation, limit)
 }
 
-// What a cashback service does in an access mode.
+// Gives what a cashback service does in an access mode: in mode 1 cashback, else a decrement.
 fn cashback_in(mode: u8) -> PurseOperation
     ensures { λ r. ⌜ r ≡ cashbackIn mode ⌝ }
 {
@@ -41,7 +41,8 @@ fn cashback_in(mode: u8) -> PurseOperation
     }
 }
 
-// One element with its sixteen bytes, by the service's attribute.
+// Carries out one element on its store by the service's attribute, `block` being its sixteen bytes: a random block is replaced, a cyclic
+// element must name block 0 (the run's end does the rest), a purse follows its operation.
 fn element_by(
     store: &mut [u8],
     block: &[u8],
@@ -81,7 +82,7 @@ fn element_by(
     }
 }
 
-// The same where the store lies in the stage, `block` being the element's sixteen bytes.
+// Carries out one element where its row's store lies in the stage.
 pub fn element_on(stage: &mut [u8], block: &[u8], row: Row, number: u16, mode: u8) -> Written
     requires { ⌜ (16 * row .start + 16 * row .blocks ≤ length (now stage)) × (16 * number + 16 ≤ 16 * row .blocks) × (16 ≤ length (now block)) ⌝ }
     ensures { λ r. ⌜ r ≡ writtenOf (onStore row (elementBy (row .attribute) (row .limit) number mode (now (block .entry))) (now (stage .entry))) ⌝ }
@@ -99,7 +100,7 @@ pub fn element_on(stage: &mut [u8], block: &[u8], row: Row, number: u16, mode: u
     }
 }
 
-// The end of a run on its store, `run` being the bytes of all its elements.
+// Ends a run on its store, `run` being the bytes of all its elements: a cyclic store takes them in.
 fn end_by(store: &mut [u8], run: &[u8], attribute: ServiceAttribute) -> Written
     ensures { λ r. ⌜ r ≡ writtenOf (endBy (Decoded.Defined attribute) (now (run .entry)) (now (store .entry))) ⌝ }
     ensures { λ r. ⌜ now (store .exit) ≡ bytesAfter (now (store .entry)) (endBy (Decoded.Defined attribute) (now (run .entry)) (now (store .entry))) ⌝ }
@@ -116,7 +117,7 @@ fn end_by(store: &mut [u8], run: &[u8], attribute: ServiceAttribute) -> Written
     }
 }
 
-// The same where the store lies in the stage.
+// Ends a run where its row's store lies in the stage.
 pub fn end_on(stage: &mut [u8], run: &[u8], row: Row) -> Written
     requires { ⌜ 16 * row .start + 16 * row .blocks ≤ length (now stage) ⌝ }
     ensures { λ r. ⌜ r ≡ writtenOf (onStore row (endBy (row .attribute) (now (run .entry))) (now (stage .entry))) ⌝ }

@@ -8,14 +8,14 @@ use Rattle.request_runs.specs.declared.run.Applied.{Applied}
 use Rattle.request_runs.specs.declared.run.Applied.the-variants.{Done, Failed}
 use Rattle.request_runs.specs.Runs.{Walked, bad, good}
 
--- the element's store lies in a stage of `long` bytes, and its block in the store
-pub record Ready (rows : List Row) (long : ℕ) (e : BlockListElement) : Type 0 where
-  pub stored : 16 * rowIn rows e .start + 16 * rowIn rows e .blocks ≤ long
+-- the element's store lies in a stage of `size` bytes, and its block in the store
+pub record Ready (rows : List Row) (size : ℕ) (e : BlockListElement) : Type 0 where
+  pub stored : 16 * rowIn rows e .start + 16 * rowIn rows e .blocks ≤ size
   pub block : e .number < rowIn rows e .blocks
 
 abbrev pub AllReady : List Row → ℕ → List BlockListElement → Type 0
-AllReady rows long [] = Unit {0}
-AllReady rows long (e ∷ es) = Ready rows long e × AllReady rows long es
+AllReady rows size [] = Unit {0}
+AllReady rows size (e ∷ es) = Ready rows size e × AllReady rows size es
 
 -- a failure says nothing of the stage
 abbrev pub walkedTo : {S : Type 0} → Applied → S → Walked S

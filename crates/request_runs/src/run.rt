@@ -20,14 +20,15 @@ pub enum Applied {
     Failed { index: usize, fault: Fault },
 }
 
-// The service number that a row's code has.
+// Gives the service number that a row's code has.
 fn number_of(row: Row) -> u16
     ensures { λ r. ⌜ r ≡ numberOf (row .code) ⌝ }
 {
     ServiceCode(row.code).number()
 }
 
-// The runs of the counted elements of a list, on the staged stores. After a failure nothing is said of the stage.
+// Carries out the counted elements of a list on the staged stores, run by run: each element as it comes, then the run's end (AF is told at
+// the run's first element). The first failure stops it, and of the stage nothing is said then.
 pub fn apply(stage: &mut [u8], table: Table, list: &[u8], count: usize, data: &[u8]) -> Applied
     requires { ⌜ (16 * count ≤ length (now «data»)) × AllReady (take (table .count) (table .rows)) (length (now stage)) (elementsFrom (now list) count 0) ⌝ }
     ensures { λ r. ⌜ staged (take (table .count) (table .rows)) (now («data» .entry)) (elementsFrom (now (list .entry)) count 0) (now (stage .entry)) ≡ walkedTo r (now (stage .exit)) ⌝ }

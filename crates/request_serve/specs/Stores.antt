@@ -8,7 +8,7 @@ use Rattle.request_check.specs.Row.{rowAtIndex}
 
 -- each row's store lies in a list of so many bytes
 abbrev pub AllIn : List Row → ℕ → Type 0
-AllIn rows long = (i : ℕ) → 16 * rowAtIndex rows i .start + 16 * rowAtIndex rows i .blocks ≤ long
+AllIn rows size = (i : ℕ) → 16 * rowAtIndex rows i .start + 16 * rowAtIndex rows i .blocks ≤ size
 
 -- each row's store goes to the same place of the other list
 unfoldable pub storesPut : List ℕ → List ℕ → List Row → List ℕ

@@ -1,4 +1,4 @@
--- `replies::put_mark` meets its contract: two bytes are stored. Assumes nothing.
+-- `line_answer::put_mark` meets its contract: two bytes are stored. Assumes nothing.
 use borrow.Author.Needs.{needs}
 use native.Mathlib.Omega.{arith}
 use mathlib.Core.Path.{refl}
@@ -7,6 +7,9 @@ use denote.Ref.{now}
 use Rattle.byte_parts.proofs.Put.{put-two}
 use Rattle.line_answer.proofs.put_mark.Statement.{statement}
 use Rattle.line_answer.proofs.put_mark.Tie as tie
+
+returns : tie.Need-returns
+returns c = (record { place = refl; bytes = put-two (now (c .args .out)) (c .args .at) (c .args .mark) (c .args .end) }, omega arith)
 
 pub put-mark-spec : {M : Type 1} → statement M
 put-mark-spec =
@@ -17,4 +20,4 @@ put-mark-spec =
     (λ c. simp length-set (omega arith))
     (λ c. search needs)
     (λ c. search needs)
-    (λ c. (refl, put-two (now (c .args .out)) (c .args .at) (c .args .mark) (c .args .end))))
+    returns)

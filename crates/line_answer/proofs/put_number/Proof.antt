@@ -1,12 +1,11 @@
--- `replies::put_number` meets its contract: a number of 64 bits has at most twenty digits. Assumes nothing.
+-- `line_answer::put_number` meets its contract: a number of 64 bits has at most twenty digits. Assumes nothing.
 use borrow.Author.Needs.{needs}
 use Prim.Native.Nat.{_≤_}
 use native.Mathlib.Omega.{arith}
 use lib.ListN.{length}
-use denote.Ref.{now}
 use Rattle.text_numbers.specs.Decimal.{decText}
 use Rattle.text_numbers.proofs.DecimalLaws.{dec-room}
-use Rattle.line_answer.proofs.Writing.{ending}
+use Rattle.text_stream.proofs.Prints.{written-byte}
 use Rattle.line_answer.proofs.put_number.Statement.{statement}
 use Rattle.line_answer.proofs.put_number.Tie as tie
 
@@ -18,9 +17,7 @@ returns : tie.Need-returns
 returns c =
     let p = c .before .before in
     let s = p .before .before .before in
-    let a = s .args in
-    let e = ending (now (a .out)) (a .at) (decText (a .n)) (a .end) (p .put-dec .ensures .0) (p .put-dec .ensures .1) in
-    ((e .0, omega (arith, long s)), e .1)
+    (written-byte (decText (s .args .n)) (s .args .end) record { place = p .put-dec .ensures .0; bytes = p .put-dec .ensures .1 }, omega (arith, long s))
 
 pub put-number-spec : {M : Type 1} → statement M
 put-number-spec =

@@ -1,15 +1,14 @@
--- `replies::put_where` meets its contract: `-` for 00, or else the number. Assumes nothing.
+-- `line_answer::put_where` meets its contract: `-` for 00, or else the number. Assumes nothing.
 use borrow.Author.Needs.{needs}
 use native.Mathlib.Omega.{arith}
-use Rattle.line_answer.proofs.Writing.{nowhere, somewhere}
+use Rattle.line_answer.proofs.Where.{nowhere, somewhere}
 use Rattle.line_answer.proofs.put_where.Statement.{statement}
 use Rattle.line_answer.proofs.put_where.Tie as tie
 
 returns : tie.Need-returns
 returns c =
     let p = c .before .before in
-    let e = p .put-mark .ensures in
-    rw (nowhere _ (p .before .before .if1 .taken)) ((e .0, omega arith), e .1)
+    rw (nowhere _ (p .before .before .if1 .taken)) (p .put-mark .ensures .0, omega (arith, p .put-mark .ensures .1))
 
 returns-2 : tie.Need-returns-2
 returns-2 c =

@@ -1,47 +1,37 @@
--- `lines::line` meets its contract: by what the line is taken for. Assumes nothing.
+-- `replay_line::line` meets its contract, by what the line is taken for. Assumes nothing.
 use borrow.Author.Needs.{needs}
 use native.Mathlib.Omega.{arith}
 use mathlib.Core.Path.{_≡_, sym, _∙_}
-use lib.ListN.{length}
 use denote.Ref.{now}
-use Rattle.replay_line.specs.declared.Taken.{Taken}
-use Rattle.replay_line.specs.Lines.{takenAs}
-use Rattle.replay_line.proofs.Turns.{image-came, request-came, nothing-came, image-room}
+use Rattle.replay_line.specs.declared.Kind.{Kind}
+use Rattle.replay_line.specs.Replay.{held, kindOf}
+use Rattle.replay_line.proofs.Takes.{image-taken, request-taken, nothing-taken}
 use Rattle.replay_line.proofs.line.Statement.{statement}
 use Rattle.replay_line.proofs.line.Tie as tie
 
 -- what the line was found to be taken for
-told : (k : tie.After-taken-for) {t : Taken} → k .taken-for .result ≡ t → let a = k .before .before .before .before .before .before .args in
-    takenAs (a .replay .phase) (length (now (a .bytes))) (length (now (a .out))) (now (a .line)) ≡ t
-told k e = sym (k .taken-for .ensures) ∙ e
-
-image-line-requires : tie.Need-image-line-requires
-image-line-requires c κs =
-    let k = c .before .before .before .before .before in
-    omega (arith, image-room _ _ _ _ (told k (c .before .before .before .first .given .1)))
+found : (k : tie.After-kind-of) {t : Kind} → k .kind-of .result ≡ t → let a = k .before .before .before .before .before .before .args in kindOf (a .replay .phase) (now (a .line)) ≡ t
+found k e = sym (k .kind-of .ensures) ∙ e
 
 returns : tie.Need-returns
 returns c =
     let i = c .before .before .before .before in
     let k = i .before .before .before .before .before .before in
     let a = k .before .before .before .before .before .before .args in
-    image-came (a .replay) (now (a .arena)) (now (a .work)) (now (a .bytes)) (now (a .out)) (now (a .line))
-    (told k (i .before .before .before .before .first .given .1)) (i .image-line .ensures)
+    image-taken (held (a .replay) (now (a .arena))) (now (a .line)) (now (a .work)) (now (a .bytes)) (found k (i .before .before .before .before .first .given .1)) (i .image-line .ensures)
 
 returns-2 : tie.Need-returns-2
 returns-2 c =
     let i = c .before .before .before .before .before .before .before .before in
     let k = i .before .before .before .before .before .before .before in
     let a = k .before .before .before .before .before .before .args in
-    request-came (a .replay) (now (a .arena)) (now (a .work)) (now (a .bytes)) (now (a .out)) (now (a .line))
-    (told k (i .before .before .before .before .before .enum-told .given .1)) (i .request-line .ensures)
+    request-taken (held (a .replay) (now (a .arena))) (now (a .line)) (now (a .work)) (now (a .bytes)) (found k (i .before .before .before .before .before .enum-told .given .1)) (i .request-line .ensures)
 
 returns-3 : tie.Need-returns-3
 returns-3 c =
-    let k = c .before .before .before in
+    let k = c .before .before in
     let a = k .before .before .before .before .before .before .args in
-    nothing-came (a .replay) (now (a .arena)) (now (a .work)) (now (a .bytes)) (now (a .out)) (now (a .line))
-    (told k (c .before .printed .given .1))
+    nothing-taken (held (a .replay) (now (a .arena))) (now (a .line)) (now (a .work)) (now (a .bytes)) (now (a .out)) (a .at) (found k (c .enum-told2 .given .1))
 
 pub line-spec : {M : Type 1} → statement M
 line-spec =
@@ -49,7 +39,7 @@ line-spec =
     (tie.spec
     (λ c κs. search needs)
     (λ c. search needs)
-    image-line-requires
+    (λ c κs. search needs)
     (λ c. search needs)
     (λ c κs. search needs)
     (λ c. search needs)

@@ -1,4 +1,4 @@
--- `lines::one_more` meets its contract, below the greatest number and at it. Assumes nothing.
+-- `replay_line::one_more` meets its contract, below the greatest number and at it. Assumes nothing.
 use borrow.Author.Needs.{needs}
 use borrow.Author.Tests.{lt-ltb, le-ltb}
 use Rattle.replay_state.specs.Phases.{oneMore}

@@ -1,7 +1,7 @@
 -- The code tests in the definition's order.
 use Prim.Native.Nat.{_*_}
 use mathlib.Core.Path.{_≡_, sym, _∙_}
-use mathlib.Core.Bool.{Bool, true, false}
+use mathlib.Core.Bool.{true, false}
 use lib.Dec.{ltb}
 use denote.Ref.{now}
 use borrow.Author.Needs.{needs}
@@ -29,7 +29,7 @@ few-codes c = sym (c .before .before .before .before .before .many-codes .ensure
 
 -- the list ends with its last element
 ends : (c : tie.Else4) → let a = start-of (c .before .before .before .before) .args in endsAfter (now (a .list)) (a .sizes .count) ≡ true
-ends c = sym (c .before .before .before .before .before .list-ends .ensures) ∙ not-false _ (c .if4 .left)
+ends c = let l = c .before .before .before .before .before in sym (l .list-ends .ensures) ∙ not-false (l .list-ends .result) (c .if4 .left)
 
 -- the arena holds the blocks in use
 long : (c : tie.Else5) → let n = start-of (c .before .before .before .before .before) .args .sizes in ltb (n .arena) (16 * n .used) ≡ false
@@ -50,7 +50,8 @@ returns-4 : tie.Need-returns-4
 returns-4 c =
     let g = c .before in
     let f = g .before in
-    bad-list _ _ _ _ (sound (f .before)) (few f) (few-codes g) (sym (f .before .before .before .list-ends .ensures) ∙ not-true _ (c .if4 .taken))
+    let l = f .before .before .before in
+    bad-list _ _ _ _ (sound (f .before)) (few f) (few-codes g) (sym (l .list-ends .ensures) ∙ not-true (l .list-ends .result) (c .if4 .taken))
 
 returns-5 : tie.Need-returns-5
 returns-5 c =

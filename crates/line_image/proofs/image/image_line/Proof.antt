@@ -8,7 +8,7 @@ use Rattle.card_build.specs.Card.{accepted}
 use Rattle.line_image.specs.declared.line.Line.{Line}
 use Rattle.line_image.specs.declared.line.Line.the-variants.{Block}
 use Rattle.line_image.specs.Line.{hex32, imageLine}
-use Rattle.line_image.specs.Turn.{imageTurn}
+use Rattle.line_image.specs.Image.{imageStep}
 use Rattle.line_image.proofs.Lines.{block-digits}
 use Rattle.line_image.proofs.image.image_line.Statement.{statement}
 use Rattle.line_image.proofs.image.image_line.Tie as tie
@@ -26,29 +26,29 @@ set-hex-requires : tie.Need-set-hex-requires
 set-hex-requires c κs = ap hex32 (c .field .ensures) ∙ block-digits _ _ _ _ (block (c .before .before .before))
 
 returns : tie.Need-returns
-unfolding imageTurn
+unfolding imageStep
 returns c = rw (told (c .before .before .before) (c .before .enum-told .given .1)) (c .keep .ensures, refl)
 
 returns-2 : tie.Need-returns-2
-unfolding imageTurn
+unfolding imageStep
 returns-2 c =
     let k = c .before .before .before in
     rw (told (k .before .before) (k .system .given .1)) (c .keep2 .ensures ∙ ap accepted (c .before .new .ensures), refl)
 
 returns-3 : tie.Need-returns-3
-unfolding imageTurn
+unfolding imageStep
 returns-3 c =
     let k = c .before .before in
     rw (told (k .before .before) (k .depth .given .1)) (c .add-area .ensures, refl)
 
 returns-4 : tie.Need-returns-4
-unfolding imageTurn
+unfolding imageStep
 returns-4 c =
     let k = c .before .before .before .before .before in
     rw (told (k .before .before) (k .depth2 .given .1)) (c .before .before .add-service .ensures)
 
 returns-5 : tie.Need-returns-5
-unfolding imageTurn
+unfolding imageStep
 returns-5 c =
     let k = c .before .before in
     let f = c .before .known-told4 .given in
@@ -57,7 +57,7 @@ returns-5 c =
     rw (told (k .before .before) (k .upper .given .1)) (rw (first, second) at (c .set-limit .ensures), refl)
 
 returns-6 : tie.Need-returns-6
-unfolding imageTurn
+unfolding imageStep
 returns-6 c =
     let s = c .before .before .before in
     let e = s .set-hex .ensures in

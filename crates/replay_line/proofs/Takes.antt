@@ -1,0 +1,78 @@
+-- What a line comes to, by what it is taken for. Assumes nothing.
+use Prim.Native.Nat.{ℕ, _+_, _≤_}
+use native.Mathlib.Omega.{arith}
+use mathlib.Core.Path.{_≡_, refl, sym, ap, _∙_}
+use mathlib.Core.Bool.{Bool}
+use mathlib.Core.List.{List}
+use lib.ListN.{length}
+use Rattle.answers.specs.declared.refusal.Refusal.{Refusal}
+use Rattle.answers.specs.declared.refusal.Answer.{Answer}
+use Rattle.answers.specs.declared.refusal.Answer.the-variants as answers
+use Rattle.card_build.specs.declared.card.Added.{Added}
+use Rattle.text_stream.specs.Stream.{Written}
+use Rattle.text_stream.proofs.Prints.{written-none}
+use Rattle.line_image.specs.Image.{Imaged, imageStep}
+use Rattle.line_serve.specs.Line.{lineServed, workAfter, bytesAfter}
+use Rattle.line_serve.specs.Text.{mostPrinted, requestText}
+use Rattle.replay_state.specs.declared.Phase.the-variants.{Image, Requests, Ended}
+use Rattle.replay_state.specs.declared.Replay.{Replay}
+use Rattle.replay_state.specs.Phases.{oneMore, refusalText}
+use Rattle.replay_line.specs.declared.Kind.the-variants as kinds
+use Rattle.replay_line.specs.Replay.{lentBytes, Held, held, kindOf, imageHeld, imageText, requestHeld, lineHeld, lineText, workHeld, bytesHeld}
+
+module _ (p : Replay) (t : Imaged) {added : Added} {arena : List ℕ} {n : ℕ} (e : added ≡ t .added) (a : arena ≡ t .arena) (l : n ≡ oneMore (p .lines)) where
+  -- what the image line was answered
+  answer-of : {x : Answer} → added .answer ≡ x → t .added .answer ≡ x
+  answer-of d = ap (λ (y : Added). y .answer) (sym e) ∙ d
+
+  -- An image line is accepted.
+  pub image-done
+      : added .answer ≡ answers.Done → (out : List ℕ) (at : ℕ)
+      → (held (record { card = added .card; phase = Image; lines = n; asked = p .asked }) arena ≡ imageHeld p t)
+      × (Written out at (imageText (oneMore (p .lines)) (t .added .answer)) at out × (at ≤ at + 48))
+  image-done d out at = rw (answer-of d, e, l, a) (refl, (written-none out at, omega arith))
+
+  -- Or refused.
+  pub image-refused
+      : {refusal : Refusal} {out out′ : List ℕ} {at k : ℕ} → added .answer ≡ answers.Refused refusal
+      → Written out at (refusalText n refusal) k out′ × (k ≤ at + 48)
+      → (held (record { card = added .card; phase = Ended; lines = n; asked = p .asked }) arena ≡ imageHeld p t)
+      × (Written out at (imageText (oneMore (p .lines)) (t .added .answer)) k out′ × (k ≤ at + 48))
+  image-refused d w = rw (answer-of d, e, a, ← l) (refl, w)
+
+-- A request takes the next ordinal.
+pub request-held
+    : (p : Replay) (arena work line : List ℕ) {n : ℕ} {arena′ : List ℕ} → n ≡ oneMore (p .asked) → length work ≡ lentBytes
+    → arena′ ≡ lineServed (p .card) arena (length work) line .arena
+    → held (record { card = p .card; phase = Requests; lines = p .lines; asked = n }) arena′ ≡ requestHeld (held p arena) line
+request-held p arena work line e h a = rw (e, a, h)
+
+module _ (s : Held) (line : List ℕ) {r : Held} {out out′ : List ℕ} {at k : ℕ} where
+  -- A line that is taken for an image line.
+  pub image-taken
+      : {first : Bool} (work bytes : List ℕ) → kindOf (s .replay .phase) line ≡ kinds.Image first
+      → let x = imageStep first (s .replay .card) (s .arena) line in
+      (r ≡ imageHeld (s .replay) x) × (Written out at (imageText (oneMore (s .replay .lines)) (x .added .answer)) k out′ × (k ≤ at + 48))
+      → (r ≡ lineHeld s line) × ((Written out at (lineText s line) k out′ × (k ≤ at + mostPrinted))
+      × ((work ≡ workHeld s work line) × (bytes ≡ bytesHeld s bytes line)))
+  unfolding lineHeld lineText workHeld bytesHeld
+  image-taken work bytes e w = rw e (w .0, ((w .1 .0, omega (arith, w .1 .1)), (refl, refl)))
+
+  -- For a request.
+  pub request-taken
+      : (work bytes : List ℕ) {work′ bytes′ : List ℕ} → kindOf (s .replay .phase) line ≡ kinds.Request
+      → (r ≡ requestHeld s line)
+      × ((Written out at (requestText (s .replay .card) (s .arena) lentBytes line (oneMore (s .replay .asked))) k out′ × (k ≤ at + mostPrinted))
+      × ((work′ ≡ workAfter (s .replay .card) (s .arena) work line) × (bytes′ ≡ bytesAfter bytes line)))
+      → (r ≡ lineHeld s line) × ((Written out at (lineText s line) k out′ × (k ≤ at + mostPrinted))
+      × ((work′ ≡ workHeld s work line) × (bytes′ ≡ bytesHeld s bytes line)))
+  unfolding lineHeld lineText workHeld bytesHeld
+  request-taken work bytes e w = rw e w
+
+-- For nothing.
+pub nothing-taken
+    : (s : Held) (line work bytes out : List ℕ) (at : ℕ) → kindOf (s .replay .phase) line ≡ kinds.Nothing
+    → (s ≡ lineHeld s line) × ((Written out at (lineText s line) at out × (at ≤ at + mostPrinted))
+    × ((work ≡ workHeld s work line) × (bytes ≡ bytesHeld s bytes line)))
+unfolding lineHeld lineText workHeld bytesHeld
+nothing-taken s line work bytes out at e = rw e (refl, ((written-none out at, omega arith), (refl, refl)))

@@ -1,0 +1,2 @@
+-- Where replay stops nothing happens any more.
+mod Stops

@@ -1,0 +1,20 @@
+-- `replay_shell::replay` meets its contract: the arena that it lends is zero. Assumes nothing.
+use borrow.Author.Needs.{needs}
+use Rattle.replay_shell.proofs.replay.Statement.{statement}
+use Rattle.replay_shell.proofs.replay.Tie as tie
+
+returns : tie.Need-returns
+returns c = c .before .before .before .before .before .before .run .ensures
+
+pub replay-spec : {M : Type 1} → statement M
+replay-spec =
+    tie.close
+    (tie.spec
+    (λ c. search needs)
+    (λ c. search needs)
+    (λ c. search needs)
+    (λ c. search needs)
+    (λ c. search needs)
+    (λ c. search needs)
+    (λ c κs. search needs)
+    returns)
