@@ -44,14 +44,19 @@ module _ {M : Type 1} (𝓤 : URA M) where
   pub of-three : {φ φ′ φ″ ψ ψ′ ψ″ χ : Type 0} → (φ → φ′ → φ″ → ψ → ψ′ → ψ″ → χ) → ent 𝓤 (sep 𝓤 (three φ φ′ φ″) (three ψ ψ′ ψ″)) (fact 𝓤 χ)
   of-three {φ′ = φ′} {φ″ = φ″} {ψ′ = ψ′} {ψ″ = ψ″} f = more (two φ′ φ″) (two ψ′ ψ″) (λ x y. of-two (λ x′ x″ y′ y″. f x x′ x″ y y′ y″))
 
+  -- of four
+  pub of-facts
+      : {φ φ′ φ″ φ‴ ψ ψ′ ψ″ ψ‴ χ : Type 0} → (φ → φ′ → φ″ → φ‴ → ψ → ψ′ → ψ″ → ψ‴ → χ)
+      → ent 𝓤 (sep 𝓤 (four φ φ′ φ″ φ‴) (four ψ ψ′ ψ″ ψ‴)) (fact 𝓤 χ)
+  of-facts {φ′ = φ′} {φ″} {φ‴} {ψ′ = ψ′} {ψ″} {ψ‴} f =
+      more (three φ′ φ″ φ‴) (three ψ′ ψ″ ψ‴) (λ x y. of-three (λ x′ x″ x‴ y′ y″ y‴. f x x′ x″ x‴ y y′ y″ y‴))
+
   -- of four equations
   pub of-four
       : {X X′ X″ X‴ χ : Type 0} {d x y : X} {d′ x′ y′ : X′} {d″ x″ y″ : X″} {d‴ x‴ y‴ : X‴}
       → (x ≡ y → x′ ≡ y′ → x″ ≡ y″ → x‴ ≡ y‴ → χ)
       → ent 𝓤 (sep 𝓤 (four (x ≡ d) (x′ ≡ d′) (x″ ≡ d″) (x‴ ≡ d‴)) (four (y ≡ d) (y′ ≡ d′) (y″ ≡ d″) (y‴ ≡ d‴))) (fact 𝓤 χ)
-  of-four {d′ = d′} {x′} {y′} {d″} {x″} {y″} {d‴} {x‴} {y‴} f =
-      more (three (x′ ≡ d′) (x″ ≡ d″) (x‴ ≡ d‴)) (three (y′ ≡ d′) (y″ ≡ d″) (y‴ ≡ d‴)) (λ p q.
-      of-three (λ p′ p″ p‴ q′ q″ q‴. f (once p q) (once p′ q′) (once p″ q″) (once p‴ q‴)))
+  of-four f = of-facts (λ p p′ p″ p‴ q q′ q″ q‴. f (once p q) (once p′ q′) (once p″ q″) (once p‴ q‴))
 
   -- of five
   pub of-five

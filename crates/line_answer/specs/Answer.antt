@@ -3,12 +3,12 @@ use Prim.Native.Nat.{ℕ}
 use mathlib.Core.Bool.{cond}
 use mathlib.Core.List.{List, [], _∷_, _++_}
 use lib.Dec.{eqb}
-use Rattle.answers.specs.Refusal.{refusalNumber}
 use Rattle.text_numbers.specs.Decimal.{decText}
 use Rattle.text_numbers.specs.Hex.{hexText}
 use Rattle.request_plan.specs.declared.Reply.{Reply}
-use Rattle.request_plan.specs.declared.Reply.the-variants.{Refused, Done, ShortData, Failed}
-use Rattle.request_plan.specs.Request.{flag1, flag2}
+use Rattle.request_plan.specs.declared.Response.{Response}
+use Rattle.request_plan.specs.declared.Response.the-variants.{Pair, Refusal}
+use Rattle.request_plan.specs.Request.{responseOf}
 
 -- a field and the byte that ends it
 abbrev pub closed : ℕ → List ℕ → List ℕ
@@ -31,12 +31,13 @@ statusFields ordinal flag1 flag2 read =
 unfoldable pub refusalFields : ℕ → ℕ → List ℕ
 refusalFields ordinal number = fiveFields (decText ordinal) (33 ∷ []) (decText number) (45 ∷ []) (45 ∷ [])
 
--- a refused request is told by its number, any other by its status flags
+-- a refused request is told by its number, any other by its status pair
+abbrev pub responseFields : ℕ → Response → List ℕ → List ℕ
+responseFields ordinal (Refusal number) read = refusalFields ordinal number
+responseFields ordinal (Pair flag1 flag2) read = statusFields ordinal flag1 flag2 read
+
 abbrev pub answerFields : ℕ → Reply → List ℕ → List ℕ
-answerFields ordinal (Refused r) read = refusalFields ordinal (refusalNumber r)
-answerFields ordinal Done read = statusFields ordinal (flag1 Done) (flag2 Done) read
-answerFields ordinal ShortData read = statusFields ordinal (flag1 ShortData) (flag2 ShortData) read
-answerFields ordinal (Failed i f) read = statusFields ordinal (flag1 (Failed i f)) (flag2 (Failed i f)) read
+answerFields ordinal reply read = responseFields ordinal (responseOf reply) read
 
 -- the whole line
 abbrev pub answerText : ℕ → Reply → List ℕ → List ℕ

@@ -1,5 +1,6 @@
 // The line that answers a request.
 use request_plan::Reply;
+use request_plan::Response;
 use text_numbers::decimals;
 use text_numbers::hex;
 ghost use mathlib.Core.List.{[], _∷_};
@@ -89,17 +90,10 @@ pub fn put_fields(ordinal: u64, reply: Reply, read: &[u8], out: &mut [u8], at: u
     ensures { λ r. ⌜ Written (now (out .entry)) at (answerFields ordinal reply (now (read .entry))) r (now (out .exit)) ⌝ }
     ensures { λ r. ⌜ r ≤ at + length (now (read .entry)) + length (now (read .entry)) + 63 ⌝ }
 {
-    if let Reply::Refused(refusal) = reply {
-        return put_refusal(ordinal, refusal.number(), out, at);
+    match reply.response() {
+        Response::Refusal(number) => put_refusal(ordinal, number, out, at),
+        Response::Pair { flag1, flag2 } => put_status(ordinal, flag1, flag2, read, out, at),
     }
-    put_status(
-        ordinal,
-        reply.status_flag1(),
-        reply.status_flag2(),
-        read,
-        out,
-        at,
-    )
 }
 
 // Puts the line that answers a request into `out` from `at` on, and answers the place after it.

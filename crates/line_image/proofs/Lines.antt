@@ -14,9 +14,11 @@ use Rattle.text_numbers.specs.declared.decimals.Number.{Number}
 use Rattle.text_numbers.specs.declared.decimals.Number.the-variants as numbers
 use Rattle.text_numbers.specs.declared.decimals.Signed.{Signed}
 use Rattle.text_numbers.specs.declared.decimals.Signed.the-variants as signs
+use Rattle.line_image.specs.declared.line.Heading.{Heading}
+use Rattle.line_image.specs.declared.line.Heading.the-variants as headings
 use Rattle.line_image.specs.declared.line.Line.{Line}
 use Rattle.line_image.specs.declared.line.Line.the-variants.{Malformed, Card, Area, Service, Limit, Block}
-use Rattle.line_image.specs.Line.{codeAt, numberAt, boundAt, withCode, withNumber, withBound, cardLine, areaLine, serviceLine, limitLine, hex32, blockLine, cardWord, areaWord, svcWord, limWord, blkWord, form, firstLine, laterLine, imageLine}
+use Rattle.line_image.specs.Line.{codeAt, numberAt, boundAt, withCode, withNumber, withBound, headingOf, withHeading, cardLine, areaLine, serviceLine, limitLine, hex32, blockLine, cardWord, areaWord, svcWord, limWord, blkWord, form, firstLine, laterLine, imageLine}
 
 -- a line that names a block has passed a test
 abbrev Passed : Bool → Line → Type 0
@@ -35,6 +37,10 @@ module _ (b : Bool) where
   on-number : (x : Number) (more : ℕ → Line) → ((n : ℕ) → Passed b (more n)) → Passed b (withNumber x more)
   on-number (numbers.Is n) more p = p n
   on-number numbers.Bad more p = tt
+
+  on-heading : (x : Heading) (more : ℕ → ℕ → ℕ → Line) → ((d c v : ℕ) → Passed b (more d c v)) → Passed b (withHeading x more)
+  on-heading (headings.Is d c v) more p = p d c v
+  on-heading headings.Malformed more p = tt
 
   on-bound : (x : Signed) (more : ℤ → Line) → ((z : ℤ) → Passed b (more z)) → Passed b (withBound x more)
   on-bound (signs.Is z) more p = p z
@@ -56,14 +62,11 @@ module _ (b : Bool) (fs : List (List ℕ)) where
 
   on-area : Passed b (areaLine fs)
   unfolding areaLine
-  on-area =
-      on-number b (numberAt fs 1 4294967295) _ (λ d. on-code b (codeAt fs 2) _ (λ c. on-code b (codeAt fs 3) _ (λ e. on-code b (codeAt fs 4) _ (λ v. tt))))
+  on-area = on-heading b (headingOf fs) _ (λ d c v. on-code b (codeAt fs 3) _ (λ e. tt))
 
   on-service : Passed b (serviceLine fs)
   unfolding serviceLine
-  on-service =
-      on-number b (numberAt fs 1 4294967295) _
-      (λ d. on-code b (codeAt fs 2) _ (λ c. on-number b (numberAt fs 3 4294967295) _ (λ n. on-code b (codeAt fs 4) _ (λ v. tt))))
+  on-service = on-heading b (headingOf fs) _ (λ d c v. on-number b (numberAt fs 3 4294967295) _ (λ n. tt))
 
   on-limit : Passed b (limitLine fs)
   unfolding limitLine

@@ -16,6 +16,8 @@ use Rattle.text_numbers.specs.declared.decimals.Signed.the-variants as signs
 use Rattle.text_numbers.specs.Hex.{hexField}
 use Rattle.text_numbers.specs.Codes.{hex16}
 use Rattle.text_numbers.specs.Decimal.{decimal, signed}
+use Rattle.line_image.specs.declared.line.Heading.{Heading}
+use Rattle.line_image.specs.declared.line.Heading.the-variants as headings
 use Rattle.line_image.specs.declared.line.Line.{Line}
 use Rattle.line_image.specs.declared.line.Line.the-variants.{Malformed, Card, Area, Service, Limit, Block}
 
@@ -49,23 +51,33 @@ cardLine fs =
     withCode (codeAt fs 2) (λ version.
     Card system version))
 
+-- depth, code and version, which `area` and `svc` have in fields 1, 2 and 4
+abbrev pub headingBy : Number → Code → Code → Heading
+headingBy (numbers.Is depth) (codes.Is code) (codes.Is version) = headings.Is depth code version
+headingBy (numbers.Is depth) (codes.Is code) codes.Bad = headings.Malformed
+headingBy (numbers.Is depth) codes.Bad version = headings.Malformed
+headingBy numbers.Bad code version = headings.Malformed
+
+unfoldable pub headingOf : List (List ℕ) → Heading
+headingOf fs = headingBy (numberAt fs 1 4294967295) (codeAt fs 2) (codeAt fs 4)
+
+abbrev pub withHeading : Heading → (ℕ → ℕ → ℕ → Line) → Line
+withHeading (headings.Is depth code version) more = more depth code version
+withHeading headings.Malformed more = Malformed
+
 -- `area` depth code end version
 unfoldable pub areaLine : List (List ℕ) → Line
 areaLine fs =
-    withNumber (numberAt fs 1 4294967295) (λ depth.
-    withCode (codeAt fs 2) (λ code.
+    withHeading (headingOf fs) (λ depth code version.
     withCode (codeAt fs 3) (λ end.
-    withCode (codeAt fs 4) (λ version.
-    Area depth code end version))))
+    Area depth code end version))
 
 -- `svc` depth code blocks version
 unfoldable pub serviceLine : List (List ℕ) → Line
 serviceLine fs =
-    withNumber (numberAt fs 1 4294967295) (λ depth.
-    withCode (codeAt fs 2) (λ code.
+    withHeading (headingOf fs) (λ depth code version.
     withNumber (numberAt fs 3 4294967295) (λ blocks.
-    withCode (codeAt fs 4) (λ version.
-    Service depth code blocks version))))
+    Service depth code blocks version))
 
 -- `lim` upper lower generation
 unfoldable pub limitLine : List (List ℕ) → Line

@@ -15,7 +15,7 @@ ghost use Rattle.request_block.specs.Block.{blockJudged, arenaSet};
 ghost use Rattle.line_image.specs.Line.{hex32};
 ghost use Rattle.line_image.specs.Image.{imageStep, answered};
 
-// The card that an answer leaves as it was.
+// Hands back a card, as it is, with an answer.
 fn keep(card: Card, answer: Answer) -> Added
     ensures { λ r. ⌜ r ≡ answered card answer ⌝ }
 {
@@ -33,7 +33,7 @@ fn set_hex(card: Card, arena: &mut [u8], code: u16, number: u32, digits: &[u8]) 
     set_block(card, arena, code, number, block)
 }
 
-// Carries out an image line, the first of the image or a later one.
+// Carries out an image line, the first of the image or a later one, and hands the card back with the answer.
 pub fn image_line(card: Card, first: bool, arena: &mut [u8], line: &[u8]) -> Added
     ensures { λ r. ⌜ r ≡ imageStep first card (now (arena .entry)) (now (line .entry)) .added ⌝ }
     ensures { λ _. ⌜ now (arena .exit) ≡ imageStep first card (now (arena .entry)) (now (line .entry)) .arena ⌝ }

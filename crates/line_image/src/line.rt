@@ -9,7 +9,10 @@ use text_numbers::decimals::read_signed;
 use text_numbers::hex::is_hex_field;
 ghost use mathlib.Core.Path.{_≡_};
 ghost use Rattle.text_fields.specs.Field.{split};
-ghost use Rattle.line_image.specs.Line.{codeAt, numberAt, boundAt, hex32, form, cardLine, areaLine, serviceLine, limitLine, blockLine, firstLine, laterLine, imageLine};
+ghost use Rattle.line_image.specs.Line.{codeAt, numberAt, boundAt, hex32, form, cardLine, headingOf, areaLine, serviceLine, limitLine, blockLine, firstLine, laterLine, imageLine};
+
+// A line's most bytes before its LF.
+const LONGEST_LINE: usize = 32768;
 
 // What an image line says, or that it is malformed. A block's bytes stay in the line's last field.
 pub enum Line {
@@ -41,28 +44,28 @@ pub enum Line {
     },
 }
 
-// Field k as a code or a version.
+// Reads field k as a code or a version.
 fn code_at(line: &[u8], k: usize) -> Code
     ensures { λ r. ⌜ r ≡ codeAt (split 9 (now (line .entry))) k ⌝ }
 {
     read_hex16(text_fields::field(line, k, b'\t'))
 }
 
-// Field k as a decimal that is at most `most`.
+// Reads field k as a decimal that is at most `most`.
 fn number_at(line: &[u8], k: usize, most: u32) -> Number
     ensures { λ r. ⌜ r ≡ numberAt (split 9 (now (line .entry))) k most ⌝ }
 {
     read_dec(text_fields::field(line, k, b'\t'), most)
 }
 
-// Field k as a bound.
+// Reads field k as a bound.
 fn bound_at(line: &[u8], k: usize) -> Signed
     ensures { λ r. ⌜ r ≡ boundAt (split 9 (now (line .entry))) k ⌝ }
 {
     read_signed(text_fields::field(line, k, b'\t'))
 }
 
-// A line `card`: system, version.
+// Reads a line `card`: system, version.
 fn card_line(line: &[u8]) -> Line
     ensures { λ r. ⌜ r ≡ cardLine (split 9 (now (line .entry))) ⌝ }
 {
@@ -75,20 +78,45 @@ fn card_line(line: &[u8]) -> Line
     Line::Card { system, version }
 }
 
-// A line `area`: depth, code, end, version.
+// What `area` and `svc` have in common: depth, code and version, in fields 1, 2 and 4.
+enum Heading {
+    Malformed,
+    Is { depth: u32, code: u16, version: u16 },
+}
+
+// Reads what `area` and `svc` have in common.
+fn heading_of(line: &[u8]) -> Heading
+    ensures { λ r. ⌜ r ≡ headingOf (split 9 (now (line .entry))) ⌝ }
+{
+    let Number::Is(depth) = number_at(line, 1, u32::MAX) else {
+        return Heading::Malformed;
+    };
+    let Code::Is(code) = code_at(line, 2) else {
+        return Heading::Malformed;
+    };
+    let Code::Is(version) = code_at(line, 4) else {
+        return Heading::Malformed;
+    };
+    Heading::Is {
+        depth,
+        code,
+        version,
+    }
+}
+
+// Reads a line `area`: depth, code, end, version.
 fn area_line(line: &[u8]) -> Line
     ensures { λ r. ⌜ r ≡ areaLine (split 9 (now (line .entry))) ⌝ }
 {
-    let Number::Is(depth) = number_at(line, 1, u32::MAX) else {
-        return Line::Malformed;
-    };
-    let Code::Is(code) = code_at(line, 2) else {
+    let Heading::Is {
+        depth,
+        code,
+        version,
+    } = heading_of(line)
+    else {
         return Line::Malformed;
     };
     let Code::Is(end) = code_at(line, 3) else {
-        return Line::Malformed;
-    };
-    let Code::Is(version) = code_at(line, 4) else {
         return Line::Malformed;
     };
     Line::Area {
@@ -99,20 +127,19 @@ fn area_line(line: &[u8]) -> Line
     }
 }
 
-// A line `svc`: depth, code, blocks, version.
+// Reads a line `svc`: depth, code, blocks, version.
 fn service_line(line: &[u8]) -> Line
     ensures { λ r. ⌜ r ≡ serviceLine (split 9 (now (line .entry))) ⌝ }
 {
-    let Number::Is(depth) = number_at(line, 1, u32::MAX) else {
-        return Line::Malformed;
-    };
-    let Code::Is(code) = code_at(line, 2) else {
+    let Heading::Is {
+        depth,
+        code,
+        version,
+    } = heading_of(line)
+    else {
         return Line::Malformed;
     };
     let Number::Is(blocks) = number_at(line, 3, u32::MAX) else {
-        return Line::Malformed;
-    };
-    let Code::Is(version) = code_at(line, 4) else {
         return Line::Malformed;
     };
     Line::Service {
@@ -123,7 +150,7 @@ fn service_line(line: &[u8]) -> Line
     }
 }
 
-// A line `lim`: upper, lower, generation.
+// Reads a line `lim`: upper, lower, generation.
 fn limit_line(line: &[u8]) -> Line
     ensures { λ r. ⌜ r ≡ limitLine (split 9 (now (line .entry))) ⌝ }
 {
@@ -153,7 +180,7 @@ fn is_hex32(s: &[u8]) -> bool
     is_hex_field(s)
 }
 
-// A line `blk`: code, number, 32 hex digits.
+// Reads a line `blk`: code, number, 32 hex digits.
 fn block_line(line: &[u8]) -> Line
     ensures { λ r. ⌜ r ≡ blockLine (split 9 (now (line .entry))) ⌝ }
 {
@@ -179,7 +206,7 @@ fn is_form(line: &[u8], word: &[u8], count: usize) -> bool
     text_fields::field_count(line, b'\t') == count
 }
 
-// Line 1, which must be `card`.
+// Reads line 1, which must be `card`.
 fn first_line(line: &[u8]) -> Line
     ensures { λ r. ⌜ r ≡ firstLine (split 9 (now (line .entry))) ⌝ }
 {
@@ -189,7 +216,7 @@ fn first_line(line: &[u8]) -> Line
     Line::Malformed
 }
 
-// Any other line, which must not be `card`.
+// Reads any other line, which must not be `card`.
 fn later_line(line: &[u8]) -> Line
     ensures { λ r. ⌜ r ≡ laterLine (split 9 (now (line .entry))) ⌝ }
 {
@@ -208,11 +235,11 @@ fn later_line(line: &[u8]) -> Line
     Line::Malformed
 }
 
-// What an image line says.
+// Reads an image line, the first or a later one: one over the longest size is malformed, whatever it says.
 pub fn read_line(line: &[u8], first: bool) -> Line
     ensures { λ r. ⌜ r ≡ imageLine first (now (line .entry)) ⌝ }
 {
-    if 32768 < line.len() {
+    if LONGEST_LINE < line.len() {
         return Line::Malformed;
     }
     if first {

@@ -8,6 +8,9 @@ ghost use Rattle.text_numbers.specs.Hex.{hexField};
 ghost use Rattle.text_numbers.specs.Codes.{codesField};
 ghost use Rattle.line_request.specs.Ask.{fieldIn, isLetter, isEither, requestLine, shaped, isWrite, countIn, askOf};
 
+// A line's most bytes before its LF.
+const LONGEST_LINE: usize = 32768;
+
 // What a line asks: a read or a write, open or in a session, and how many elements it has. Codes, list and data stand in the line.
 pub enum Ask {
     Malformed,
@@ -26,7 +29,7 @@ fn is_letter(line: &[u8], k: usize, letter: u8) -> bool
     s[0] == letter
 }
 
-// Whether it is one of two letters.
+// Whether field k of a line is one of two letters.
 fn is_either(line: &[u8], k: usize, one: u8, other: u8) -> bool
     ensures { λ r. ⌜ r ≡ isEither one other (fieldIn (now (line .entry)) k) ⌝ }
 {
@@ -50,21 +53,21 @@ fn has_hex(line: &[u8], k: usize) -> bool
     hex::is_hex_field(text_fields::field(line, k, b'\t'))
 }
 
-// Whether a line has codes where a request has them.
+// Whether field 2 of a line is codes, several of them joined.
 fn has_codes(line: &[u8]) -> bool
     ensures { λ r. ⌜ r ≡ codesField (fieldIn (now (line .entry)) 2) ⌝ }
 {
     codes::is_codes(text_fields::field(line, 2, b'\t'))
 }
 
-// How many elements a line's list has.
+// Reads how many elements a line's list has, from field 3.
 fn count_in(line: &[u8]) -> Number
     ensures { λ r. ⌜ r ≡ countIn (now (line .entry)) ⌝ }
 {
     decimals::read_dec(text_fields::field(line, 3, b'\t'), u32::MAX)
 }
 
-// Whether a line has a letter's fields: so many, and kind, codes and list are well formed.
+// Whether a line begins with this letter and has `count` fields, and kind, codes and list are well formed.
 fn is_shaped(line: &[u8], letter: u8, count: usize) -> bool
     ensures { λ r. ⌜ r ≡ shaped letter count (now (line .entry)) ⌝ }
 {
@@ -93,11 +96,11 @@ fn is_write(line: &[u8]) -> bool
     has_hex(line, 5)
 }
 
-// What a line asks.
+// Reads what a line asks: one over the longest size is malformed, whatever it says.
 pub fn ask_of(line: &[u8]) -> Ask
     ensures { λ r. ⌜ r ≡ askOf (now (line .entry)) ⌝ }
 {
-    if 32768 < line.len() {
+    if LONGEST_LINE < line.len() {
         return Ask::Malformed;
     }
     let Number::Is(count) = count_in(line) else {

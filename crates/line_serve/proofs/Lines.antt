@@ -15,14 +15,14 @@ use Rattle.card_build.specs.declared.card.Card.{Card}
 use Rattle.request_plan.specs.declared.Reply.{Reply}
 use Rattle.request_plan.specs.declared.Reply.the-variants.{Refused}
 use Rattle.request_plan.specs.Request.{readRequest, writeRequest}
-use Rattle.request_plan.specs.Serve.{Served, serve, outputAfter, stagingBy}
+use Rattle.request_plan.specs.Serve.{Served, serve, readLong, outputAfter, stagingBy}
 use Rattle.request_plan.proofs.ReadLaws.{read-said, write-read}
 use Rattle.request_plan.proofs.Codes.{cut}
 use Rattle.line_request.specs.declared.Ask.{Ask}
 use Rattle.line_request.specs.declared.Ask.the-variants.{Malformed, Read, Write}
 use Rattle.line_request.specs.Ask.{fieldIn, askOf}
 use Rattle.line_request.proofs.Asking.{Fields}
-use Rattle.line_serve.specs.Line.{codesIn, listIn, dataIn, bytesRead, outcomeOf, askServed, lineServed, workBy, workAfter, spelledBy, bytesAfter}
+use Rattle.line_serve.specs.Line.{codesIn, listIn, dataIn, outcomeOf, askServed, lineServed, workBy, workAfter, spelledBy, bytesAfter}
 use Rattle.line_serve.proofs.Parts.{front-put, both, first, second}
 
 module _ {line : List ℕ} (f : Fields line) {room : ℕ} (h : 16384 ≤ room) where
@@ -132,27 +132,42 @@ module _ (card : Card) (arena work line : List ℕ) where
     unfolding lineServed workAfter
     shown = shown-by (askOf line)
 
-    -- how many they are, by what the line asks
-    count-by
-        : (k : Ask) → bytesRead (askServed card arena (length work) line k .reply) k ≡ length (askServed card arena (length work) line k .read)
-    count-by Malformed = refl
-    count-by (Read «open» count) = sym (read-said card arena «open» (codesIn line) count (listIn line) (length work) h .long)
-    count-by (Write «open» count) =
-        sym (ap length (write-read card arena «open» (codesIn line) count (listIn line) (dataIn line) (length work)))
-
-    -- of any line
-    pub read-count
-        : {k : Ask} {x : Reply} → k ≡ askOf line → x ≡ lineServed card arena (length work) line .reply
-        → bytesRead x k ≡ length (lineServed card arena (length work) line .read)
-    unfolding lineServed
-    read-count e r = rw (e, r) (count-by (askOf line))
-
     -- as they are lent
     pub read-part
         : {n : ℕ} {after : List ℕ} → n ≡ length (lineServed card arena (length work) line .read) → after ≡ workAfter card arena work line
         → take (n - 0) (drop 0 after) ≡ lineServed card arena (length work) line .read
     read-part {n} e p = rw (sub-zero n, e, p) (shown .front)
 
--- What is told of a line.
-pub outcome-line : (s : Served) {x : Reply} {n : ℕ} → x ≡ s .reply → n ≡ length (s .read) → record { reply = x; read = n } ≡ outcomeOf s
+-- what is told of a line
+outcome-line : (s : Served) {x : Reply} {n : ℕ} → x ≡ s .reply → n ≡ length (s .read) → record { reply = x; read = n } ≡ outcomeOf s
 outcome-line s e f = λ i. record { reply = e i; read = f i }
+
+module _ (card : Card) (arena line : List ℕ) (room : ℕ) where
+  -- What is told of a malformed line.
+  pub malformed-outcome : askOf line ≡ Malformed → record { reply = Refused MalformedRequest; read = 0 } ≡ outcomeOf (lineServed card arena room line)
+  unfolding lineServed
+  malformed-outcome k = rw k refl
+
+  module _ {«open» : Bool} {count : ℕ} where
+    -- how many bytes a read puts out
+    read-count : length (card .nodes) ≡ 64 → askOf line ≡ Read «open» count
+        → readLong (lineServed card arena room line .reply) count ≡ length (lineServed card arena room line .read)
+    unfolding lineServed
+    read-count h k = rw k (sym (read-said card arena «open» (codesIn line) count (listIn line) room h .long))
+
+    -- Of a read.
+    pub read-outcome
+        : length (card .nodes) ≡ 64 → askOf line ≡ Read «open» count → {x : Reply} {n : ℕ} → x ≡ lineServed card arena room line .reply → n ≡ readLong x count
+        → record { reply = x; read = n } ≡ outcomeOf (lineServed card arena room line)
+    read-outcome h k e f = outcome-line (lineServed card arena room line) e (f ∙ ap (λ (y : Reply). readLong y count) e ∙ read-count h k)
+
+    -- a write puts out none
+    write-count : askOf line ≡ Write «open» count → 0 ≡ length (lineServed card arena room line .read)
+    unfolding lineServed
+    write-count k = rw k (sym (ap length (write-read card arena «open» (codesIn line) count (listIn line) (dataIn line) room)))
+
+    -- Of a write.
+    pub write-outcome
+        : askOf line ≡ Write «open» count → {x : Reply} → x ≡ lineServed card arena room line .reply
+        → record { reply = x; read = 0 } ≡ outcomeOf (lineServed card arena room line)
+    write-outcome k e = outcome-line (lineServed card arena room line) e (write-count k)

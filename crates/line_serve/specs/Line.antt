@@ -7,10 +7,9 @@ use Rattle.byte_parts.specs.Part.{put}
 use Rattle.text_numbers.specs.Hex.{unhex}
 use Rattle.text_numbers.specs.Codes.{codesOf}
 use Rattle.card_build.specs.declared.card.Card.{Card}
-use Rattle.request_plan.specs.declared.Reply.{Reply}
 use Rattle.request_plan.specs.declared.Reply.the-variants.{Refused}
 use Rattle.request_plan.specs.Request.{readRequest, writeRequest}
-use Rattle.request_plan.specs.Serve.{Served, answeredOnly, serve, lengthRead, outputAfter, stagingBy}
+use Rattle.request_plan.specs.Serve.{Served, answeredOnly, serve, outputAfter, stagingBy}
 use Rattle.line_request.specs.declared.Ask.{Ask}
 use Rattle.line_request.specs.declared.Ask.the-variants.{Malformed, Read, Write}
 use Rattle.line_request.specs.Ask.{fieldIn, askOf}
@@ -26,12 +25,6 @@ listIn line = unhex (fieldIn line 4)
 abbrev pub dataIn : List ℕ → List ℕ
 dataIn line = unhex (fieldIn line 5)
 
--- how many bytes what is asked puts out
-abbrev pub bytesRead : Reply → Ask → ℕ
-bytesRead reply Malformed = 0
-bytesRead reply (Read «open» count) = lengthRead reply count
-bytesRead reply (Write «open» count) = 0
-
 -- malformed is refusal 6, anything else a whole request on a buffer of `room` bytes
 abbrev pub askServed : Card → List ℕ → ℕ → List ℕ → Ask → Served
 askServed card arena room line Malformed = answeredOnly arena (Refused MalformedRequest)
@@ -40,12 +33,12 @@ askServed card arena room line (Read «open» count) =
 askServed card arena room line (Write «open» count) =
     serve card arena (writeRequest «open» (codesIn line) count (listIn line) (dataIn line) room)
 
+unfoldable pub lineServed : Card → List ℕ → ℕ → List ℕ → Served
+lineServed card arena room line = askServed card arena room line (askOf line)
+
 -- what is told of it: the reply, and how many bytes were read
 abbrev pub outcomeOf : Served → Outcome
 outcomeOf served = record { reply = served .reply; read = length (served .read) }
-
-unfoldable pub lineServed : Card → List ℕ → ℕ → List ℕ → Served
-lineServed card arena room line = askServed card arena room line (askOf line)
 
 -- the buffer is the output of a read and the staging of a write
 abbrev pub workBy : ℕ → List ℕ → Served → Ask → List ℕ

@@ -18,7 +18,7 @@ ghost use Rattle.request_plan.specs.Serve.{lengthRead};
 ghost use Rattle.line_request.specs.declared.Ask.the-variants.{Read, Write};
 ghost use Rattle.line_request.specs.Ask.{fieldIn, askOf};
 ghost use Rattle.text_stream.specs.Stream.{Written};
-ghost use Rattle.line_serve.specs.Line.{codesIn, bytesRead, outcomeOf, lineServed, workAfter, bytesAfter};
+ghost use Rattle.line_serve.specs.Line.{codesIn, outcomeOf, lineServed, workAfter, bytesAfter};
 ghost use Rattle.line_serve.specs.Text.{mostSpelled, mostPrinted, requestText};
 
 // Puts the codes of a line to the front of `codes`, as many as it holds, and answers how many.
@@ -104,39 +104,6 @@ fn read_long(reply: Reply, count: u32) -> usize
     }
 }
 
-// How many bytes what is asked has put out.
-fn bytes_read(ask: Ask, reply: Reply) -> usize
-    ensures { λ r. ⌜ r ≡ bytesRead reply ask ⌝ }
-{
-    match ask {
-        Ask::Malformed => 0,
-        Ask::Read { open: _, count } => read_long(reply, count),
-        Ask::Write { open: _, count: _ } => 0,
-    }
-}
-
-// Carries out what a line asks, and answers the reply.
-fn carry_out(
-    card: Card,
-    arena: &mut [u8],
-    work: &mut [u8],
-    bytes: &mut [u8],
-    line: &[u8],
-    ask: Ask,
-) -> Reply
-    requires { ⌜ (ask ≡ askOf (now line)) × (mostSpelled ≤ length (now bytes)) ⌝ }
-    ensures { λ r. ⌜ r ≡ lineServed card (now (arena .entry)) (length (now (work .entry))) (now (line .entry)) .reply ⌝ }
-    ensures { λ _. ⌜ now (arena .exit) ≡ lineServed card (now (arena .entry)) (length (now (work .entry))) (now (line .entry)) .arena ⌝ }
-    ensures { λ _. ⌜ now (work .exit) ≡ workAfter card (now (arena .entry)) (now (work .entry)) (now (line .entry)) ⌝ }
-    ensures { λ _. ⌜ now (bytes .exit) ≡ bytesAfter (now (bytes .entry)) (now (line .entry)) ⌝ }
-{
-    match ask {
-        Ask::Malformed => Reply::Refused(Refusal::MalformedRequest),
-        Ask::Read { open, count } => { read_asked(card, arena, work, bytes, line, open, count) }
-        Ask::Write { open, count } => { write_asked(card, arena, work, bytes, line, open, count) }
-    }
-}
-
 // What a request line came to: the reply, and how many bytes were read, which stand at the front of the buffer lent as `work`.
 pub struct Outcome {
     pub reply: Reply,
@@ -157,11 +124,22 @@ pub fn serve_line(
     ensures { λ _. ⌜ now (work .exit) ≡ workAfter card (now (arena .entry)) (now (work .entry)) (now (line .entry)) ⌝ }
     ensures { λ _. ⌜ now (bytes .exit) ≡ bytesAfter (now (bytes .entry)) (now (line .entry)) ⌝ }
 {
-    let ask = line_request::ask_of(line);
-    let reply = carry_out(card, arena, work, bytes, line, ask);
-    Outcome {
-        reply,
-        read: bytes_read(ask, reply),
+    match line_request::ask_of(line) {
+        Ask::Malformed => Outcome {
+            reply: Reply::Refused(Refusal::MalformedRequest),
+            read: 0,
+        },
+        Ask::Read { open, count } => {
+            let reply = read_asked(card, arena, work, bytes, line, open, count);
+            Outcome {
+                reply,
+                read: read_long(reply, count),
+            }
+        }
+        Ask::Write { open, count } => {
+            let reply = write_asked(card, arena, work, bytes, line, open, count);
+            Outcome { reply, read: 0 }
+        }
     }
 }
 

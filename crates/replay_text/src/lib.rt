@@ -1,4 +1,5 @@
 // Replay, chunk by chunk: the lines of a chunk, and the end of a text.
+use replay_line::Taken;
 use replay_state::Replay;
 use text_feed::Place;
 ghost use mathlib.Core.Path.{_≡_};
@@ -38,32 +39,39 @@ pub fn step(
     ensures { λ r. ⌜ Stepped replayMachine (take (length (now (line .entry)))) mostPrinted (mid replay (now (arena .entry)) kept (now (line .entry))) (now (chunk .entry)) from (now (out .entry)) (mid (r .replay) (now (arena .exit)) (r .len) (now (line .exit))) (r .at) (r .written) (now (out .exit)) ⌝ }
     ensures { λ r. ⌜ r .len ≤ length (now (line .entry)) ⌝ }
 {
-    let mut after = replay;
+    let mut taken = Taken { replay, at: 0 };
     let mut at = from;
     let mut len = kept;
-    let mut written = 0;
     loop {
         let place = text_feed::feed(Place { at, len, whole: 0 }, chunk, line);
         at = place.at;
         len = place.len;
         if place.whole < 1 {
+            let after = taken.replay;
             return Reached {
                 replay: after,
                 at,
                 len,
-                written,
+                written: taken.at,
             };
         }
-        let taken = replay_line::line(after, arena, work, bytes, &line[0..len], out, written);
-        after = taken.replay;
-        written = taken.at;
+        taken = replay_line::line(
+            taken.replay,
+            arena,
+            work,
+            bytes,
+            &line[0..len],
+            out,
+            taken.at,
+        );
         len = 0;
-        if out.len() - written < MOST_PRINTED {
+        if out.len() - taken.at < MOST_PRINTED {
+            let after = taken.replay;
             return Reached {
                 replay: after,
                 at,
                 len,
-                written,
+                written: taken.at,
             };
         }
     }

@@ -6,8 +6,11 @@ ghost use Rattle.text_shell.specs.Flow.{startOf, stageOf, readOf, wroteO
 
 // Stages: bytes may come, the text has ended, a read failed, a write failed, all is printed.
 const READING: u64 = 0;
+
 const ENDED: u64 = 1;
+
 const UNREAD: u64 = 2;
+
 const UNWRITTEN: u64 = 3;
 
 // A program between two calls: how many bytes are kept of the line at hand, how many the chunk has and how many of them are taken, how many

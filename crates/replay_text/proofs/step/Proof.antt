@@ -14,20 +14,20 @@ use Rattle.replay_text.proofs.step.Statement.{statement}
 use Rattle.replay_text.proofs.step.Tie as tie
 
 abbrev Inv-loop : tie.InvT-loop
-Inv-loop arena₀ work₀ bytes₀ kept chunk from line₀ out₀ after₀ at₀ len₀ written₀ arena work bytes line out after at len written =
-    Stepping replayMachine (length line₀) mostPrinted (mid after₀ arena₀ kept line₀) chunk from out₀ at (mid after arena len line) written out
+Inv-loop arena₀ work₀ bytes₀ kept chunk from line₀ out₀ taken₀ at₀ len₀ arena work bytes line out taken at len =
+    Stepping replayMachine (length line₀) mostPrinted (mid (taken₀ .replay) arena₀ kept line₀) chunk from out₀ at (mid (taken .replay) arena len line) (taken .at) out
     × (len ≤ length line) × (length line ≡ length line₀) × (length out ≡ length out₀)
     × (length work ≡ length work₀) × (length bytes ≡ length bytes₀) × (length arena ≡ length arena₀)
 
 abbrev μ-loop : tie.MeasureT-loop
-μ-loop arena₀ work₀ bytes₀ kept chunk from line₀ out₀ after₀ at₀ len₀ written₀ arena work bytes line out after at len written = length chunk - at
+μ-loop arena₀ work₀ bytes₀ kept chunk from line₀ out₀ taken₀ at₀ len₀ arena work bytes line out taken at len = length chunk - at
 
 -- the line's buffer once it is filled
 line-fed
     : (d : tie.After-feed Inv-loop μ-loop) →
     let l = d .before .before in
     let a = l .before .before .before .before .before .before .before .args in
-    LineFed replayMachine (length (now (a .line))) mostPrinted (mid (a .replay) (now (a .arena)) (a .kept) (now (a .line))) (now (a .chunk)) (a .from) (now (a .out)) (l .loop .at) (l .loop .written) (held (l .loop .after) (l .loop .arena)) (l .loop .len) (l .loop .line) (l .loop .out) (d .feed .result) (d .feed .last .1 .1 .0)
+    LineFed replayMachine (length (now (a .line))) mostPrinted (mid (a .replay) (now (a .arena)) (a .kept) (now (a .line))) (now (a .chunk)) (a .from) (now (a .out)) (l .loop .at) (l .loop .taken .at) (held (l .loop .taken .replay) (l .loop .arena)) (l .loop .len) (l .loop .line) (l .loop .out) (d .feed .result) (d .feed .last .1 .1 .0)
 line-fed d =
     let l = d .before .before in
     record {
@@ -55,8 +55,8 @@ loop-holds c =
 
 returns : tie.Need-returns Inv-loop μ-loop
 returns c =
-    let d = c .before .before .before .before in
-    (step-all (line-fed d) (c .if1 .taken), omega (arith, line-len (line-fed d), d .before .before .loop .inv .2))
+    let d = c .before .before .before .before .before in
+    (step-all (line-fed d) (c .before .if1 .taken), omega (arith, line-len (line-fed d), d .before .before .loop .inv .2))
 
 part-line-end : tie.Need-part-line-end Inv-loop μ-loop
 part-line-end c =
@@ -77,46 +77,46 @@ sub-if2 c =
 
 same-length-6 : tie.Need-same-length-6 Inv-loop μ-loop
 same-length-6 c =
-    let n = c .before .before .before .before .before .before .before .before .before .before in
+    let n = c .before .before .before .before .before .before .before .before .before .before .before in
     let d = n .before .before .before .before .before .before .before .before .before .before .before in
     let i = d .before .before .loop .inv in
     omega (arith, n .line3 .kept, i .6)
 
 same-length-7 : tie.Need-same-length-7 Inv-loop μ-loop
 same-length-7 c =
-    let n = c .before .before .before .before .before .before .before .before .before .before in
+    let n = c .before .before .before .before .before .before .before .before .before .before .before in
     let d = n .before .before .before .before .before .before .before .before .before .before .before in
     let i = d .before .before .loop .inv in
     omega (arith, n .line3 .kept, i .4)
 
 same-length-8 : tie.Need-same-length-8 Inv-loop μ-loop
 same-length-8 c =
-    let n = c .before .before .before .before .before .before .before .before .before .before in
+    let n = c .before .before .before .before .before .before .before .before .before .before .before in
     let d = n .before .before .before .before .before .before .before .before .before .before .before in
     let i = d .before .before .loop .inv in
     omega (arith, n .line3 .kept, i .5)
 
 same-length-9 : tie.Need-same-length-9 Inv-loop μ-loop
 same-length-9 c =
-    let n = c .before .before .before .before .before .before .before .before .before .before in
+    let n = c .before .before .before .before .before .before .before .before .before .before .before in
     let d = n .before .before .before .before .before .before .before .before .before .before .before in
     let i = d .before .before .loop .inv in
     omega (arith, d .feed .kept, i .2)
 
 same-length-10 : tie.Need-same-length-10 Inv-loop μ-loop
 same-length-10 c =
-    let n = c .before .before .before .before .before .before .before .before .before .before in
+    let n = c .before .before .before .before .before .before .before .before .before .before .before in
     let d = n .before .before .before .before .before .before .before .before .before .before .before in
     let i = d .before .before .loop .inv in
     omega (arith, n .line3 .kept, i .3)
 
 returns-2 : tie.Need-returns-2 Inv-loop μ-loop
 returns-2 c =
-    let n = c .before .before .before .before .before .before .before .before .before .before in
+    let n = c .before .before .before .before .before .before .before .before .before .before .before in
     let e = n .before .before .before .before .before .before .before in
     let d = e .before .before .before .before in
     let z : d .feed .result .len - 0 ≡ d .feed .result .len = omega arith in (
-      step-full (line-fed d) (omega (arith, e .if1 .left)) (rw z at (n .line3 .ensures .0)) (omega (arith, n .line3 .ensures .1 .0 .1, rw z at (n .line3 .ensures .1 .0 .0 .place))) (rw z at (n .line3 .ensures .1 .0 .0)) (omega (arith, c .if2 .taken, n .line3 .kept, d .before .before .loop .inv .3)),
+      step-full (line-fed d) (omega (arith, e .if1 .left)) (rw z at (n .line3 .ensures .0)) (omega (arith, n .line3 .ensures .1 .0 .1, rw z at (n .line3 .ensures .1 .0 .0 .place))) (rw z at (n .line3 .ensures .1 .0 .0)) (omega (arith, c .before .if2 .taken, n .line3 .kept, d .before .before .loop .inv .3)),
       omega arith,
     )
 
