@@ -1,6 +1,8 @@
 // What may come under a node: the refusals of a new area and of a new service, in their order, and the store that a service gets.
 use answers::refusal::Answer;
 use answers::refusal::Refusal;
+use byte_parts::sizes::BLOCK_SIZE;
+use byte_parts::sizes::MOST_BLOCKS;
 use card_nodes::node;
 use card_nodes::node::Node;
 use service_code::code::Decoded;
@@ -9,11 +11,6 @@ use service_code::code::ServiceCode;
 use service_code::code::ServiceKind;
 ghost use mathlib.Core.Path.{_≡_};
 ghost use Rattle.card_admit.specs.Admit.{isDepth, rootMisfit, outside, areaUnder, serviceUnder, kindNumber, sameKind, joinedTo, usable, newStore, placedUnder};
-
-// The bytes of a block, and the most blocks of an arena that are used.
-const BLOCK: usize = 16;
-
-const MOST_BLOCKS: usize = 4096;
 
 // Where a new service's store lies, and the blocks in use after it.
 pub enum Placed {
@@ -153,7 +150,7 @@ fn joined_to(first: Node, code: u16, used: usize) -> Placed
 fn usable_blocks(arena_len: usize) -> usize
     ensures { λ r. ⌜ r ≡ usable «arena_len» ⌝ }
 {
-    let whole = arena_len / BLOCK;
+    let whole = arena_len / BLOCK_SIZE;
     if whole < MOST_BLOCKS {
         whole
     } else {

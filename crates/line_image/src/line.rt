@@ -1,4 +1,5 @@
 // What an image line says.
+use byte_parts::sizes::LONGEST_LINE;
 use byte_parts::spans;
 use text_numbers::codes::Code;
 use text_numbers::codes::read_hex16;
@@ -10,9 +11,6 @@ use text_numbers::hex::is_hex_field;
 ghost use mathlib.Core.Path.{_≡_};
 ghost use Rattle.text_fields.specs.Field.{split};
 ghost use Rattle.line_image.specs.Line.{codeAt, numberAt, boundAt, hex32, form, cardLine, headingOf, areaLine, serviceLine, limitLine, blockLine, firstLine, laterLine, imageLine};
-
-// A line's most bytes before its LF.
-const LONGEST_LINE: usize = 32768;
 
 // What an image line says, or that it is malformed. A block's bytes stay in the line's last field.
 pub enum Line {

@@ -1,4 +1,5 @@
 // What a request line asks.
+use byte_parts::sizes::LONGEST_LINE;
 use text_numbers::codes;
 use text_numbers::decimals;
 use text_numbers::decimals::Number;
@@ -7,9 +8,6 @@ ghost use mathlib.Core.Path.{_≡_};
 ghost use Rattle.text_numbers.specs.Hex.{hexField};
 ghost use Rattle.text_numbers.specs.Codes.{codesField};
 ghost use Rattle.line_request.specs.Ask.{fieldIn, isLetter, isEither, requestLine, shaped, isWrite, countIn, askOf};
-
-// A line's most bytes before its LF.
-const LONGEST_LINE: usize = 32768;
 
 // What a line asks: a read or a write, open or in a session, and how many elements it has. Codes, list and data stand in the line.
 pub enum Ask {

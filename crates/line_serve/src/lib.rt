@@ -93,7 +93,7 @@ fn write_asked(
 }
 
 // How many bytes a read has put out.
-fn read_long(reply: Reply, count: u32) -> usize
+fn length_read(reply: Reply, count: u32) -> usize
     ensures { λ r. ⌜ r ≡ lengthRead reply count ⌝ }
 {
     match reply {
@@ -133,7 +133,7 @@ pub fn serve_line(
             let reply = read_asked(card, arena, work, bytes, line, open, count);
             Outcome {
                 reply,
-                read: read_long(reply, count),
+                read: length_read(reply, count),
             }
         }
         Ask::Write { open, count } => {

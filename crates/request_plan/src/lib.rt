@@ -3,6 +3,9 @@ use answers::refusal::Refusal;
 use answers::status;
 use answers::status::Fault;
 use block_list::reader;
+use byte_parts::sizes::BLOCK_SIZE;
+use byte_parts::sizes::MOST_CODES;
+use byte_parts::sizes::MOST_ELEMENTS;
 ghost use mathlib.Core.Path.{_≡_};
 ghost use Rattle.request_plan.specs.Request.{flag1, flag2, responseOf};
 ghost use Prim.Native.Nat.{_*_};
@@ -91,15 +94,6 @@ pub struct Sizes {
     pub room: usize,
 }
 
-// A block of a store, an element's data and its output, in bytes.
-const BLOCK: usize = 16;
-
-// More elements are refusal 1.
-const MOST_ELEMENTS: usize = 512;
-
-// More codes are refusal 2.
-const MOST_CODES: usize = 16;
-
 // Tells whether a request has too many elements.
 fn many_elements(count: usize) -> bool
     ensures { λ r. ⌜ r ≡ ltb mostElements count ⌝ }
@@ -118,7 +112,7 @@ fn many_codes(codes: usize) -> bool
 fn too_short(bytes: usize, blocks: usize) -> bool
     ensures { λ r. ⌜ r ≡ ltb bytes (16 * blocks) ⌝ }
 {
-    bytes / BLOCK < blocks
+    bytes / BLOCK_SIZE < blocks
 }
 
 // Judges the buffer and the data of a write: 4, then FF AC. Surplus data are ignored.

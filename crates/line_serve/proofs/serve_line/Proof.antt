@@ -42,7 +42,7 @@ returns-2 c =
     let a = s .args in
     let e = asks k (r .before .before .before .before .before .«open» .given .1) in
     let o = r .read-asked .ensures in
-    (read-outcome (a .card) (now (a .arena)) (now (a .line)) (length (now (a .work))) (records s) e (o .0) (c .read-long .ensures), (read-kept (a .card) (now (a .arena)) (now (a .work)) (now (a .line)) (records s) e, o .1))
+    (read-outcome (a .card) (now (a .arena)) (now (a .line)) (length (now (a .work))) (records s) e (o .0) (c .length-read .ensures), (read-kept (a .card) (now (a .arena)) (now (a .work)) (now (a .line)) (records s) e, o .1))
 
 returns-3 : tie.Need-returns-3
 returns-3 c =
