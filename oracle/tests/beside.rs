@@ -14,7 +14,11 @@ use uluvoli_oracle::texts::{self, Text};
 fn filtered(name: &str, filter: &str) -> PathBuf {
     let programs = Path::new(env!("CARGO_BIN_EXE_traces")).parent().unwrap();
     let run = std::env::temp_dir().join(format!("uluvoli-{name}-{}", std::process::id()));
-    let text = format!("#!/bin/sh\n\"{}/$1\" | {filter}\n", programs.display());
+    // The proved program `test_traces` is `traces` here.
+    let text = format!(
+        "#!/bin/sh\n\"{}/${{1#test_}}\" | {filter}\n",
+        programs.display()
+    );
     fs::write(&run, text).unwrap();
     fs::set_permissions(&run, fs::Permissions::from_mode(0o755)).unwrap();
     run

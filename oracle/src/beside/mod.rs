@@ -1,5 +1,6 @@
 //! Another program beside the oracle: it is given texts, and what it prints is compared.
 
+mod cuts;
 pub mod mutate;
 mod process;
 pub mod shrink;
@@ -22,7 +23,7 @@ pub const LIMIT: Duration = Duration::from_secs(120);
 /// The program is heard out for this many bytes more than are expected of it.
 const SURPLUS: usize = 100_000;
 
-/// The two programs that `RUN NAME` runs: `traces` prints for each file 0001.in, 0002.in, .. of the
+/// The two programs that `RUN NAME` runs: `test_traces` prints for each file 0001.in, 0002.in, .. of the
 /// folder that it is run in a heading and what replay prints, `replay` takes one text on standard
 /// input.
 pub struct Beside {
@@ -59,7 +60,7 @@ impl Beside {
         Ok(Beside { run, folder, limit })
     }
 
-    /// The first of these texts that `traces` answers otherwise than the oracle.
+    /// The first of these texts that `test_traces` answers otherwise than the oracle.
     pub fn first_wrong(&self, texts: &[Text]) -> io::Result<Option<Wrong>> {
         let inputs = texts.iter().map(|text| text.input.as_slice());
         files::numbered(&self.folder, "in", inputs)?;
@@ -87,7 +88,7 @@ impl Beside {
         let most = text.output.len() + SURPLUS;
         let ran = process::run(
             command.arg("replay"),
-            pieces(random, &text.input),
+            cuts::pieces(random, &text.input),
             self.limit,
             most,
         )?;
@@ -99,7 +100,7 @@ impl Beside {
         }))
     }
 
-    /// Fails if `traces` answers one of these texts otherwise than the oracle, and says which, by
+    /// Fails if `test_traces` answers one of these texts otherwise than the oracle, and says which, by
     /// the smallest text that shows it.
     pub fn agree(&self, texts: &[Text]) -> io::Result<()> {
         let Some(Wrong { at, .. }) = self.first_wrong(texts)? else {
@@ -169,20 +170,6 @@ fn first_difference<'a>(printed: &'a [u8], texts: &[Text]) -> Option<(usize, &'a
         }
     }
     None
-}
-
-/// A text in up to eight pieces.
-fn pieces(random: &mut Random, text: &[u8]) -> Vec<Vec<u8>> {
-    let mut ends: Vec<usize> = (0..random.below(8))
-        .map(|_| random.below(text.len() + 1))
-        .chain([text.len()])
-        .collect();
-    ends.sort_unstable();
-    let starts = [0].into_iter().chain(ends.clone());
-    starts
-        .zip(ends)
-        .map(|(start, end)| text[start..end].to_vec())
-        .collect()
 }
 
 /// Prints the first lines of some bytes, with escapes, cut where they are long.

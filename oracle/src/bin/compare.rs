@@ -1,4 +1,4 @@
-//! `compare N SEED RUN`: puts N texts of a seed to the program `traces` that `RUN traces` runs, and
+//! `compare N SEED RUN`: puts N texts of a seed to the program that `RUN test_traces` runs, and
 //! one in a hundred, in pieces on standard input, to `RUN replay`. Fails at the first that is answered otherwise
 //! than by the oracle, and prints the smallest text that shows it.
 

@@ -1,5 +1,5 @@
 //! `fuzz MINUTES SEED RUN`: puts changed texts to the program that `RUN test_traces` runs, for so many
-//! minutes. Fails at the first that is answered otherwise than by the oracle, or that stops the
+//! minutes, and some of them, in pieces on standard input, to `RUN replay`. Fails at the first that is answered otherwise than by the oracle, or that stops the
 //! program, and keeps the smallest text that shows it.
 
 use std::io;
@@ -8,13 +8,18 @@ use uluvoli_oracle::beside::mutate::Stock;
 use uluvoli_oracle::beside::{AT_ONCE, Beside, LIMIT};
 use uluvoli_oracle::counts::Counts;
 use uluvoli_oracle::program;
+use uluvoli_oracle::random::Random;
 use uluvoli_oracle::texts::{self, Text};
+
+/// One text in this many is put to `replay` as well.
+const PIPED: usize = 50;
 
 /// Changes and compares until the time is over.
 fn main() -> io::Result<()> {
     let ([minutes, seed], run) = program::numbers("fuzz MINUTES SEED RUN")?;
     let beside = Beside::new(run.as_ref(), LIMIT)?;
     let mut stock = Stock::new(seed);
+    let mut random = Random::new(!seed);
     let mut counts = Counts::default();
     let (began, mut runs, mut bytes) = (Instant::now(), 0, 0);
     while began.elapsed() < Duration::from_secs(60 * minutes) {
@@ -24,6 +29,10 @@ fn main() -> io::Result<()> {
             bytes += text.input.len();
         }
         beside.agree(&changed)?;
+        for text in changed.iter().step_by(PIPED) {
+            beside.agree_piped(&mut random, text)?;
+            counts.meet("piped");
+        }
         runs += 1;
     }
     print!("{counts}");
