@@ -266,8 +266,12 @@ exchanges =
     ∷ record { call = reads true (0x104b ∷ []) 1 (0x80 ∷ 1 ∷ []) (replicate 16 0); left = record { reply = Done; buffer = replicate 16 9 } }
     ∷ []
 
+-- the arena after it
+abbrev lane : List ℕ
+lane = replicate 16 0 ++ replicate 16 9 ++ (100 ∷ replicate 15 0) ++ replicate 32 7
+
 abbrev IsRun : Type 0
-IsRun = Ran card requestOf (leftBy (λ (x : Reply). x) card) arena exchanges (leaves (writing 0x1049 1 (replicate 16 9) ∷ []))
+IsRun = Ran card requestOf (leftBy (λ (x : Reply). x) card) arena exchanges lane
 
 -- all of it, computed by the definitions
 computed : Told × Alone × Ends × Disturbed × Redraws × Premises × IsRun × IsRedrawn × Raced
@@ -282,7 +286,7 @@ computed = (
     λ q. q .0 refl refl 0 (record { listed = omega arith; number = refl; block = refl }),
     λ n. n 0x41 (inr (inl (refl, refl))) (inl (inl refl)) (inl (inl refl)),
   ),
-  (_, (refl, refl), (_, (refl, refl), refl)),
+  (lane, (refl, refl), (lane, (refl, refl), refl)),
   record {
     write = refl;
     written = refl;

@@ -15,7 +15,7 @@ use Rattle.card_build.specs.declared.card.Card.{Card}
 use Rattle.request_plan.specs.declared.Reply.{Reply}
 use Rattle.request_plan.specs.declared.Reply.the-variants.{Refused}
 use Rattle.request_plan.specs.Request.{readRequest, writeRequest}
-use Rattle.request_plan.specs.Serve.{Served, serve, readLong, outputAfter, stagingBy}
+use Rattle.request_plan.specs.Serve.{Served, serve, lengthRead, outputAfter, stagingBy}
 use Rattle.request_plan.proofs.ReadLaws.{read-said, write-read}
 use Rattle.request_plan.proofs.Codes.{cut}
 use Rattle.line_request.specs.declared.Ask.{Ask}
@@ -151,15 +151,15 @@ module _ (card : Card) (arena line : List ℕ) (room : ℕ) where
   module _ {«open» : Bool} {count : ℕ} where
     -- how many bytes a read puts out
     read-count : length (card .nodes) ≡ 64 → askOf line ≡ Read «open» count
-        → readLong (lineServed card arena room line .reply) count ≡ length (lineServed card arena room line .read)
+        → lengthRead (lineServed card arena room line .reply) count ≡ length (lineServed card arena room line .read)
     unfolding lineServed
     read-count h k = rw k (sym (read-said card arena «open» (codesIn line) count (listIn line) room h .long))
 
     -- Of a read.
     pub read-outcome
-        : length (card .nodes) ≡ 64 → askOf line ≡ Read «open» count → {x : Reply} {n : ℕ} → x ≡ lineServed card arena room line .reply → n ≡ readLong x count
+        : length (card .nodes) ≡ 64 → askOf line ≡ Read «open» count → {x : Reply} {n : ℕ} → x ≡ lineServed card arena room line .reply → n ≡ lengthRead x count
         → record { reply = x; read = n } ≡ outcomeOf (lineServed card arena room line)
-    read-outcome h k e f = outcome-line (lineServed card arena room line) e (f ∙ ap (λ (y : Reply). readLong y count) e ∙ read-count h k)
+    read-outcome h k e f = outcome-line (lineServed card arena room line) e (f ∙ ap (λ (y : Reply). lengthRead y count) e ∙ read-count h k)
 
     -- a write puts out none
     write-count : askOf line ≡ Write «open» count → 0 ≡ length (lineServed card arena room line .read)

@@ -34,17 +34,3 @@ responseOf (Refused r) = Refusal (refusalNumber r)
 responseOf Done = Pair 0 0
 responseOf ShortData = Pair 0xff 0xac
 responseOf (Failed i f) = Pair (sf1Of i) (sf2Of f)
-
--- status flag 1: 00, FF for short data, or the place of the element that failed
-abbrev pub flag1 : Reply → ℕ
-flag1 (Refused r) = 0
-flag1 Done = 0
-flag1 ShortData = 0xff
-flag1 (Failed i f) = sf1Of i
-
--- status flag 2: 00, AC for short data, or the fault's
-abbrev pub flag2 : Reply → ℕ
-flag2 (Refused r) = 0
-flag2 Done = 0
-flag2 ShortData = 0xac
-flag2 (Failed i f) = sf2Of f

@@ -7,7 +7,7 @@ use byte_parts::sizes::BLOCK_SIZE;
 use byte_parts::sizes::MOST_CODES;
 use byte_parts::sizes::MOST_ELEMENTS;
 ghost use mathlib.Core.Path.{_≡_};
-ghost use Rattle.request_plan.specs.Request.{flag1, flag2, responseOf};
+ghost use Rattle.request_plan.specs.Request.{responseOf};
 ghost use Prim.Native.Nat.{_*_};
 ghost use lib.Dec.{ltb};
 ghost use Rattle.request_plan.specs.Plan.{mostElements, mostCodes, writeJudged, readJudged, judgedWith};
@@ -48,30 +48,6 @@ impl Reply {
                     flag2: flag2,
                 }
             }
-        }
-    }
-
-    // Status flag 1.
-    pub fn status_flag1(self) -> u8
-        ensures { λ r. ⌜ r ≡ flag1 self ⌝ }
-    {
-        match self {
-            Reply::Refused(_) => 0,
-            Reply::Done => 0,
-            Reply::ShortData => 0xff,
-            Reply::Failed { index, fault: _ } => status::list_error_index(index),
-        }
-    }
-
-    // Status flag 2.
-    pub fn status_flag2(self) -> u8
-        ensures { λ r. ⌜ r ≡ flag2 self ⌝ }
-    {
-        match self {
-            Reply::Refused(_) => 0,
-            Reply::Done => 0,
-            Reply::ShortData => 0xac,
-            Reply::Failed { index: _, fault } => fault.status_flag2(),
         }
     }
 }
