@@ -2,14 +2,29 @@
 -- end is `replayOf` the text. Assumes nothing.
 use Prim.Native.Nat.{ℕ}
 use native.Mathlib.Omega.{arith}
-use mathlib.Core.Path.{_≡_}
-use mathlib.Core.List.{List}
+use mathlib.Core.Path.{_≡_, refl, sym}
+use mathlib.Core.List.{List, [], _++_, append-nil}
 use lib.ListN.{take}
-use Rattle.text_stream.specs.Stream.{between, joined, chunked}
-use Rattle.text_stream.proofs.Whole.{whole-cut}
+use Rattle.text_stream.specs.Stream.{between, joined, fed, said, chunked, History}
+use Rattle.text_stream.proofs.Whole.{keeps-first, whole-cut}
+use Rattle.text_stream.proofs.Histories.{history-dead}
+use Rattle.replay_state.specs.declared.Phase.the-variants.{Ended}
 use Rattle.replay_line.specs.Replay.{replayMachine, atStart, replayOf}
 use Rattle.replay_text.proofs.Blind.{replay-blind}
+use Rattle.replay_text.proofs.Dead.{replay-dead}
 
 pub replay-whole : (chunks : List (List ℕ)) → chunked replayMachine (take 32769) (between atStart) chunks ≡ replayOf (joined chunks)
 unfolding replayOf
 replay-whole chunks = whole-cut replayMachine 32769 (omega arith) replay-blind atStart chunks
+
+-- a program that has read a text and printed what is said of it
+read-all : (text : List ℕ) → History replayMachine (take 32769) atStart text (said replayMachine (take 32769) (between atStart) text) (fed replayMachine (take 32769) (between atStart) text) []
+read-all text = record { past = text; read = sym (append-nil text); machine = refl; said-of = refl }
+
+-- After a refused image line nothing more is printed, whatever else the text has.
+pub replay-stopped
+    : (text more : List ℕ) → fed replayMachine (take 32769) (between atStart) text .state .replay .phase ≡ Ended
+    → replayOf (text ++ more) ≡ said replayMachine (take 32769) (between atStart) text
+unfolding replayOf
+replay-stopped text more e =
+    sym (history-dead (keeps-first 32769 (omega arith)) replay-blind (read-all text) (replay-dead (fed replayMachine (take 32769) (between atStart) text .state) e) more)

@@ -3,6 +3,9 @@ use borrow.Author.Needs.{needs}
 use Rattle.replay_shell.proofs.replay.Statement.{statement}
 use Rattle.replay_shell.proofs.replay.Tie as tie
 
+run-requires : tie.Need-run-requires
+run-requires c κs = search needs
+
 returns : tie.Need-returns
 returns c = c .before .before .before .before .before .before .run .ensures
 
@@ -16,5 +19,5 @@ replay-spec =
     (λ c. search needs)
     (λ c. search needs)
     (λ c. search needs)
-    (λ c κs. search needs)
+    run-requires
     returns)
