@@ -1,4 +1,4 @@
--- `requests::read_long` meets its contract: by the reply's cases. Assumes nothing.
+-- `line_serve::read_long` meets its contract: by the reply's cases. Assumes nothing.
 use borrow.Author.Needs.{needs}
 use mathlib.Core.Path.{refl}
 use Rattle.line_serve.proofs.read_long.Statement.{statement}
