@@ -1,4 +1,4 @@
--- `asks::ask_of` meets its contract: the tests are those of `askOf`. Assumes nothing.
+-- `line_request::ask_of` meets its contract: the tests are those of `askOf`. Assumes nothing.
 use borrow.Author.Needs.{needs}
 use borrow.Author.Tests.{lt-ltb, le-ltb}
 use mathlib.Core.Path.{_≡_, sym, _∙_}

@@ -1,4 +1,4 @@
--- `asks::count_in` meets its contract: the field is a decimal. Assumes nothing.
+-- `line_request::count_in` meets its contract: the field is a decimal. Assumes nothing.
 use borrow.Author.Needs.{needs}
 use mathlib.Core.Path.{_∙_, ap}
 use Rattle.text_numbers.specs.Decimal.{decimal}

@@ -1,4 +1,4 @@
--- `asks::has_codes` meets its contract: the field is codes. Assumes nothing.
+-- `line_request::has_codes` meets its contract: the field is codes. Assumes nothing.
 use borrow.Author.Needs.{needs}
 use mathlib.Core.Path.{_∙_, ap}
 use Rattle.text_numbers.specs.Codes.{codesField}

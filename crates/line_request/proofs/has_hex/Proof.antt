@@ -1,4 +1,4 @@
--- `asks::has_hex` meets its contract: the field is hex. Assumes nothing.
+-- `line_request::has_hex` meets its contract: the field is hex. Assumes nothing.
 use borrow.Author.Needs.{needs}
 use mathlib.Core.Path.{_∙_, ap}
 use Rattle.text_numbers.specs.Hex.{hexField}

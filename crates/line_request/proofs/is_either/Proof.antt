@@ -1,4 +1,4 @@
--- `asks::is_either` meets its contract: one letter or the other. Assumes nothing.
+-- `line_request::is_either` meets its contract: one letter or the other. Assumes nothing.
 use borrow.Author.Needs.{needs}
 use mathlib.Core.Path.{sym, _∙_}
 use Rattle.line_request.specs.Ask.{isEither}

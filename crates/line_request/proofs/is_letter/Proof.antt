@@ -1,4 +1,4 @@
--- `asks::is_letter` meets its contract. Assumes nothing.
+-- `line_request::is_letter` meets its contract. Assumes nothing.
 use borrow.Author.Needs.{needs}
 use mathlib.Core.Path.{_∙_, ap}
 use Rattle.line_request.specs.Ask.{isLetter}

@@ -1,4 +1,4 @@
--- `asks::is_request` meets its contract. Assumes nothing.
+-- `line_request::is_request` meets its contract. Assumes nothing.
 use borrow.Author.Needs.{needs}
 use Rattle.line_request.specs.Ask.{requestLine}
 use Rattle.line_request.proofs.is_request.Statement.{statement}

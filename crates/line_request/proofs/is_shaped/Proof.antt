@@ -1,4 +1,4 @@
--- `asks::is_shaped` meets its contract: the tests are those of `shaped`. Assumes nothing.
+-- `line_request::is_shaped` meets its contract: the tests are those of `shaped`. Assumes nothing.
 use borrow.Author.Needs.{needs}
 use borrow.Author.Tests.{eq-eqb, ne-eqb, not-true, not-false}
 use mathlib.Core.Path.{_≡_, sym, _∙_}

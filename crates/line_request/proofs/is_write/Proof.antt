@@ -1,4 +1,4 @@
--- `asks::is_write` meets its contract: the fields of a request, and data. Assumes nothing.
+-- `line_request::is_write` meets its contract: the fields of a request, and data. Assumes nothing.
 use borrow.Author.Needs.{needs}
 use borrow.Author.Tests.{not-true, not-false}
 use mathlib.Core.Path.{sym, _∙_}

@@ -1,4 +1,4 @@
--- `requests::length_read` meets its contract: by the reply's cases. Assumes nothing.
+-- `line_serve::length_read` meets its contract: by the reply's cases. Assumes nothing.
 use borrow.Author.Needs.{needs}
 use mathlib.Core.Path.{refl}
 use Rattle.line_serve.proofs.length_read.Statement.{statement}

@@ -1,4 +1,4 @@
--- `requests::put_field` meets its contract: the bytes of a field are those that it spells. Assumes nothing.
+-- `line_serve::put_field` meets its contract: the bytes of a field are those that it spells. Assumes nothing.
 use borrow.Author.Needs.{needs}
 use native.Mathlib.Omega.{arith}
 use denote.Ref.{now}

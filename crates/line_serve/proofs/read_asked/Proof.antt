@@ -1,4 +1,4 @@
--- `requests::read_asked` meets its contract: codes and list are the line's. Assumes nothing.
+-- `line_serve::read_asked` meets its contract: codes and list are the line's. Assumes nothing.
 use borrow.Author.Needs.{needs}
 use Prim.Native.Nat.{_+_, _≤_}
 use native.Mathlib.Omega.{arith}

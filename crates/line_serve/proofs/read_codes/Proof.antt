@@ -1,4 +1,4 @@
--- `requests::read_codes` meets its contract: the codes are those of the third field. Assumes nothing.
+-- `line_serve::read_codes` meets its contract: the codes are those of the third field. Assumes nothing.
 use borrow.Author.Needs.{needs}
 use denote.Ref.{now}
 use Rattle.text_numbers.specs.Codes.{codesOf}

@@ -1,4 +1,4 @@
--- `requests::write_asked` meets its contract: codes, list and data are the line's. Assumes nothing.
+-- `line_serve::write_asked` meets its contract: codes, list and data are the line's. Assumes nothing.
 use borrow.Author.Needs.{needs}
 use Prim.Native.Nat.{_+_, _≤_}
 use native.Mathlib.Omega.{arith}

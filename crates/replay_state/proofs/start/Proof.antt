@@ -1,4 +1,4 @@
--- `phases::start` meets its contract. Assumes nothing.
+-- `replay_state::start` meets its contract: nothing is counted yet. Assumes nothing.
 use mathlib.Core.Path.{ap}
 use borrow.Author.Needs.{needs}
 use Rattle.card_build.specs.declared.card.Card.{Card}
@@ -11,5 +11,8 @@ use Rattle.replay_state.proofs.start.Tie as tie
 abbrev startOn : Card → Replay
 startOn card = record { card = card; phase = First; lines = 0; asked = 0 }
 
+returns : tie.Need-returns
+returns c = ap startOn (c .new .ensures)
+
 pub start-spec : {M : Type 1} → statement M
-start-spec = tie.close (tie.spec (λ c κs. search needs) (λ c. ap startOn (c .new .ensures)))
+start-spec = tie.close (tie.spec (λ c κs. search needs) returns)

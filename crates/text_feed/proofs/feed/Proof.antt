@@ -1,4 +1,4 @@
--- `feed::feed` meets its contract: a place outside stays, one inside goes past what was found and copied. Assumes nothing.
+-- `text_feed::feed` meets its contract: a place outside stays, one inside goes past what was found and copied. Assumes nothing.
 use native.Mathlib.Omega.{arith}
 use denote.Ref.{now}
 use borrow.Author.Needs.{needs}
