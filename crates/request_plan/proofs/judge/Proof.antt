@@ -17,7 +17,7 @@ start-of c = c .before .before .before .before .before
 
 -- the card is sound
 sound : (c : tie.Else1) → start-of (c .before) .args .sound ≡ true
-sound c = not-false _ (c .if1 .left)
+sound c = not-false (start-of (c .before) .args .sound) (c .if1 .left)
 
 -- not too many elements
 few : (c : tie.Else2) → ltb 512 (start-of (c .before .before) .args .sizes .count) ≡ false
@@ -36,7 +36,7 @@ long : (c : tie.Else5) → let n = start-of (c .before .before .before .before .
 long c = sym (c .before .before .before .before .before .too-short .ensures) ∙ c .if5 .left
 
 returns : tie.Need-returns
-returns c = not-built _ _ _ _ (not-true _ (c .if1 .taken))
+returns c = not-built _ _ _ _ (not-true (start-of (c .before) .args .sound) (c .if1 .taken))
 
 returns-2 : tie.Need-returns-2
 returns-2 c = elements-refused _ _ _ _ (sound (c .before)) (sym (c .before .before .before .before .before .many-elements .ensures) ∙ c .if2 .taken)
