@@ -160,10 +160,10 @@ fn request_lines() {
         ("W", "! 6 -"),
         ("W|O|1049|1|8000", "! 6 -"),
         ("W|O|1049|1|8000|0", "! 6 -"),
-        ("W|O|1049|1|8000|-", "FF AC 255"),
+        ("W|O|1049|1|8000|-", "FF AC *"),
         ("W|O|-|0|-|-", "00 00 -"),
         (&write(block), "00 00 -"),
-        (&write(&block[..30]), "FF AC 255"),
+        (&write(&block[..30]), "FF AC *"),
         (&write(&block.repeat(2)), "00 00 -"),
     ] {
         assert_eq!(request_line(line), printed, "{line}");

@@ -8,12 +8,14 @@ use Rattle.text_numbers.specs.Decimal.{digitsOf, decText}
 use Rattle.request_plan.specs.declared.Reply.the-variants.{Refused, Done, ShortData, Failed}
 use Rattle.line_answer.specs.Answer.{whereText, statusFields, refusalFields, answerText}
 
--- `1 00 00 - -`, `2 00 00 - 11AB`, `3 01 A8 1 -`, `10 FF AC 255 -` and `11 ! 6 - -`.
+-- `1 00 00 - -`, `2 00 00 - 11AB`, `3 01 A8 1 -`, `10 FF AC * -`, `10 FE A8 254 -`, `10 FF A8 * -` (the 255th element) and `11 ! 6 - -`.
 pub answer-rows
     : (answerText 1 Done [] ≡ 49 ∷ 9 ∷ 48 ∷ 48 ∷ 9 ∷ 48 ∷ 48 ∷ 9 ∷ 45 ∷ 9 ∷ 45 ∷ 10 ∷ [])
     × (answerText 2 Done (17 ∷ 171 ∷ []) ≡ 50 ∷ 9 ∷ 48 ∷ 48 ∷ 9 ∷ 48 ∷ 48 ∷ 9 ∷ 45 ∷ 9 ∷ 49 ∷ 49 ∷ 65 ∷ 66 ∷ 10 ∷ [])
     × (answerText 3 (Failed 0 BlockNumber) [] ≡ 51 ∷ 9 ∷ 48 ∷ 49 ∷ 9 ∷ 65 ∷ 56 ∷ 9 ∷ 49 ∷ 9 ∷ 45 ∷ 10 ∷ [])
-    × (answerText 10 ShortData [] ≡ 49 ∷ 48 ∷ 9 ∷ 70 ∷ 70 ∷ 9 ∷ 65 ∷ 67 ∷ 9 ∷ 50 ∷ 53 ∷ 53 ∷ 9 ∷ 45 ∷ 10 ∷ [])
+    × (answerText 10 ShortData [] ≡ 49 ∷ 48 ∷ 9 ∷ 70 ∷ 70 ∷ 9 ∷ 65 ∷ 67 ∷ 9 ∷ 42 ∷ 9 ∷ 45 ∷ 10 ∷ [])
+    × (answerText 10 (Failed 253 BlockNumber) [] ≡ 49 ∷ 48 ∷ 9 ∷ 70 ∷ 69 ∷ 9 ∷ 65 ∷ 56 ∷ 9 ∷ 50 ∷ 53 ∷ 52 ∷ 9 ∷ 45 ∷ 10 ∷ [])
+    × (answerText 10 (Failed 254 BlockNumber) [] ≡ 49 ∷ 48 ∷ 9 ∷ 70 ∷ 70 ∷ 9 ∷ 65 ∷ 56 ∷ 9 ∷ 42 ∷ 9 ∷ 45 ∷ 10 ∷ [])
     × (answerText 11 (Refused MalformedRequest) [] ≡ 49 ∷ 49 ∷ 9 ∷ 33 ∷ 9 ∷ 54 ∷ 9 ∷ 45 ∷ 9 ∷ 45 ∷ 10 ∷ [])
 unfolding statusFields refusalFields whereText hexText toHex capital decText digitsOf
-answer-rows = (refl, refl, refl, refl, refl)
+answer-rows = (refl, refl, refl, refl, refl, refl, refl)

@@ -1,17 +1,30 @@
 -- Where an error is, as text. Assumes nothing.
 use Prim.Native.Nat.{ℕ}
-use mathlib.Core.Path.{_≡_}
-use mathlib.Core.List.{[], _∷_}
+use mathlib.Core.Path.{_≡_, refl}
+use mathlib.Core.List.{List, [], _∷_}
 use borrow.Author.Tests.{eq-eqb, ne-eqb}
 use Rattle.text_numbers.specs.Decimal.{decText}
-use Rattle.line_answer.specs.Answer.{whereText}
+use Rattle.text_numbers.specs.Hex.{hexText}
+use Rattle.line_answer.specs.Answer.{whereText, fiveFields, statusFields}
 
 -- No error is nowhere.
 pub nowhere : (flag : ℕ) → flag ≡ 0 → whereText flag ≡ 45 ∷ []
 unfolding whereText
 nowhere flag e = rw (eq-eqb flag 0 e)
 
--- Any other is where its number says.
-pub somewhere : (flag : ℕ) → (flag ≡ 0 → ⊥) → whereText flag ≡ decText flag
+-- FF names no place.
+pub no-place : (flag : ℕ) → flag ≡ 0xff → whereText flag ≡ 42 ∷ []
 unfolding whereText
-somewhere flag e = rw (ne-eqb flag 0 e)
+no-place flag e = rw (e)
+
+-- Any other is where its number says.
+pub somewhere : (flag : ℕ) → (flag ≡ 0 → ⊥) → (flag ≡ 0xff → ⊥) → whereText flag ≡ decText flag
+unfolding whereText
+somewhere flag e f = rw (ne-eqb flag 0 e, ne-eqb flag 0xff f)
+
+-- FF is told by `*` whatever its cause.
+pub star-of-ff
+    : (ordinal flag2 : ℕ) (read : List ℕ)
+    → statusFields ordinal 0xff flag2 read ≡ fiveFields (decText ordinal) (hexText (0xff ∷ [])) (hexText (flag2 ∷ [])) (42 ∷ []) (hexText read)
+unfolding statusFields whereText
+star-of-ff ordinal flag2 read = refl

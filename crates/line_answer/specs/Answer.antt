@@ -18,9 +18,9 @@ closed end t = t ++ (end ∷ [])
 abbrev pub fiveFields : List ℕ → List ℕ → List ℕ → List ℕ → List ℕ → List ℕ
 fiveFields a b c d e = closed 9 a ++ closed 9 b ++ closed 9 c ++ closed 9 d ++ e
 
--- where: status flag 1 in decimal, or `-` (45) for 00
+-- where: `-` (45) for a status flag 1 of 00, `*` (42) for FF, which names no one place of the list, else the place in decimal
 unfoldable pub whereText : ℕ → List ℕ
-whereText flag = cond (eqb flag 0) (45 ∷ []) (decText flag)
+whereText flag = cond (eqb flag 0) (45 ∷ []) (cond (eqb flag 0xff) (42 ∷ []) (decText flag))
 
 -- ordinal, status flags in hex, where, data read
 unfoldable pub statusFields : ℕ → ℕ → ℕ → List ℕ → List ℕ

@@ -33,7 +33,8 @@ pub fn put_number(n: u64, end: u8, out: &mut [u8], at: usize) -> usize
     last + 1
 }
 
-// Puts where an error is, status flag 1 in decimal or `-` for 00, and a tab, and answers the place after them.
+// Puts where an error is and a tab, and answers the place after them: `-` for a status flag 1 of 00; `*` for FF, which stands for every place from
+// 255 on and for no place; else the place in decimal.
 fn put_where(flag: u8, out: &mut [u8], at: usize) -> usize
     requires { ⌜ at + 21 ≤ length (now out) ⌝ }
     ensures { λ r. ⌜ Written (now (out .entry)) at (closed 9 (whereText flag)) r (now (out .exit)) ⌝ }
@@ -41,6 +42,9 @@ fn put_where(flag: u8, out: &mut [u8], at: usize) -> usize
 {
     if flag == 0 {
         return put_mark(b'-', b'\t', out, at);
+    }
+    if flag == 0xff {
+        return put_mark(b'*', b'\t', out, at);
     }
     put_number(flag as u64, b'\t', out, at)
 }

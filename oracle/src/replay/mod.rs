@@ -87,6 +87,7 @@ fn answer(card: &mut Card, line: &[u8]) -> Result<Told, Refusal> {
 fn told(ordinal: usize, (sf1, sf2): (u8, u8), read: &[u8]) -> String {
     let place = match sf1 {
         0 => "-".to_string(),
+        255 => "*".to_string(),
         _ => sf1.to_string(),
     };
     format!("{ordinal}\t{sf1:02X}\t{sf2:02X}\t{place}\t{}\n", hex(read))

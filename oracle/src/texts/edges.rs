@@ -90,10 +90,10 @@ const TEXTS: [&str; 52] = [
 ];
 
 /// A text that is told every place: a read of one element that fails, of two of which the second
-/// fails, and so on beyond the 255th.
+/// fails, and so on beyond the 255th; and one of as many as there may be, of which the last fails.
 fn places() -> String {
     let mut text = "card|0001|0000\nsvc|1|1049|1|0000\n".to_string();
-    for count in 1..=257 {
+    for count in (1..=257).chain([512]) {
         let passing = "8000".repeat(count - 1);
         text += &format!("R|O|1049|{count}|{passing}8001\n");
     }
