@@ -1,4 +1,4 @@
--- `traces::main` is safe and ends: the numbers left fall. Assumes nothing.
+-- `test_traces::main` is safe and ends: the numbers left fall. Assumes nothing.
 use Prim.Native.Nat.{_≤_, _-_}
 use borrow.Author.Needs.{needs}
 use Rattle.test_traces.proofs.main.Statement.{statement}
@@ -16,6 +16,9 @@ main-spec =
     (tie.spec
     Inv-loop
     μ-loop
+    (λ c. search needs)
+    (λ c. search needs)
+    (λ c. search needs)
     (λ c. search needs)
     (λ c. search needs)
     (λ c. search needs)
