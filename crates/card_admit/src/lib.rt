@@ -10,7 +10,8 @@ use service_code::code::DecodedKind;
 use service_code::code::ServiceCode;
 use service_code::code::ServiceKind;
 ghost use mathlib.Core.Path.{_≡_};
-ghost use Rattle.card_admit.specs.Admit.{isDepth, rootMisfit, outside, areaUnder, serviceUnder, kindNumber, sameKind, joinedTo, usable, newStore, placedUnder};
+ghost use Rattle.service_code.specs.Code.{attributeOf};
+ghost use Rattle.card_admit.specs.Admit.{isDepth, rootMisfit, outside, areaUnder, isUndefined, serviceUnder, kindNumber, sameKind, joinedTo, usable, newStore, placedUnder};
 
 // Where a new service's store lies, and the blocks in use after it.
 pub enum Placed {
@@ -71,39 +72,53 @@ pub fn area_under(above: Node, code: u16, end: u16) -> Answer
     if 1 < code % 64 {
         return Answer::Refused(Refusal::InvalidAreaAttribute);
     }
+    let forbidden = above.code % 64 != 0;
+    let entry = above.entry;
+    let last = node::end_of(entry);
+    let outside = is_outside(code, end, above.code, last);
     // 11
     if end < code {
         return Answer::Refused(Refusal::InvalidAreaRange);
     }
     // 15: under an area whose low six bits are not 0
-    if above.code % 64 != 0 {
+    if forbidden {
         return Answer::Refused(Refusal::ChildAreaForbidden);
     }
     // 18
-    let entry = above.entry;
-    let last = node::end_of(entry);
-    if is_outside(code, end, above.code, last) {
+    if outside {
         return Answer::Refused(Refusal::AreaOutOfRange);
     }
     Answer::Done
+}
+
+// Whether the attribute of `code` is none of those that are defined.
+fn is_undefined(code: u16) -> bool
+    ensures { λ r. ⌜ r ≡ isUndefined (attributeOf code) ⌝ }
+{
+    match ServiceCode(code).attribute() {
+        Decoded::Undefined => true,
+        Decoded::Defined(_) => false,
+    }
 }
 
 // The refusal of a service of `code` under the node `above`, or none.
 fn service_under(above: Node, code: u16) -> Answer
     ensures { λ r. ⌜ r ≡ serviceUnder above code ⌝ }
 {
+    let undefined = is_undefined(code);
+    let entry = above.entry;
+    let last = node::end_of(entry);
+    let outside = is_outside(code, code, above.code, last);
     // 13
     if code > 0xfffe {
         return Answer::Refused(Refusal::NodeCodeOutOfRange);
     }
     // 16
-    let Decoded::Defined(_) = ServiceCode(code).attribute() else {
+    if undefined {
         return Answer::Refused(Refusal::UndefinedServiceAttribute);
-    };
+    }
     // 17
-    let entry = above.entry;
-    let last = node::end_of(entry);
-    if is_outside(code, code, above.code, last) {
+    if outside {
         return Answer::Refused(Refusal::ServiceOutOfRange);
     }
     Answer::Done

@@ -78,15 +78,17 @@ impl Card {
         ensures { λ r. ⌜ r ≡ serviceAdded self (length (now (arena .entry))) depth code blocks version ⌝ }
         ensures { λ r. ⌜ now (arena .exit) ≡ arenaAdded self (serviceAdded self (length (now (arena .entry))) depth code blocks version) (now (arena .entry)) ⌝ }
     {
-        // 8
-        if !self.is_sound() {
-            return refuse(self, Refusal::NotBuilt);
-        }
+        let sound = self.is_sound();
         let nodes = self.nodes;
         let count = self.count;
         let used = self.used;
+        let short = arena.len() / 16 < used;
+        // 8
+        if !sound {
+            return refuse(self, Refusal::NotBuilt);
+        }
         // 7
-        if arena.len() / 16 < used {
+        if short {
             return refuse(self, Refusal::ShortArena);
         }
         match fits::place_service(nodes, count, used, arena.len(), depth, code, blocks) {

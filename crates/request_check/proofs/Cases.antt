@@ -1,18 +1,17 @@
 -- What `elementCheck`, `rowCheck` and `serviceCheck` are in each of their cases.
 use mathlib.Core.Path.{_≡_, refl}
-use mathlib.Core.Bool.{Bool, true, false, cond, _&&_}
+use mathlib.Core.Bool.{Bool, true, false, cond, not, _&&_}
 use mathlib.Core.List.{List}
 use Prim.Native.Nat.{ℕ, _≤_, _<_}
 use native.Mathlib.Omega.{arith}
-use lib.Dec.{leb}
+use lib.Dec.{eqb, leb}
 use lib.ListN.{length, take, getD, length-take}
 use borrow.Author.Tests.{leb-true, leb-false, le-leb, lt-leb}
 use Rattle.block_list.specs.declared.element.BlockListElement.{BlockListElement}
 use Rattle.service_code.specs.declared.code.Decoded.the-variants.{Defined, Undefined}
 use Rattle.service_code.specs.declared.code.ServiceAttribute.{ServiceAttribute}
-use Rattle.service_code.specs.Code.{requiresKey}
-use Rattle.answers.specs.declared.status.Fault.{Fault}
-use Rattle.answers.specs.declared.status.Fault.the-variants.{ListIndex, AccessMode, Attribute, NoService, KeyNeeded, BlockNumber}
+use Rattle.service_code.specs.Code.{requiresKey, allowsWrite, allowsCashback}
+use Rattle.answers.specs.declared.status.Fault.the-variants.{ListIndex, AccessMode, Attribute, NoService, KeyNeeded, ReadOnly, NoCashback, BlockNumber}
 use Rattle.request_check.specs.declared.table.Row.{Row}
 use Rattle.request_check.specs.declared.check.Check.{Check}
 use Rattle.request_check.specs.declared.check.Check.the-variants.{Passed, Failed}
@@ -45,21 +44,27 @@ module _ (w : Row) (a : ServiceAttribute) (write «open» : Bool) (number mode :
   no-key h = rw h
 
   module _ (k : («open» && requiresKey (w .code)) ≡ false) where
-    -- a write that the attribute does not allow
-    pub no-write : {g : Fault} → attributeCheck write a mode ≡ Failed g → Failed g ≡ serviceCheck w a write «open» number mode
-    unfolding serviceCheck
+    -- a write to a read-only service
+    pub no-write : (write && not (allowsWrite a)) ≡ true → Failed ReadOnly ≡ serviceCheck w a write «open» number mode
+    unfolding serviceCheck attributeCheck
     no-write h = rw (k, h)
 
-    module _ (p : attributeCheck write a mode ≡ Passed) where
-      -- a block that is not there
-      pub no-block : w .blocks ≤ number → Failed BlockNumber ≡ serviceCheck w a write «open» number mode
-      unfolding serviceCheck
-      no-block h = rw (k, p, le-leb (w .blocks) number h)
+    module _ (p : (write && not (allowsWrite a)) ≡ false) where
+      -- a write in mode 1 without cashback
+      pub no-return : (write && (eqb mode 1 && not (allowsCashback a))) ≡ true → Failed NoCashback ≡ serviceCheck w a write «open» number mode
+      unfolding serviceCheck attributeCheck
+      no-return h = rw (k, p, h)
 
-      -- one that is
-      pub passed : number < w .blocks → Passed ≡ serviceCheck w a write «open» number mode
-      unfolding serviceCheck
-      passed h = rw (k, p, lt-leb (w .blocks) number h)
+      module _ (q : (write && (eqb mode 1 && not (allowsCashback a))) ≡ false) where
+        -- a block that is not there
+        pub no-block : w .blocks ≤ number → Failed BlockNumber ≡ serviceCheck w a write «open» number mode
+        unfolding serviceCheck attributeCheck
+        no-block h = rw (k, p, q, le-leb (w .blocks) number h)
+
+        -- one that is
+        pub passed : number < w .blocks → Passed ≡ serviceCheck w a write «open» number mode
+        unfolding serviceCheck attributeCheck
+        passed h = rw (k, p, q, lt-leb (w .blocks) number h)
 
 module _ (w : Row) (write «open» : Bool) (number mode : ℕ) where
   -- a mode that the request may not use

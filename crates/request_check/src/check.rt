@@ -9,11 +9,12 @@ use service_code::code::Decoded;
 use service_code::code::ServiceAttribute;
 use service_code::code::ServiceCode;
 ghost use mathlib.Core.Path.{_≡_};
-ghost use mathlib.Core.Bool.{_&&_};
+ghost use mathlib.Core.Bool.{not, _&&_};
+ghost use lib.Dec.{eqb};
 ghost use lib.ListN.{take};
-ghost use Rattle.service_code.specs.Code.{requiresKey};
+ghost use Rattle.service_code.specs.Code.{requiresKey, allowsWrite, allowsCashback};
 ghost use Rattle.block_list.specs.Element.{elementsFrom};
-ghost use Rattle.request_check.specs.Check.{modeAllowed, attributeCheck, serviceCheck, rowCheck, namedCheck, checkedFrom};
+ghost use Rattle.request_check.specs.Check.{modeAllowed, serviceCheck, rowCheck, namedCheck, checkedFrom};
 
 // How an element's check ended.
 pub enum Check {
@@ -34,25 +35,6 @@ fn mode_allowed(write: bool, mode: u8) -> bool
     if write { mode < 2 } else { mode == 0 }
 }
 
-// Checks what a service's attribute lets a write do in an access mode; a read may do anything.
-fn attribute_check(write: bool, attribute: ServiceAttribute, mode: u8) -> Check
-    ensures { λ r. ⌜ r ≡ attributeCheck write attribute mode ⌝ }
-{
-    if !write {
-        return Check::Passed;
-    }
-    if !attribute.allows_write() {
-        return Check::Failed(Fault::ReadOnly); // A5
-    }
-    if mode != 1 {
-        return Check::Passed;
-    }
-    if !attribute.allows_cashback() {
-        return Check::Failed(Fault::NoCashback); // A5
-    }
-    Check::Passed
-}
-
 // Tells whether an open request meets a service whose code says that it needs a key.
 fn key_missing(open: bool, code: u16) -> bool
     ensures { λ r. ⌜ r ≡ («open» && requiresKey code) ⌝ }
@@ -62,6 +44,30 @@ fn key_missing(open: bool, code: u16) -> bool
     } else {
         false
     }
+}
+
+// Tells whether a write meets a read-only service.
+fn read_only(write: bool, attribute: ServiceAttribute) -> bool
+    ensures { λ r. ⌜ r ≡ (write && not (allowsWrite attribute)) ⌝ }
+{
+    if write {
+        !attribute.allows_write()
+    } else {
+        false
+    }
+}
+
+// Tells whether a write in mode 1 meets a service that gives no cashback.
+fn no_cashback(write: bool, attribute: ServiceAttribute, mode: u8) -> bool
+    ensures { λ r. ⌜ r ≡ (write && (eqb mode 1 && not (allowsCashback attribute))) ⌝ }
+{
+    if !write {
+        return false;
+    }
+    if mode != 1 {
+        return false;
+    }
+    !attribute.allows_cashback()
 }
 
 // Checks what the service of a row lets a request do, and that its store has the block.
@@ -75,11 +81,17 @@ fn service_check(
 ) -> Check
     ensures { λ r. ⌜ r ≡ serviceCheck row attribute write «open» number mode ⌝ }
 {
-    if key_missing(open, row.code) {
+    let keyless = key_missing(open, row.code);
+    let fixed = read_only(write, attribute);
+    let cashless = no_cashback(write, attribute, mode);
+    if keyless {
         return Check::Failed(Fault::KeyNeeded); // A5
     }
-    if let Check::Failed(fault) = attribute_check(write, attribute, mode) {
-        return Check::Failed(fault);
+    if fixed {
+        return Check::Failed(Fault::ReadOnly); // A5
+    }
+    if cashless {
+        return Check::Failed(Fault::NoCashback); // A5
     }
     if row.blocks <= number {
         return Check::Failed(Fault::BlockNumber); // A8

@@ -1,7 +1,8 @@
 -- The code tests in the definition's order.
 use mathlib.Core.Path.{_≡_, sym, _∙_, ap}
-use mathlib.Core.Bool.{false}
+use mathlib.Core.Bool.{Bool, false}
 use borrow.Author.Needs.{needs}
+use Rattle.card_nodes.specs.Node.{endOf}
 use Rattle.card_admit.specs.Admit.{areaUnder, rootMisfit, outside}
 use Rattle.byte_parts.proofs.Tests.{tests}
 use Rattle.card_admit.proofs.area_under.Statement.{statement}
@@ -27,21 +28,27 @@ returns-4 : tie.Need-returns-4
 unfolding areaUnder
 returns-4 c = search (tests, fits (c .before))
 
+-- whether it leaves its parent's codes
+told : (c : tie.After-is-outside) {b : Bool} → c .is-outside .result ≡ b →
+    let a = c .before .before .before .before .before .before .before .before .args in
+    outside (a .code) (a .end) (a .above .code) (endOf (a .above .entry)) ≡ b
+told c e = sym (ap (outside _ _ _) (c .before .end-of .ensures)) ∙ sym (c .is-outside .ensures) ∙ e
+
 returns-5 : tie.Need-returns-5
 unfolding areaUnder
-returns-5 c = search (tests, fits (c .before .before))
+returns-5 c = search (tests, fits (c .before .before .before .before .before))
 
 returns-6 : tie.Need-returns-6
 unfolding areaUnder
-returns-6 c = search (tests, fits (c .before .before .before .before))
+returns-6 c = let o = c .before .before in search (tests, fits (o .before .before .before .before), c .if6 .taken)
 
 returns-7 : tie.Need-returns-7
 unfolding areaUnder
-returns-7 c = search (tests, fits (c .before .before .before .before .before .before .before), sym (ap (outside _ _ _) (c .before .before .end-of .ensures)) ∙ sym (c .before .is-outside .ensures) ∙ c .if7 .taken)
+returns-7 c = let o = c .before .before .before in search (tests, fits (o .before .before .before .before), c .before .if6 .left, told o (c .if7 .taken))
 
 returns-8 : tie.Need-returns-8
 unfolding areaUnder
-returns-8 c = search (tests, fits (c .before .before .before .before .before .before .before), sym (ap (outside _ _ _) (c .before .before .end-of .ensures)) ∙ sym (c .before .is-outside .ensures) ∙ c .if7 .left)
+returns-8 c = let o = c .before .before .before in search (tests, fits (o .before .before .before .before), c .before .if6 .left, told o (c .if7 .left))
 
 pub area-under-spec : {M : Type 1} → statement M
 area-under-spec =
@@ -52,9 +59,9 @@ area-under-spec =
     (λ c κs. search needs)
     returns-3
     returns-4
+    (λ c κs. search needs)
+    (λ c κs. search needs)
     returns-5
     returns-6
-    (λ c κs. search needs)
-    (λ c κs. search needs)
     returns-7
     returns-8)

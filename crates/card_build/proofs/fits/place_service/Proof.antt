@@ -3,9 +3,10 @@ use mathlib.Core.Path.{sym, _∙_}
 use Prim.Native.Nat.{_<_}
 use native.Mathlib.Omega.{arith}
 use borrow.Author.Needs.{needs}
-use Rattle.card_nodes.proofs.Records.{Records, full, free}
+use borrow.Author.Tests.{leb-true, leb-false}
+use Rattle.card_nodes.proofs.Records.{Records, full}
 use Rattle.card_admit.specs.Admit.{placedOf}
-use Rattle.card_build.proofs.Judged.{parent-index, placed}
+use Rattle.card_build.proofs.Judged.{parent-index, service-orphan, placed}
 use Rattle.card_build.proofs.fits.place_service.Statement.{statement}
 use Rattle.card_build.proofs.fits.place_service.Tie as tie
 
@@ -15,37 +16,38 @@ records c = record { all = search needs }
 
 -- the parent is one of the records
 inside : (c : tie.After-p) → c .p .given .0 .0 < 64
-inside c = parent-index (records (c .before .before .before .before)) _ (c .before .before .parent-at .ensures) (c .p .given .1)
+inside c = parent-index (records (c .before .before .before)) _ (c .before .before .parent-at .ensures) (c .p .given .1)
 
 returns : tie.Need-returns
-unfolding placedOf
-returns c = search (full (records (c .before)) (c .if1 .taken))
+returns c =
+    let p = c .before .before .before in
+    service-orphan (records (p .before)) _ (p .parent-at .ensures) (c .before .enum-told .given .1) (c .parentless .ensures) _ _ _ _
 
 returns-2 : tie.Need-returns-2
 unfolding placedOf
-returns-2 c =
-    let b = c .before .before in
-    search (free (records (b .before .before)) (b .before .if1 .left), sym (b .parent-at .ensures) ∙ c .enum-told .given .1)
+returns-2 c = let s = c .before .before .before .before .before in search (full (records s) (leb-true 64 (s .args .count) (c .if1 .taken)))
 
 returns-3 : tie.Need-returns-3
 returns-3 c =
     let f = c .before in
-    let p = f .before .before .before in
+    let e = f .before .before in
+    let p = e .before .before in
     let b = p .before .before in
     c .placed-under .ensures
-    ∙ placed (records (b .before .before)) _ (b .parent-at .ensures) (p .p .given .1) _ _ _ _ _ (b .before .if1 .left) (f .first-of .ensures)
+    ∙ placed (records (b .before)) _ (b .parent-at .ensures) (p .p .given .1) _ _ _ _ _ (leb-false 64 (b .before .args .count) (e .if1 .left)) (f .first-of .ensures)
 
 pub place-service-spec : {M : Type 1} → statement M
 place-service-spec =
     tie.close
     (tie.spec
-    returns
     (λ c κs. search needs)
     (λ c. search needs)
     (λ c. search needs)
+    (λ c κs. search needs)
+    returns
     returns-2
-    (λ c. omega (arith, inside (c .before)))
-    (λ c. inside (c .before))
+    (λ c. omega (arith, inside (c .before .before)))
+    (λ c. inside (c .before .before))
     (λ c κs. search needs)
     (λ c κs. search needs)
     returns-3)

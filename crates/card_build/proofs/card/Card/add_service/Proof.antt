@@ -5,7 +5,7 @@ use Prim.Native.Nat.{_/_, _≤_}
 use native.Mathlib.Omega.{arith}
 use lib.ListN.{length, length-map}
 use borrow.Author.Needs.{needs}
-use borrow.Author.Tests.{not-true, not-false}
+use borrow.Author.Tests.{not-true, not-false, ltb-true, ltb-false}
 use Rattle.card_admit.specs.declared.Placed.{Placed}
 use Rattle.card_admit.specs.Admit.{placedOf}
 use Rattle.card_build.specs.Card.{nodesOf, isSound}
@@ -15,12 +15,16 @@ use Rattle.card_build.proofs.card.Card.add_service.Statement.{statement
 use Rattle.card_build.proofs.card.Card.add_service.Tie as tie
 
 -- the card is sound
-sound : (c : tie.Else1) → isSound (c .before .before .before .args .self) ≡ true
-sound c = sym (c .before .is-sound .ensures) ∙ not-false _ (c .if1 .left)
+sound : (c : tie.Else1) → isSound (c .before .before .before .before .args .self) ≡ true
+sound c = let s = c .before .before in sym (s .is-sound .ensures) ∙ not-false (s .is-sound .result) (c .if1 .left)
 
 -- the card has 64 records
 records : (c : tie.Start) → length (c .args .self .nodes) ≡ 64
 records c = simp length-map at (c .good .0 .1 .1 .0 .1 .0 .1)
+
+-- the arena holds the blocks in use
+long : (c : tie.Else2) → let a = c .before .before .before .before .before .args in a .self .used ≤ length (a .arena .now) / 16
+long c = let a = c .before .before .before .before .before .args in ltb-false (length (a .arena .now) / 16) (a .self .used) (c .if2 .left)
 
 -- where the service was placed
 placed : (c : tie.After-place-service) {p : Placed} → c .place-service .result ≡ p →
@@ -34,22 +38,25 @@ fits : (c : tie.After-start) →
     Fits (a .self .count) (a .depth) (a .self .used) (length (a .arena .now)) (c .start .given .0 .1 .1 .0)
 fits c =
     let p = c .before .before in
-    service-accepted _ _ _ _ (records (p .before .before .before .before .before .before)) _ _ _ (placed p (c .start .given .1)) (p .before .if2 .left)
+    service-accepted _ _ _ _ (records (p .before .before .before .before .before .before)) _ _ _ (placed p (c .start .given .1)) (long (p .before))
 
 returns : tie.Need-returns
 returns c =
-    let e = service-unsound _ _ _ _ _ _ (sym (c .before .before .is-sound .ensures) ∙ not-true _ (c .before .if1 .taken)) in
+    let s = c .before .before .before in
+    let e = service-unsound _ _ _ _ _ _ (sym (s .is-sound .ensures) ∙ not-true (s .is-sound .result) (c .before .if1 .taken)) in
     (c .refuse .ensures ∙ e, arena-kept _ _ e refl)
 
 returns-2 : tie.Need-returns-2
 returns-2 c =
-    let e = service-short _ _ _ _ _ _ (sound (c .before .before .before)) (c .before .if2 .taken) in
+    let o = c .before .before in
+    let a = o .before .before .before .before .args in
+    let e = service-short _ _ _ _ _ _ (sound o) (ltb-true (length (a .arena .now) / 16) (a .self .used) (c .before .if2 .taken)) in
     (c .refuse2 .ensures ∙ e, arena-kept _ _ e refl)
 
 returns-3 : tie.Need-returns-3
 returns-3 c =
     let p = c .before .before .before .before in
-    let e = service-refused _ _ _ _ _ _ (sound (p .before .before .before)) (p .before .if2 .left) (placed p (c .before .before .refusal .given .1)) in
+    let e = service-refused _ _ _ _ _ _ (sound (p .before .before)) (long (p .before)) (placed p (c .before .before .refusal .given .1)) in
     (c .refuse3 .ensures ∙ e, arena-kept _ _ e refl)
 
 returns-4 : tie.Need-returns-4
@@ -57,7 +64,7 @@ returns-4 c =
     let z = c .before .before .before in
     let s = z .before .before .before in
     let p = s .before .before in
-    let e = service-stored _ _ _ _ _ _ (sound (p .before .before .before)) (p .before .if2 .left) (placed p (s .start .given .1)) in
+    let e = service-stored _ _ _ _ _ _ (sound (p .before .before)) (long (p .before)) (placed p (s .start .given .1)) in
     (c .grow .ensures ∙ e, z .zero .ensures ∙ arena-after _ _ e)
 
 pub add-service-spec : {M : Type 1} → statement M
@@ -73,7 +80,7 @@ add-service-spec =
     (λ c. search needs)
     (λ c κs. search needs)
     (λ c. search needs)
-    (λ c. search needs)
+    (λ c. omega (arith, fits (c .before .before)))
     (λ c. omega (arith, fits (c .before .before)))
     (λ c. omega (arith, fits (c .before .before)))
     (λ c κs. omega (arith, fits (c .before .before)))
