@@ -6,8 +6,8 @@
  * together: save and restore both, or neither.
  *
  * What every call returns
- *   0                      done; of a read or a write that is the status pair 00 00
- *   SF1 << 8 | SF2         another status pair, of a read or a write (uluvoli_pair)
+ *   0                      done; of a read, a write or a board that is the status pair 00 00
+ *   SF1 << 8 | SF2         another status pair, of a read, a write or a board (uluvoli_pair)
  *   number << 16           a refusal (uluvoli_refusal): it has no status pair
  * uluvoli_end_of says which of the three it is. A refusal leaves every byte that the caller lent as it was; a pair other than 00 00 leaves card, arena and output as
  * they were. A number or flag that a call answers is written through its last pointer, only where it returns 0. Each
@@ -42,6 +42,7 @@ enum {
     ULUVOLI_DIRECTORY_MOST = 128,    /* numbers of a directory: a pair for each node */
     ULUVOLI_ELEMENTS_MOST = 512,     /* elements of a request */
     ULUVOLI_CODES_MOST = 16,         /* service codes of a request */
+    ULUVOLI_LANES = 8,               /* lanes of a board */
     ULUVOLI_STACK = 16384,           /* bytes of stack that a call takes, at most */
     ULUVOLI_SYSTEM = 0xffff          /* the code that names the system */
 };
@@ -52,7 +53,7 @@ enum {
     ULUVOLI_TOO_MANY_CODES = 2,              /* over 16 service codes */
     ULUVOLI_LIST_LENGTH = 3,                 /* the list ends before its elements do, or runs on */
     ULUVOLI_SHORT_STAGING = 4,               /* the staging is shorter than the blocks in use */
-    ULUVOLI_SHORT_OUTPUT = 5,                /* the output of a read or a directory is too short */
+    ULUVOLI_SHORT_OUTPUT = 5,                /* the output of a read, a directory or a board is too short */
     ULUVOLI_SHORT_ARENA = 7,                 /* the arena is shorter than the blocks in use */
     ULUVOLI_NOT_BUILT = 8,                   /* bytes that are no card, or a card that no calls build */
     ULUVOLI_INVALID_AREA_RANGE = 11,         /* an area ends before it begins */
@@ -69,7 +70,11 @@ enum {
     ULUVOLI_NO_ROOM = 22,                    /* too few unused blocks in the arena */
     ULUVOLI_NO_SUCH_BLOCK = 23,              /* no such service, or no block of that number */
     ULUVOLI_NOT_A_SERVICE = 28,              /* a limit for a node that is no service */
-    ULUVOLI_NOT_A_BLOCK = 30                 /* a block to set that is not sixteen bytes */
+    ULUVOLI_NOT_A_BLOCK = 30,                /* a block to set that is not sixteen bytes */
+    ULUVOLI_RACES_DIFFER = 40,               /* two filled lanes of a board are of different races */
+    ULUVOLI_WRONG_LANE = 41,                 /* a filled block with another lane's byte */
+    ULUVOLI_BAD_CREW = 42,                   /* a crew byte that is not 20h to 7Eh */
+    ULUVOLI_TAIL_NOT_ZERO = 43               /* a filled block whose last byte is not zero */
 };
 
 /* Status flag 2. Status flag 1 is the place of the element that failed, counted from 1 and at most 255. */
@@ -102,7 +107,7 @@ static inline enum uluvoli_end uluvoli_end_of(uint32_t answer) {
 /* The number of a refusal; 0 for every other answer. */
 static inline uint32_t uluvoli_refusal(uint32_t answer) { return answer >> 16; }
 
-/* Gives the status pair of a read or a write, 00 00 too, and true. A refusal has none: false, and the flags stay. */
+/* Gives the status pair of a read, a write or a board, 00 00 too, and true. A refusal has none: false, and the flags stay. */
 static inline bool uluvoli_pair(uint32_t answer, uint8_t *sf1, uint8_t *sf2) {
     if (uluvoli_end_of(answer) == ULUVOLI_REFUSED) {
         return false;
@@ -148,6 +153,20 @@ uint32_t uluvoli_read(const uint8_t *card, size_t card_len, const uint8_t *arena
 uint32_t uluvoli_write(const uint8_t *card, size_t card_len, uint8_t *arena, size_t arena_len, uint8_t *staging,
                        size_t staging_len, bool open, const uint16_t *codes, size_t codes_len, uint32_t count,
                        const uint8_t *list, size_t list_len, const uint8_t *data, size_t data_len);
+
+/* A lane of a board, in 16 bytes. Of an empty lane all are zero. */
+typedef struct uluvoli_lane {
+    uint8_t filled;     /* 1, or 0 for an empty lane */
+    uint8_t length;     /* how many bytes of `crew` are the crew's code, without trailing spaces */
+    uint16_t race;      /* the race's number */
+    char crew[12];      /* the crew's code, 20h to 7Eh, and zeros; no zero follows twelve of them */
+} uluvoli_lane;
+
+/* Reads the first eight blocks of the service `code`, one request in a session, and writes the board that they make to
+ * the front of `lanes`: ULUVOLI_LANES records of uluvoli_lane, lane 1 first. `lanes_len` counts bytes. Refusals: 8, 7, 5
+ * (for `lanes_len`); a status pair; then 41, 42, 43 lane by lane, and 40. */
+uint32_t uluvoli_board(const uint8_t *card, size_t card_len, const uint8_t *arena, size_t arena_len, uint16_t code,
+                       uint8_t *lanes, size_t lanes_len);
 
 /* ---- questions */
 

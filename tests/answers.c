@@ -1,4 +1,4 @@
-/* Puts the oracle's lists of trees and requests (oracle/README.md) to the library and compares every answer, and every
+/* Puts the oracle's lists of trees, requests and boards (oracle/README.md) to the library and compares every answer, and every
  * byte that was lent, the card's among them (layout.h). Each call is lent memory of its own, of just the lengths that it is
  * told (lent.h). What a call answers through a pointer holds something else before, and a refusal has to leave it. */
 #define _GNU_SOURCE
@@ -9,6 +9,7 @@
 #include <unistd.h>
 
 #include "fields.h"
+#include "lanes.h"
 #include "layout.h"
 #include "lent.h"
 #include "uluvoli.h"
@@ -307,6 +308,37 @@ static void request(char *f[FIELDS]) {
     check(arena_agrees(), "the arena after a request");
 }
 
+/* ---- boards */
+
+/* Asks for the board of a line on the card's bytes as they are; what it wrote is in room. */
+static uint32_t ask_board(char *f[FIELDS]) {
+    mark_room(number(f[2]));
+    memcpy(arena_after, arena, arena_len);
+    const uint8_t *own = lent_card();
+    const uint8_t *blocks = lend(ARENA, arena, arena_len);
+    uint8_t *lanes = lend_writable(ROOM, room, room_len);
+    uint32_t got = uluvoli_board(own, sizeof card, blocks, arena_len, (uint16_t)number(f[1]), lanes, room_len);
+    take_back();
+    return got;
+}
+
+/* A board: its answer, and every byte of the lanes. What is no board leaves them, whatever they were; so does one of a card
+ * with a byte changed, if it is none. */
+static void board(char *f[FIELDS]) {
+    uint32_t wanted = answer(f[3]);
+    size_t at = (lines * 2654435761u >> 7) % sizeof card;
+    uint8_t kept = card[at];
+    card[at] = (uint8_t)(kept + 1 + lines % 255);
+    uint32_t got = ask_board(f);
+    card[at] = kept;
+    check(got == 0 || room_agrees(), "a board of a spoilt card");
+    got = ask_board(f);
+    bytes(f[4], room_wanted, sizeof room_wanted);
+    check(got == wanted, "the answer to a board");
+    check(room_agrees(), "lanes");
+    check(got != 0 || lanes_agree(room, room_wanted), "lanes as C reads them");
+}
+
 static void one_line(char *f[FIELDS]) {
     switch (*f[0]) {
     case 'T': new_card(f); break;
@@ -315,6 +347,7 @@ static void one_line(char *f[FIELDS]) {
     case 's': service(f); break;
     case 'l': limit(f); break;
     case 'b': block(f); break;
+    case 'B': board(f); break;
     case 'D': directory(f); break;
     case 'N': told(f, uluvoli_total); break;
     case 'V': told(f, uluvoli_key_version); break;

@@ -63,6 +63,7 @@ static void on_stack(const char *name, const char *card_name, void (*one)(void))
 
 static uint8_t card[ULUVOLI_CARD_SIZE];
 static uint8_t arena[ARENA], staging[ARENA], out[OUTPUT], data[OUTPUT], list[3 * ULUVOLI_ELEMENTS_MOST];
+static uint8_t lanes[ULUVOLI_LANES * sizeof(uluvoli_lane)];
 static uint16_t pairs[ULUVOLI_DIRECTORY_MOST], codes[ULUVOLI_CODES_MOST], names[LIST], code;
 static size_t place;
 static uint16_t told;
@@ -90,6 +91,9 @@ static void read_blocks(void) {
 static void write_blocks(void) {
     answer = uluvoli_write(card, sizeof card, arena, sizeof arena, staging, sizeof staging, false, codes,
                            ULUVOLI_CODES_MOST, ULUVOLI_ELEMENTS_MOST, list, sizeof list, data, sizeof data);
+}
+static void board(void) {
+    answer = uluvoli_board(card, sizeof card, arena, sizeof arena, code, lanes, sizeof lanes);
 }
 static void directory(void) {
     answer = uluvoli_directory(card, sizeof card, pairs, ULUVOLI_DIRECTORY_MOST, &place);
@@ -216,7 +220,30 @@ static size_t name_services(void) {
     return services;
 }
 
-/* Every question, read and write, on a card of 64 nodes. */
+/* Fills the lanes of the store that is asked about: twelve bytes of crew each, and of race 7 but for the last lane's. */
+static void fill_lanes(uint8_t last_race) {
+    for (uint8_t i = 0; i < ULUVOLI_LANES; i++) {
+        uint8_t block[] = "\1\7\0CREW OF BOAT";
+        block[0] = (uint8_t)(i + 1);
+        block[1] = i + 1 < ULUVOLI_LANES ? 7 : last_race;
+        answer = uluvoli_set_block(card, sizeof card, arena, sizeof arena, code, i, block, ULUVOLI_BLOCK_SIZE);
+        must(answer == 0, "a lane was refused");
+    }
+}
+
+/* A board of every kind: of empty lanes, of filled ones, of two races; the lanes are empty again afterwards. */
+static void ask_board(bool has) {
+    expect("board, empty", board, has ? 0 : 0x0100 | ULUVOLI_SF2_ATTRIBUTE);
+    if (has) {
+        fill_lanes(7);
+        expect("board", board, 0);
+        fill_lanes(8);
+        expect("board, refused", board, ULUVOLI_RACES_DIFFER << 16);
+        memset(arena, 0, sizeof arena);
+    }
+}
+
+/* Every question, read, write and board, on a card of 64 nodes. */
 static void ask(uint16_t wanted_total) {
     expect("directory", directory, 0);
     must(place == ULUVOLI_NODES_MOST, "the directory has other nodes");
@@ -234,6 +261,7 @@ static void ask(uint16_t wanted_total) {
     code = codes[0];
     expect("set_block", set_block, has ? 0 : ULUVOLI_NO_SUCH_BLOCK << 16);
     expect("stored_block", stored_block, has ? 0 : ULUVOLI_NO_SUCH_BLOCK << 16);
+    ask_board(has);
     expect("read", read_blocks, has ? 0 : 0x0100 | ULUVOLI_SF2_ATTRIBUTE);
     expect("write", write_blocks, has ? 0 : 0x0100 | ULUVOLI_SF2_ATTRIBUTE);
     expect("set_limit", set_limit, service_last ? 0 : ULUVOLI_NOT_A_SERVICE << 16);

@@ -3,14 +3,16 @@
 //!
 //! From the bottom up: `felica_standard` is the Rust with our stand-ins around it. What its
 //! emulator hides from the outside is asked through `emulator::doors`. `refusal` has the numbers of
-//! docs/RULES.md, `tree` grows a card by its rules, `request` serves a request on it, and `replay`
-//! answers a whole text. `leaves` asks the questions that need no card, `trees` those about
-//! growing one, `requests` those about requests, `texts` those about whole texts, `terminals` those
-//! about two lists of requests on one card; `draw` draws what they ask about. `beside` puts texts to
-//! another program and compares. `random`, `hex`, `lines`, `files`, `cause`, `counts` and `program`
-//! are tools.
+//! docs/RULES.md, `tree` grows a card by its rules, `request` serves a request on it, `board` works
+//! a lane board out of eight blocks, and `replay` answers a whole text. `leaves` asks the questions
+//! that need no card, `trees` those about growing one, `requests` those about requests, `boards`
+//! those about boards, `texts` those about whole texts, `terminals` those about two lists of
+//! requests on one card; `draw` draws what they ask about. `beside` puts texts to another program
+//! and compares. `random`, `hex`, `lines`, `files`, `cause`, `counts` and `program` are tools.
 
 pub mod beside;
+pub mod board;
+pub mod boards;
 pub mod cause;
 pub mod counts;
 pub mod draw;

@@ -1,5 +1,7 @@
 //! The lines that make a card, which several lists have in common. `README.md` describes them.
 
+use crate::felica_standard::emulator::doors::Block;
+use crate::hex::hex;
 use crate::refusal::Refusal;
 use crate::tree::{Addition, Card};
 
@@ -37,4 +39,9 @@ pub fn addition(addition: Addition, refusal: Refusal, used: u32) -> String {
             format!("l {upper:08X} {lower:08X} {generation:02X} {refusal:02X}\n")
         }
     }
+}
+
+/// The line that sets a block.
+pub fn block(code: u16, number: u32, block: &Block) -> String {
+    format!("b {code:04X} {number:04X} {}\n", hex(block))
 }

@@ -19,6 +19,10 @@ pub const NO_BLOCKS_LEFT: Refusal = 22;
 pub const NO_SUCH_BLOCK: Refusal = 23;
 pub const LIMIT_ON_NO_SERVICE: Refusal = 28;
 pub const IMAGE_LINE: Refusal = 30;
+pub const RACES_DIFFER: Refusal = 40;
+pub const WRONG_LANE: Refusal = 41;
+pub const BAD_CREW: Refusal = 42;
+pub const TAIL_NOT_ZERO: Refusal = 43;
 
 /// The number of an error of the Rust.
 pub fn of_rust(error: &EmulatorConfigError) -> Refusal {

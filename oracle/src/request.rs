@@ -12,7 +12,7 @@ pub const MOST_ELEMENTS: u32 = 512;
 pub const MOST_CODES: usize = 16;
 
 /// The pair of a request that was carried out.
-const DONE: Pair = (0x00, 0x00);
+pub const DONE: Pair = (0x00, 0x00);
 
 /// The pair of a write whose data are too short.
 const DATA_SHORT: Pair = (0xFF, 0xAC);
@@ -27,6 +27,22 @@ pub struct Request {
     pub count: u32,
     pub list: Vec<u8>,
     pub data: Vec<u8>,
+}
+
+impl Request {
+    /// A read in a session of blocks of one service.
+    pub fn read_of(code: u16, numbers: impl Iterator<Item = u16>) -> Self {
+        let elements = numbers.map(|number| BlockListElement::new(number, 0, 0));
+        let packed: Vec<Vec<u8>> = elements.map(|element| element.pack()).collect();
+        Request {
+            write: false,
+            open: false,
+            codes: vec![code],
+            count: packed.len() as u32,
+            list: packed.concat(),
+            data: Vec::new(),
+        }
+    }
 }
 
 /// What a request that is not refused is told: the pair, and the bytes read.

@@ -6,7 +6,7 @@ use crate::counts::Counts;
 use crate::draw::{codes, requests};
 use crate::random::Random;
 use crate::replay::ARENA;
-use crate::request;
+use crate::request::{self, Request};
 use crate::texts::line::Line;
 use crate::texts::served;
 use crate::tree::Card;
@@ -164,7 +164,7 @@ fn every_block(card: &Card) -> Vec<Line> {
     });
     let read = |code: u16| {
         let count = card.store(code).unwrap_or(0) as u16;
-        Line::request(&requests::read_of(code, 0..count))
+        Line::request(&Request::read_of(code, 0..count))
     };
     codes.into_iter().map(read).collect()
 }

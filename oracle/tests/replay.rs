@@ -59,6 +59,8 @@ fn first_line() {
         "svc|1|1049|2|0000",
         "R|O|-|0|-",
         "W",
+        "L|1049",
+        "L",
         "card|1|0",
         "Card|0001|0000",
     ] {
@@ -156,6 +158,16 @@ fn request_lines() {
         ("R|O|1049|1|-", "! 3 -"),
         ("R|O|1049|1|800000", "! 3 -"),
         ("R|O|1049|0|8000", "! 3 -"),
+        ("L|1049", "03 A8 3"),
+        ("L|104b", "03 A8 3"),
+        ("L|2055", "02 A8 2"),
+        ("L|1048", "01 A6 1"),
+        ("L|FFFF", "01 A4 1"),
+        ("L|10491049", "! 6 -"),
+        ("L|1049|", "! 6 -"),
+        ("L|-", "! 6 -"),
+        ("L|", "! 6 -"),
+        ("L", "! 6 -"),
         ("R", "! 6 -"),
         ("W", "! 6 -"),
         ("W|O|1049|1|8000", "! 6 -"),
@@ -173,7 +185,7 @@ fn request_lines() {
 }
 
 /// A line has 32,768 bytes at most, with or without an LF; a longer one whose first field is
-/// `R` or `W` is a malformed request, any other a malformed line of the image.
+/// `R`, `W` or `L` is a malformed request, any other a malformed line of the image.
 #[test]
 fn long_lines() {
     let image = "card\t0001\t0000\nsvc\t1\t1049\t2\t0000\n";
@@ -187,6 +199,7 @@ fn long_lines() {
     assert_eq!(text(&filled(write, 32_770)), "1\t!\t6\t-\t-\n");
     let ended = filled(write, 32_768) + "\n" + &filled("R\t", 32_769) + "\n";
     assert_eq!(text(&ended), "1\t00\t00\t-\t-\n2\t!\t6\t-\t-\n");
+    assert_eq!(text(&filled("L\t", 32_769)), "1\t!\t6\t-\t-\n");
     assert_eq!(text(&filled("svc\t", 32_769)), "image\t3\t30\n");
     assert_eq!(text(&filled("RW", 32_769)), "image\t3\t30\n");
     assert_eq!(replay(filled("R\t", 32_769).as_bytes()), "image\t1\t30\n");
@@ -215,6 +228,7 @@ fn any_bytes() {
         "card\t0001\t0000\n",
         "R\tO\t",
         "W\tS\t",
+        "L\t",
         "svc\t1\t",
         "1049\t",
         "\n",
@@ -234,7 +248,8 @@ fn any_bytes() {
         }
         for line in replay(&text).lines() {
             let fields = line.split('\t').count();
-            assert!(fields == 5 || line.starts_with("image\t") && fields == 3);
+            let lane = line.starts_with(|first| ('1'..='8').contains(&first));
+            assert!(fields == 5 || fields == 3 && (lane || line.starts_with("image\t")));
         }
     }
 }

@@ -74,6 +74,16 @@ extern "C" {
         data_len: usize,
     ) -> u32;
 
+    pub fn uluvoli_board(
+        card: *const u8,
+        card_len: usize,
+        arena: *const u8,
+        arena_len: usize,
+        code: u16,
+        lanes: *mut u8,
+        lanes_len: usize,
+    ) -> u32;
+
     pub fn uluvoli_directory(
         card: *const u8,
         card_len: usize,

@@ -13,6 +13,8 @@ pub const CARD_SIZE: usize = 1288;
 pub const STACK: usize = 16_384;
 /// Bytes of a block.
 pub const BLOCK_SIZE: usize = 16;
+/// Lanes of a board.
+pub const LANES: usize = 8;
 /// The code that names the system.
 pub const SYSTEM: u16 = 0xffff;
 
@@ -48,6 +50,15 @@ pub struct Request<'a> {
     pub list: &'a [u8],
 }
 
+/// A filled lane of a board.
+#[derive(Clone, Debug, PartialEq, Eq)]
+pub struct Lane {
+    /// The race's number.
+    pub race: u16,
+    /// The crew's code, without trailing spaces.
+    pub crew: String,
+}
+
 /// A card, as its bytes.
 #[derive(Clone, Debug, PartialEq, Eq)]
 pub struct Card([u8; CARD_SIZE]);
@@ -67,6 +78,16 @@ fn replied(answer: u32) -> Result<(), Failure> {
         [_, _, 0, 0] => Ok(()),
         [_, _, sf1, sf2] => Err(Failure::Pair { sf1, sf2 }),
     }
+}
+
+/// A lane from its record: filled, length, race low byte first, crew and zeros.
+fn lane(record: &[u8]) -> Option<Lane> {
+    let race = u16::from_le_bytes([record[2], record[3]]);
+    let crew = &record[4..4 + record[1] as usize];
+    (record[0] == 1).then(|| Lane {
+        race,
+        crew: String::from_utf8_lossy(crew).into_owned(),
+    })
 }
 
 impl Card {
@@ -208,6 +229,27 @@ impl Card {
                 data.len(),
             )
         })
+    }
+
+    /// Reads the first eight blocks of a service in a session, and gives the board that they make, lane 1 first; `None`
+    /// is an empty lane.
+    pub fn board(&self, arena: &[u8], code: u16) -> Result<[Option<Lane>; LANES], Failure> {
+        let mut lanes = [0; LANES * BLOCK_SIZE];
+        // SAFETY: the pointers are valid for their lengths; the lanes are lent for writing, and apart.
+        replied(unsafe {
+            ffi::uluvoli_board(
+                self.0.as_ptr(),
+                CARD_SIZE,
+                arena.as_ptr(),
+                arena.len(),
+                code,
+                lanes.as_mut_ptr(),
+                lanes.len(),
+            )
+        })?;
+        Ok(std::array::from_fn(|k| {
+            lane(&lanes[BLOCK_SIZE * k..][..BLOCK_SIZE])
+        }))
     }
 
     /// Writes the tree to the front of `out`, a pair for each node, and gives how many nodes there are.

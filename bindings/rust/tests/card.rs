@@ -1,6 +1,6 @@
 //! A marshal and a tower through the safe calls.
 
-use uluvoli::{Card, Failure, Refusal, Request, BLOCK_SIZE, CARD_SIZE, SYSTEM};
+use uluvoli::{Card, Failure, Lane, Refusal, Request, BLOCK_SIZE, CARD_SIZE, LANES, SYSTEM};
 
 const MARSHAL: u16 = 0x1049;
 const TOWER: u16 = 0x104b;
@@ -127,6 +127,74 @@ fn the_tree_answers() {
         ],
         [Ok(true), Ok(false)]
     );
+}
+
+/// The block of a lane of race 7.
+fn drawn(lane: u8, crew: &str) -> [u8; BLOCK_SIZE] {
+    let mut block = [b' '; BLOCK_SIZE];
+    block[..3].copy_from_slice(&[lane, 7, 0]);
+    block[3..][..crew.len()].copy_from_slice(crew.as_bytes());
+    block[15] = 0;
+    block
+}
+
+/// A card with eight lanes, of which these are filled.
+fn lanes(arena: &mut [u8], crews: &[(u8, &str)]) -> Card {
+    let mut card = Card::new(0x0001, 0x0000);
+    card.add_service(arena, 1, MARSHAL, LANES as u32, 0)
+        .unwrap();
+    card.add_service(arena, 1, TOWER, LANES as u32, 0).unwrap();
+    for &(lane, crew) in crews {
+        card.set_block(arena, MARSHAL, u32::from(lane) - 1, &drawn(lane, crew))
+            .unwrap();
+    }
+    card
+}
+
+#[test]
+fn a_board_shows_the_last_redraw() {
+    let (mut arena, mut staging) = ([0u8; 128], [0u8; 128]);
+    let card = lanes(&mut arena, &[(1, "LEANDER"), (2, " A  B"), (8, "")]);
+    let lane = |crew: &str| {
+        Some(Lane {
+            race: 7,
+            crew: crew.into(),
+        })
+    };
+    let mut board = [const { None }; LANES];
+    (board[0], board[1], board[7]) = (lane("LEANDER"), lane(" A  B"), lane(""));
+    assert_eq!(card.board(&arena, TOWER), Ok(board.clone()));
+    let redraw = [drawn(1, "TWELVE BYTES"), [0; BLOCK_SIZE]].concat();
+    card.write(&mut arena, &mut staging, &blocks(&[MARSHAL], 2), &redraw)
+        .unwrap();
+    (board[0], board[1]) = (lane("TWELVE BYTES"), None);
+    assert_eq!(card.board(&arena, TOWER), Ok(board));
+}
+
+#[test]
+fn a_board_is_refused() {
+    let mut arena = [0u8; 128];
+    let card = lanes(&mut arena, &[(1, "LEANDER"), (2, "THAMES")]);
+    let mut after = |lane: u32, byte: usize, value: u8| {
+        let mut block = drawn(lane as u8, "THAMES");
+        block[byte] = value;
+        card.set_block(&mut arena, MARSHAL, lane - 1, &block)
+            .unwrap();
+        card.board(&arena, TOWER)
+    };
+    let refused = |number| Err(Failure::Refused(Refusal(number)));
+    assert_eq!(after(2, 2, 1), refused(40));
+    assert_eq!(after(3, 15, 1), refused(43));
+    assert_eq!(after(2, 14, 0), refused(42));
+    assert_eq!(after(1, 0, 2), refused(41));
+    let unknown = card.board(&arena, CREDIT);
+    assert_eq!(unknown, Err(Failure::Pair { sf1: 1, sf2: 0xa6 }));
+    assert_eq!(card.board(&arena[..127], TOWER), refused(7));
+    let mut few = [0u8; 128];
+    let short = race(&mut few).board(&few, TOWER);
+    assert_eq!(short, Err(Failure::Pair { sf1: 3, sf2: 0xa8 }));
+    let broken = Card::from_bytes([0; CARD_SIZE]).board(&few, TOWER);
+    assert_eq!(broken, refused(8));
 }
 
 #[test]

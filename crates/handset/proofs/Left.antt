@@ -39,10 +39,14 @@ use Rattle.request_plan.specs.Request.{Request}
 use Rattle.request_plan.specs.Plan.{Plan, stop, go, planOf, rowsIn}
 use Rattle.request_plan.specs.Serve.{committed, carried, planServed, serve, outputAfter, stagingBy}
 use Rattle.request_block.specs.Block.{blockPlace, blockJudged, setBy, arenaSet}
+use Rattle.board_read.specs.declared.Refreshed.{Refreshed}
+use Rattle.board_read.specs.declared.Refreshed.the-variants.{Board, NoBoard, Card as ByCard}
+use Rattle.board_read.specs.Refresh.{boardServed}
 use Rattle.handset.specs.Outcome.{answerAs}
 use Rattle.handset.specs.Kept.{cardBy, cardAfter}
 use Rattle.handset.specs.Told.{toldAs, toldAfter, listedAs, listedAfter}
 use Rattle.handset.specs.Checked.{checkedAs, checkedAfter}
+use Rattle.handset.specs.Board.{refreshedAs, boardRoom, boardMade, recordsBy, recordsAfter}
 use Rattle.handset.specs.Block.{unfitAfter, setAnswer, setAfter, placeBy, placeAfter}
 
 -- the number of a question
@@ -90,6 +94,17 @@ set-left c arena code number block h = by (eqb (length block) 16) (blockJudged c
     by false x h = refl
     by true Accepted h = absurd (h refl)
     by true (Refused r) h = refl
+
+-- the records of a board
+pub board-left : (c : Card) (arena : List ℕ) (code : ℕ) (old : List ℕ) → (refreshedAs (boardMade c arena code old) ≡ 0 → ⊥) →
+    recordsAfter c arena code old ≡ old
+unfolding recordsAfter
+board-left c arena code old h = by (boardMade c arena code old) h
+  where
+    by : (x : Refreshed) → (refreshedAs x ≡ 0 → ⊥) → recordsBy old (boardServed c arena code (boardRoom (length old)) .read) x ≡ old
+    by Board h = absurd (h refl)
+    by (NoBoard x) h = refl
+    by (ByCard reply) h = refl
 
 -- the output of a directory
 pub directory-left : (c : Card) (out : List ℕ) → (listedAs (directoryAnswer c (length out)) ≡ 0 → ⊥) → directoryOut c out ≡ out

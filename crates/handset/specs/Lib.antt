@@ -4,3 +4,4 @@ pub mod Told
 pub mod Checked
 pub mod Reply
 pub mod Block
+pub mod Board

@@ -14,7 +14,7 @@ ghost use Rattle.handset_bytes.specs.Card.{decodedOf};
 ghost use Rattle.handset.specs.Reply.{replyAs};
 
 // The number that a request returns: its status pair, or its refusal.
-fn replied(reply: Reply) -> u32
+pub(crate) fn replied(reply: Reply) -> u32
     ensures { λ r. ⌜ r ≡ replyAs reply ⌝ }
 {
     match reply.response() {

@@ -1,5 +1,5 @@
 -- The laws: Own (the program's read and write), Library (those of the library), Lines (request lines).
-mod Kept
+pub mod Kept
 pub mod Own
 pub mod Library
 pub mod Lines

@@ -38,7 +38,7 @@ unfolding nodesIn
 nodes-long zero s = refl
 nodes-long (suc n) s = ap suc (nodes-long n (drop 20 s))
 
-decoded-long : (s : List ℕ) → length (decodedOf s .nodes) ≡ 64
+pub decoded-long : (s : List ℕ) → length (decodedOf s .nodes) ≡ 64
 unfolding decodedOf
 decoded-long s = by-test (isCard s)
   where

@@ -5,4 +5,5 @@ pub mod Cards
 pub mod Requests
 pub mod Texts
 pub mod Lines
+pub mod Boards
 pub mod Library

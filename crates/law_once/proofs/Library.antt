@@ -23,6 +23,7 @@ use Rattle.handset.proofs.lists.uluvoli_area_list as handset·uluvoli-area-list
 use Rattle.handset.proofs.lists.uluvoli_service_list as handset·uluvoli-service-list
 use Rattle.handset.proofs.requests.uluvoli_read as handset·uluvoli-read
 use Rattle.handset.proofs.requests.uluvoli_write as handset·uluvoli-write
+use Rattle.handset.proofs.board.uluvoli_board as handset·uluvoli-board
 use Rattle.handset.proofs.blocks.uluvoli_set_block as handset·uluvoli-set-block
 use Rattle.handset.proofs.blocks.uluvoli_stored_block as handset·uluvoli-stored-block
 
@@ -68,6 +69,9 @@ module _ {M : Type 1} (𝓤 : URA M) (H : Heap 𝓤) (A : Atoms 𝓤) (mem : Mem
 
   pub handset·uluvoli-write-once : OneAnswer 𝓤 handset·uluvoli-write.ended (handset·uluvoli-write.clauses 𝓤 H A mem run)
   handset·uluvoli-write-once κs a g r r′ ws ws′ = of-three 𝓤 (λ p p′ p″ q q′ q″. (once p q, λ i. (tt, (once p′ q′ i, (once p″ q″ i, (tt, (tt, (tt, (tt, (tt, tt))))))))))
+
+  pub handset·uluvoli-board-once : OneAnswer 𝓤 handset·uluvoli-board.ended (handset·uluvoli-board.clauses 𝓤 H A mem run)
+  handset·uluvoli-board-once κs a g r r′ ws ws′ = of-two 𝓤 (λ p p′ q q′. (once p q, λ i. (tt, (tt, (tt, (once p′ q′ i, tt))))))
 
   pub handset·uluvoli-set-block-once : OneAnswer 𝓤 handset·uluvoli-set-block.ended (handset·uluvoli-set-block.clauses 𝓤 H A mem run)
   handset·uluvoli-set-block-once κs a g r r′ ws ws′ = of-two 𝓤 (λ p p′ q q′. (once p q, λ i. (tt, (once p′ q′ i, (tt, (tt, (tt, tt)))))))

@@ -11,9 +11,11 @@ use Rattle.law_once.specs.One.{OneAnswer}
 use Rattle.law_once.proofs.Law.{once, of-two, of-facts, of-four, result}
 use Rattle.line_image.proofs.line.read_line as line_image·read-line
 use Rattle.line_image.proofs.image.image_line as line_image·image-line
+use Rattle.line_request.proofs.is_letter as line_request·is-letter
 use Rattle.line_request.proofs.is_request as line_request·is-request
 use Rattle.line_request.proofs.ask_of as line_request·ask-of
 use Rattle.line_answer.proofs.put_number as line_answer·put-number
+use Rattle.line_answer.proofs.put_refusal as line_answer·put-refusal
 use Rattle.line_answer.proofs.put_fields as line_answer·put-fields
 use Rattle.line_answer.proofs.put_answer as line_answer·put-answer
 use Rattle.line_serve.proofs.serve_line as line_serve·serve-line
@@ -33,6 +35,9 @@ module _ {M : Type 1} (𝓤 : URA M) (H : Heap 𝓤) (A : Atoms 𝓤) (mem : Mem
   pub line_image·image-line-once : OneAnswer 𝓤 line_image·image-line.ended (line_image·image-line.clauses 𝓤 H A mem run)
   line_image·image-line-once κs a g r r′ ws ws′ = of-two 𝓤 (λ p p′ q q′. (once p q, λ i. (tt, (tt, (once p′ q′ i, (tt, tt))))))
 
+  pub line_request·is-letter-once : OneAnswer 𝓤 line_request·is-letter.ended (line_request·is-letter.clauses 𝓤 H A mem run)
+  line_request·is-letter-once κs a g r r′ ws ws′ = result 𝓤 refl
+
   pub line_request·is-request-once : OneAnswer 𝓤 line_request·is-request.ended (line_request·is-request.clauses 𝓤 H A mem run)
   line_request·is-request-once κs a g r r′ ws ws′ = result 𝓤 refl
 
@@ -41,6 +46,9 @@ module _ {M : Type 1} (𝓤 : URA M) (H : Heap 𝓤) (A : Atoms 𝓤) (mem : Mem
 
   pub line_answer·put-number-once : OneAnswer 𝓤 line_answer·put-number.ended (line_answer·put-number.clauses 𝓤 H A mem run)
   line_answer·put-number-once κs a g r r′ ws ws′ = of-two 𝓤 (λ p p′ q q′. (once (p .place) (q .place), λ i. (tt, (tt, (once (p .bytes) (q .bytes) i, (tt, tt))))))
+
+  pub line_answer·put-refusal-once : OneAnswer 𝓤 line_answer·put-refusal.ended (line_answer·put-refusal.clauses 𝓤 H A mem run)
+  line_answer·put-refusal-once κs a g r r′ ws ws′ = of-two 𝓤 (λ p p′ q q′. (once (p .place) (q .place), λ i. (tt, (tt, (once (p .bytes) (q .bytes) i, (tt, tt))))))
 
   pub line_answer·put-fields-once : OneAnswer 𝓤 line_answer·put-fields.ended (line_answer·put-fields.clauses 𝓤 H A mem run)
   line_answer·put-fields-once κs a g r r′ ws ws′ = of-two 𝓤 (λ p p′ q q′. (once (p .place) (q .place), λ i. (tt, (tt, (tt, (once (p .bytes) (q .bytes) i, (tt, tt)))))))

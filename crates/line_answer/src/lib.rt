@@ -61,8 +61,8 @@ fn put_flag(flag: u8, out: &mut [u8], at: usize) -> usize
     last + 1
 }
 
-// Puts the fields of a refused request, and answers the place after them.
-fn put_refusal(ordinal: u64, number: u8, out: &mut [u8], at: usize) -> usize
+// Puts the fields of a refused request, and answers the place after them; the caller ends the line.
+pub fn put_refusal(ordinal: u64, number: u8, out: &mut [u8], at: usize) -> usize
     requires { ⌜ at + 47 ≤ length (now out) ⌝ }
     ensures { λ r. ⌜ Written (now (out .entry)) at (refusalFields ordinal number) r (now (out .exit)) ⌝ }
     ensures { λ r. ⌜ r ≤ at + 47 ⌝ }

@@ -17,7 +17,7 @@ pub enum Ask {
 }
 
 // Whether field k of a line is one letter.
-fn is_letter(line: &[u8], k: usize, letter: u8) -> bool
+pub fn is_letter(line: &[u8], k: usize, letter: u8) -> bool
     ensures { λ r. ⌜ r ≡ isLetter letter (fieldIn (now (line .entry)) k) ⌝ }
 {
     let s = text_fields::field(line, k, b'\t');

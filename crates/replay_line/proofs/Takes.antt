@@ -14,11 +14,12 @@ use Rattle.text_stream.proofs.Prints.{written-none}
 use Rattle.line_image.specs.Image.{Imaged, imageStep}
 use Rattle.line_serve.specs.Line.{lineServed, workAfter, bytesAfter}
 use Rattle.line_serve.specs.Text.{mostPrinted, requestText}
+use Rattle.board_line.specs.Line.{boardLineText}
 use Rattle.replay_state.specs.declared.Phase.the-variants.{Image, Requests, Ended}
 use Rattle.replay_state.specs.declared.Replay.{Replay}
 use Rattle.replay_state.specs.Phases.{oneMore, refusalText}
 use Rattle.replay_line.specs.declared.Kind.the-variants as kinds
-use Rattle.replay_line.specs.Replay.{lentBytes, Held, held, kindOf, imageHeld, imageText, requestHeld, lineHeld, lineText, workHeld, bytesHeld}
+use Rattle.replay_line.specs.Replay.{lentBytes, Held, held, kindOf, imageHeld, imageText, requestHeld, boardHeld, lineHeld, lineText, workHeld, bytesHeld}
 
 module _ (p : Replay) (t : Imaged) {added : Added} {arena : List ℕ} {n : ℕ} (e : added ≡ t .added) (a : arena ≡ t .arena) (l : n ≡ oneMore (p .lines)) where
   -- what the image line was answered
@@ -47,6 +48,12 @@ pub request-held
     → held (record { card = p .card; phase = Requests; lines = p .lines; asked = n }) arena′ ≡ requestHeld (held p arena) line
 request-held p arena work line e h a = rw (e, a, h)
 
+-- So does a refresh of the board.
+pub board-held
+    : (p : Replay) (arena : List ℕ) {n : ℕ} → n ≡ oneMore (p .asked)
+    → held (record { card = p .card; phase = Requests; lines = p .lines; asked = n }) arena ≡ boardHeld (held p arena)
+board-held p arena e = rw e
+
 module _ (s : Held) (line : List ℕ) {r : Held} {out out′ : List ℕ} {at k : ℕ} where
   -- A line that is taken for an image line.
   pub image-taken
@@ -68,6 +75,16 @@ module _ (s : Held) (line : List ℕ) {r : Held} {out out′ : List ℕ} {at k :
       × ((work′ ≡ workHeld s work line) × (bytes′ ≡ bytesHeld s bytes line)))
   unfolding lineHeld lineText workHeld bytesHeld
   request-taken work bytes e w = rw e w
+
+-- For a refresh.
+pub board-taken
+    : (s : Held) (line work bytes : List ℕ) {r : Held} {out out′ : List ℕ} {at k : ℕ} → kindOf (s .replay .phase) line ≡ kinds.Board
+    → (r ≡ boardHeld s)
+    × (Written out at (boardLineText (s .replay .card) (s .arena) line (oneMore (s .replay .asked))) k out′ × (k ≤ at + mostPrinted))
+    → (r ≡ lineHeld s line) × ((Written out at (lineText s line) k out′ × (k ≤ at + mostPrinted))
+    × ((work ≡ workHeld s work line) × (bytes ≡ bytesHeld s bytes line)))
+unfolding lineHeld lineText workHeld bytesHeld
+board-taken s line work bytes e w = rw e (w .0, (w .1, (refl, refl)))
 
 -- For nothing.
 pub nothing-taken

@@ -10,6 +10,7 @@ use Rattle.line_image.specs.Image.{Imaged, imageStep}
 use Rattle.line_request.specs.Ask.{requestLine}
 use Rattle.line_serve.specs.Line.{lineServed, workAfter, bytesAfter}
 use Rattle.line_serve.specs.Text.{requestText}
+use Rattle.board_line.specs.Line.{boardLine, boardLineText}
 use Rattle.replay_state.specs.declared.Phase.{Phase}
 use Rattle.replay_state.specs.declared.Phase.the-variants.{First, Image, Requests, Ended}
 use Rattle.replay_state.specs.declared.Replay.{Replay}
@@ -29,12 +30,12 @@ pub record Held : Type 0 where
 abbrev pub held : Replay → List ℕ → Held
 held p arena = record { replay = p; arena = arena }
 
--- line 1 is an image line, whatever it says; so is each later line up to the first request; from there on every line is a request; a
--- refused image line has ended the run, and what comes after it is nothing
+-- line 1 is an image line, whatever it says; so is each later line up to the first request or refresh of the board; from there on every
+-- line is a refresh or a request; a refused image line has ended the run, and what comes after it is nothing
 unfoldable pub kindOf : Phase → List ℕ → Kind
 kindOf First line = kinds.Image true
-kindOf Image line = cond (requestLine line) kinds.Request (kinds.Image false)
-kindOf Requests line = kinds.Request
+kindOf Image line = cond (boardLine line) kinds.Board (cond (requestLine line) kinds.Request (kinds.Image false))
+kindOf Requests line = cond (boardLine line) kinds.Board kinds.Request
 kindOf Ended line = kinds.Nothing
 
 -- an image line builds the card; a refused one ends the run
@@ -57,16 +58,23 @@ requestHeld s line =
     held (record { card = s .replay .card; phase = Requests; lines = s .replay .lines; asked = oneMore (s .replay .asked) })
     (lineServed (s .replay .card) (s .arena) lentBytes line .arena)
 
+-- a refresh of the board takes an ordinal too; card and arena stay
+abbrev pub boardHeld : Held → Held
+boardHeld s =
+    held (record { card = s .replay .card; phase = Requests; lines = s .replay .lines; asked = oneMore (s .replay .asked) }) (s .arena)
+
 -- the state after a line, by what it is taken for, and what the line prints
 abbrev pub heldBy : Kind → Held → List ℕ → Held
 heldBy (kinds.Image first) s line = imageHeld (s .replay) (imageStep first (s .replay .card) (s .arena) line)
 heldBy kinds.Request s line = requestHeld s line
+heldBy kinds.Board s line = boardHeld s
 heldBy kinds.Nothing s line = s
 
 abbrev pub textBy : Kind → Held → List ℕ → List ℕ
 textBy (kinds.Image first) s line =
     imageText (oneMore (s .replay .lines)) (imageStep first (s .replay .card) (s .arena) line .added .answer)
 textBy kinds.Request s line = requestText (s .replay .card) (s .arena) lentBytes line (oneMore (s .replay .asked))
+textBy kinds.Board s line = boardLineText (s .replay .card) (s .arena) line (oneMore (s .replay .asked))
 textBy kinds.Nothing s line = []
 
 unfoldable pub lineHeld : Held → List ℕ → Held
@@ -94,11 +102,13 @@ replayOf text = saysOf replayMachine atStart text
 abbrev pub workBy : Kind → Held → List ℕ → List ℕ → List ℕ
 workBy (kinds.Image first) s work line = work
 workBy kinds.Request s work line = workAfter (s .replay .card) (s .arena) work line
+workBy kinds.Board s work line = work
 workBy kinds.Nothing s work line = work
 
 abbrev pub bytesBy : Kind → List ℕ → List ℕ → List ℕ
 bytesBy (kinds.Image first) bytes line = bytes
 bytesBy kinds.Request bytes line = bytesAfter bytes line
+bytesBy kinds.Board bytes line = bytes
 bytesBy kinds.Nothing bytes line = bytes
 
 unfoldable pub workHeld : Held → List ℕ → List ℕ → List ℕ

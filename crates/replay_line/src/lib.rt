@@ -11,13 +11,16 @@ ghost use Rattle.text_stream.specs.Stream.{Written};
 ghost use Rattle.line_image.specs.Image.{imageStep};
 ghost use Rattle.line_serve.specs.Line.{workAfter, bytesAfter};
 ghost use Rattle.line_serve.specs.Text.{mostSpelled, mostPrinted, requestText};
+ghost use Rattle.board_line.specs.Line.{boardLineText};
 ghost use Rattle.replay_state.specs.Phases.{oneMore};
-ghost use Rattle.replay_line.specs.Replay.{lentBytes, held, kindOf, imageHeld, imageText, requestHeld, lineHeld, lineText, workHeld, bytesHeld};
+ghost use Rattle.replay_line.specs.Replay.{lentBytes, held, kindOf, imageHeld, imageText, requestHeld, boardHeld, lineHeld, lineText, workHeld, bytesHeld};
 
-// What a line is taken for: an image line, the first or a later one; a request; or nothing, after the end of the run.
+// What a line is taken for: an image line, the first or a later one; a request; a refresh of the lane board; or nothing, after the end of
+// the run.
 pub enum Kind {
     Image(bool),
     Request,
+    Board,
     Nothing,
 }
 
@@ -104,19 +107,44 @@ fn request_line(
     }
 }
 
+// Takes a refresh of the lane board: it takes the next ordinal, and card and arena stay.
+fn refresh_line(replay: Replay, arena: &[u8], line: &[u8], out: &mut [u8], at: usize) -> Taken
+    requires { ⌜ at + mostPrinted ≤ length (now out) ⌝ }
+    ensures { λ r. ⌜ held (r .replay) (now (arena .entry)) ≡ boardHeld (held replay (now (arena .entry))) ⌝ }
+    ensures { λ r. ⌜ Written (now (out .entry)) at (boardLineText (replay .card) (now (arena .entry)) (now (line .entry)) (oneMore (replay .asked))) (r .at) (now (out .exit)) × (r .at ≤ at + mostPrinted) ⌝ }
+{
+    let card = replay.card;
+    let phase = Phase::Requests;
+    let ordinal = one_more(replay.asked);
+    let last = board_line::board_line(card, arena, line, ordinal, out, at);
+    Taken {
+        replay: Replay {
+            card,
+            phase,
+            lines: replay.lines,
+            asked: ordinal,
+        },
+        at: last,
+    }
+}
+
 // What a line is taken for where a replay is, by its first field.
 fn kind_of(phase: Phase, line: &[u8]) -> Kind
     ensures { λ r. ⌜ r ≡ kindOf phase (now (line .entry)) ⌝ }
 {
+    let board = board_line::is_board(line);
     match phase {
         Phase::First => Kind::Image(true),
         Phase::Image => {
+            if board {
+                return Kind::Board;
+            }
             if line_request::is_request(line) {
                 return Kind::Request;
             }
             Kind::Image(false)
         }
-        Phase::Requests => Kind::Request,
+        Phase::Requests => if board { Kind::Board } else { Kind::Request },
         Phase::Ended => Kind::Nothing,
     }
 }
@@ -141,6 +169,7 @@ pub fn line(
     match kind_of(phase, line) {
         Kind::Image(first) => image_line(replay, first, arena, line, out, at),
         Kind::Request => request_line(replay, arena, work, bytes, line, out, at),
+        Kind::Board => refresh_line(replay, arena, line, out, at),
         Kind::Nothing => Taken { replay, at },
     }
 }

@@ -9,6 +9,7 @@ use lib.ListN.{length, take, getD, length-take}
 use lib.Seq.{take-all}
 use borrow.Author.Tests.{eq-eqb, ne-eqb, lt-ltb}
 use Rattle.text_fields.specs.Field.{onto, split}
+use Rattle.text_numbers.specs.declared.codes.Code.the-variants as codes
 use Rattle.card_build.specs.declared.card.Card.{Card}
 use Rattle.text_stream.specs.Stream.{Blind}
 use Rattle.line_image.specs.declared.line.Line.the-variants as image
@@ -19,8 +20,10 @@ use Rattle.line_request.specs.Ask.{isLetter, isEither, requestLine, askOf}
 use Rattle.line_request.proofs.Asking.{no-letter}
 use Rattle.line_serve.specs.Line.{lineServed}
 use Rattle.line_serve.specs.Text.{requestText}
+use Rattle.board_line.specs.Line.{boardLine, boardCode, boardLineText}
 use Rattle.replay_state.specs.declared.Phase.{Phase}
 use Rattle.replay_state.specs.declared.Phase.the-variants.{First, Image, Requests, Ended}
+use Rattle.replay_state.specs.Phases.{oneMore}
 use Rattle.replay_line.specs.declared.Kind.{Kind}
 use Rattle.replay_line.specs.declared.Kind.the-variants as kinds
 use Rattle.replay_line.specs.Replay.{Held, kindOf, heldBy, textBy, lineHeld, lineText, replayMachine}
@@ -53,11 +56,15 @@ request-blind : (l : List ℕ) → requestLine (take 32769 l) ≡ requestLine l
 unfolding requestLine isEither
 request-blind l = rw (first-cut 32769 l, letter-cut 82 (getD (split 9 l) 0 []), letter-cut 87 (getD (split 9 l) 0 []))
 
+board-blind : (l : List ℕ) → boardLine (take 32769 l) ≡ boardLine l
+unfolding boardLine
+board-blind l = rw (first-cut 32769 l, letter-cut 76 (getD (split 9 l) 0 []))
+
 kind-blind : (x : Phase) (l : List ℕ) → kindOf x (take 32769 l) ≡ kindOf x l
 unfolding kindOf
 kind-blind First l = refl
-kind-blind Image l = rw (request-blind l)
-kind-blind Requests l = refl
+kind-blind Image l = rw (board-blind l, request-blind l)
+kind-blind Requests l = rw (board-blind l)
 kind-blind Ended l = refl
 
 -- A line that is too long is malformed, whatever it says.
@@ -68,6 +75,10 @@ long-image first l h = rw (lt-ltb 32768 (length l) h)
 long-ask : (l : List ℕ) → 32768 < length l → askOf l ≡ asks.Malformed
 unfolding askOf
 long-ask l h = rw (lt-ltb 32768 (length l) h)
+
+long-code : (l : List ℕ) → 32768 < length l → boardCode l ≡ codes.Bad
+unfolding boardCode
+long-code l h = rw (lt-ltb 32768 (length l) h)
 
 cut-long : (l : List ℕ) → 32768 < length l → 32768 < length (take 32769 l)
 cut-long l h = simp length-take (omega arith)
@@ -88,16 +99,26 @@ served-blind card arena room l =
       | no h ↦ rw (take-all 32769 l (omega arith))
     ]
 
+refresh-blind : (card : Card) (arena l : List ℕ) (n : ℕ) → boardLineText card arena (take 32769 l) n ≡ boardLineText card arena l n
+unfolding boardLineText
+refresh-blind card arena l n =
+    elim (decLt 32768 (length l)) [
+      | yes h ↦ rw (long-code (take 32769 l) (cut-long l h), long-code l h)
+      | no h ↦ rw (take-all 32769 l (omega arith))
+    ]
+
 -- By what the line is taken for.
 held-blind : (k : Kind) (s : Held) (l : List ℕ) → heldBy k s (take 32769 l) ≡ heldBy k s l
 held-blind (kinds.Image first) s l = rw (image-blind first (s .replay .card) (s .arena) l)
 held-blind kinds.Request s l = rw (served-blind (s .replay .card) (s .arena) 65536 l)
+held-blind kinds.Board s l = refl
 held-blind kinds.Nothing s l = refl
 
 text-blind : (k : Kind) (s : Held) (l : List ℕ) → textBy k s (take 32769 l) ≡ textBy k s l
 unfolding requestText
 text-blind (kinds.Image first) s l = rw (image-blind first (s .replay .card) (s .arena) l)
 text-blind kinds.Request s l = rw (served-blind (s .replay .card) (s .arena) 65536 l)
+text-blind kinds.Board s l = refresh-blind (s .replay .card) (s .arena) l (oneMore (s .replay .asked))
 text-blind kinds.Nothing s l = refl
 
 pub replay-blind : Blind replayMachine (take 32769)

@@ -84,7 +84,7 @@ fn mutated(random: &mut Random, text: &[u8], other: &[u8]) -> Vec<u8> {
             break;
         }
         // Most changes are meant for what follows the image: one in it mostly ends the run.
-        let is_request = |line: &Vec<u8>| matches!(line.first(), Some(b'R' | b'W'));
+        let is_request = |line: &Vec<u8>| matches!(line.first(), Some(b'R' | b'W' | b'L'));
         let first = lines.iter().position(is_request).unwrap_or(0);
         let spared = if random.once_in(6) { 0 } else { first };
         let at = spared + random.below(lines.len() - spared);
@@ -105,7 +105,7 @@ fn bytes(random: &mut Random, line: &mut Vec<u8>) {
         0 if at < line.len() => line[at] ^= 1 << random.below(8),
         1 if at < line.len() => line[at] = random.pick(&STRAY),
         2 if at < line.len() => line[at] = random.word() as u8,
-        3 => line.insert(at, random.pick(b"\t\n-0123456789ABCDEFabcdefRWOS")),
+        3 => line.insert(at, random.pick(b"\t\n-0123456789ABCDEFabcdefRWLOS")),
         4 if at < end => {
             line.drain(at..end);
         }
@@ -184,7 +184,7 @@ fn fill(random: &mut Random, line: &mut Vec<u8>) {
     let ended = line.ends_with(b"\n");
     let length = random.pick(&LENGTHS) + usize::from(ended);
     let at = random.below(line.len() + 1 - usize::from(ended));
-    let byte = random.pick(b"00000AF-\tRW\0\xFF");
+    let byte = random.pick(b"00000AF-\tRWL\0\xFF");
     let missing = length.saturating_sub(line.len());
     line.splice(at..at, vec![byte; missing]);
 }

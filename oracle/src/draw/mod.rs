@@ -4,5 +4,6 @@
 pub mod additions;
 pub mod cards;
 pub mod codes;
+pub mod lanes;
 pub mod requests;
 pub mod values;

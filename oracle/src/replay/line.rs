@@ -23,9 +23,17 @@ pub enum Image {
     },
 }
 
+/// What a line after the image asks.
+pub enum Asked {
+    Request(Request),
+    /// A refresh of the lane board in the store of this code.
+    Board(u16),
+}
+
 /// Whether a line is a request: its first field decides, whatever else is wrong with it.
 pub fn is_request(line: &[u8]) -> bool {
-    matches!(line, b"R" | b"W" | [b'R' | b'W', b'\t', ..])
+    let first = line.split(|&byte| byte == b'\t').next();
+    matches!(first, Some(b"R" | b"W" | b"L"))
 }
 
 /// The fields of a line, none if it is too long.
@@ -66,10 +74,19 @@ pub fn image(line: &[u8]) -> Option<Image> {
     })
 }
 
-/// The request of a line; nothing if it is malformed.
-pub fn request(line: &[u8]) -> Option<Request> {
+/// What a line after the image asks; nothing if it is malformed.
+pub fn asked(line: &[u8]) -> Option<Asked> {
     let fields = fields(line)?;
-    let (write, fields, data) = match fields.as_slice() {
+    Some(match fields.as_slice() {
+        [b"L", service] => Asked::Board(code(service)?),
+        [b"L", ..] => return None,
+        _ => Asked::Request(request(&fields)?),
+    })
+}
+
+/// The request that these fields make; nothing if one of them is malformed.
+fn request(fields: &[&[u8]]) -> Option<Request> {
+    let (write, fields, data) = match fields {
         [b"R", fields @ ..] => (false, fields, Vec::new()),
         [b"W", fields @ .., data] => (true, fields, bytes(data)?),
         _ => return None,

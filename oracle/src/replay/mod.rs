@@ -3,11 +3,12 @@
 mod fields;
 pub mod line;
 
+use crate::board::{self, LANES};
 use crate::hex::hex;
 use crate::refusal::{self, Refusal};
-use crate::request::{self, Told};
+use crate::request::{self, DONE, Request, Told};
 use crate::tree::Card;
-use line::Image;
+use line::{Asked, Image};
 
 /// The length in bytes of the arena that is lent.
 pub const ARENA: usize = 65_536;
@@ -17,9 +18,14 @@ const ROOM: usize = 65_536;
 
 /// What is printed for a text.
 pub fn replay(text: &[u8]) -> String {
+    watched(text, |_, _| {})
+}
+
+/// The same, and each line after the image is shown with the card that it meets.
+pub fn watched(text: &[u8], watch: impl FnMut(&Card, &[u8])) -> String {
     let mut lines = lines(text).peekable();
     match image(&mut lines) {
-        Ok(card) => requests(card, lines.map(|(_, line)| line)),
+        Ok(card) => requests(card, lines.map(|(_, line)| line), watch),
         Err((number, refusal)) => format!("image\t{number}\t{refusal}\n"),
     }
 }
@@ -66,29 +72,53 @@ fn take(card: &mut Card, line: &[u8]) -> Result<(), Refusal> {
 }
 
 /// What is printed for the first request and all lines after it.
-fn requests<'a>(mut card: Card, lines: impl Iterator<Item = &'a [u8]>) -> String {
+fn requests<'a>(
+    mut card: Card,
+    lines: impl Iterator<Item = &'a [u8]>,
+    mut watch: impl FnMut(&Card, &[u8]),
+) -> String {
     let mut out = String::new();
     for (ordinal, line) in (1..).zip(lines) {
-        out += &match answer(&mut card, line) {
-            Ok(Told { pair, read }) => told(ordinal, pair, &read),
+        watch(&card, line);
+        out += &match answer(&mut card, ordinal, line) {
+            Ok(lines) => lines,
             Err(refusal) => format!("{ordinal}\t!\t{refusal}\t-\t-\n"),
         };
     }
     out
 }
 
-/// What a line after the image is told; 6 if it is no request or a malformed one.
-fn answer(card: &mut Card, line: &[u8]) -> Result<Told, Refusal> {
-    let request = line::request(line).ok_or(refusal::REQUEST_LINE)?;
-    request::serve(card, ARENA, ROOM, &request)
+/// What is printed for a line after the image; 6 if it is no request or a malformed one.
+fn answer(card: &mut Card, ordinal: usize, line: &[u8]) -> Result<String, Refusal> {
+    match line::asked(line).ok_or(refusal::REQUEST_LINE)? {
+        Asked::Request(request) => {
+            let answer = request::serve(card, ARENA, ROOM, &request)?;
+            Ok(told(ordinal, &answer))
+        }
+        Asked::Board(code) => refresh(card, ordinal, code),
+    }
+}
+
+/// What is printed for a refresh: the Rust reads the first eight blocks in a session, and its pair
+/// is told as any read's; the board of what it read does not name the ordinal.
+fn refresh(card: &mut Card, ordinal: usize, code: u16) -> Result<String, Refusal> {
+    let read = Request::read_of(code, 0..LANES);
+    let answer = request::serve(card, ARENA, ROOM, &read)?;
+    if answer.pair != DONE {
+        return Ok(told(ordinal, &answer));
+    }
+    let (blocks, _) = answer.read.as_chunks();
+    board::board(blocks)
 }
 
 /// The line of a request that was told a pair.
-fn told(ordinal: usize, (sf1, sf2): (u8, u8), read: &[u8]) -> String {
+fn told(ordinal: usize, answer: &Told) -> String {
+    let (sf1, sf2) = answer.pair;
+    let read = hex(&answer.read);
     let place = match sf1 {
         0 => "-".to_string(),
         255 => "*".to_string(),
         _ => sf1.to_string(),
     };
-    format!("{ordinal}\t{sf1:02X}\t{sf2:02X}\t{place}\t{}\n", hex(read))
+    format!("{ordinal}\t{sf1:02X}\t{sf2:02X}\t{place}\t{read}\n")
 }

@@ -76,12 +76,12 @@ fn set(random: &mut Random, card: &mut Card, text: &mut String) {
     if let Some((code, number, block)) = cards::block(random, card) {
         card.set_block(code, number, block)
             .expect("a block of the card was drawn");
-        *text += &format!("b {code:04X} {number:04X} {}\n", hex(&block));
+        *text += &lines::block(code, number, &block);
     }
 }
 
 /// The line of one request with its answer.
-fn serve(
+pub fn serve(
     card: &mut Card,
     arena: usize,
     room: usize,

@@ -4,11 +4,12 @@
 use super::line::Line;
 use super::spoil;
 use crate::draw::additions::{self, Habit, Stores};
-use crate::draw::{cards, codes, requests};
+use crate::draw::{cards, codes};
 use crate::felica_standard::emulator::doors::Block;
 use crate::random::Random;
 use crate::refusal::{self, Refusal};
 use crate::replay::ARENA;
+use crate::request::Request;
 use crate::tree::{Card, MOST_NODES};
 
 /// The refusals of image lines; 30 has the most causes.
@@ -78,7 +79,7 @@ pub fn grown(random: &mut Random) -> Vec<u8> {
     for code in codes::services(&card) {
         let beyond = card.store(code).unwrap_or(0) as u16;
         for numbers in [[0, beyond.saturating_sub(1)], [0, beyond]] {
-            let read = requests::read_of(code, numbers.into_iter());
+            let read = Request::read_of(code, numbers.into_iter());
             text.extend(Line::request(&read).bytes(random));
         }
     }

@@ -63,6 +63,11 @@ impl Line {
         line(fields)
     }
 
+    /// The line of a refresh.
+    pub fn board(code: u16) -> Self {
+        line(format!("L {code:04X}"))
+    }
+
     /// The line with its LF. In one line of three, hex letters are small or of both cases.
     pub fn bytes(&self, random: &mut Random) -> Vec<u8> {
         let mut fields = self.0.clone();

@@ -104,6 +104,16 @@ fn spoilt((line, forms): (&str, &str)) -> Vec<String> {
     lines
 }
 
+/// The text of malformed refreshes, which comes later in the list than the others.
+pub fn refreshes() -> Vec<u8> {
+    let good = REQUESTS[0].0.to_string();
+    let two_codes = "L|10491049".to_string();
+    let lines = [vec![good], spoilt(("L|1049", "c")), vec![two_codes]].concat();
+    format!("{BEFORE}{}\n", lines.join("\n"))
+        .replace('|', "\t")
+        .into_bytes()
+}
+
 /// The texts: one for each malformed line of an image, which ends the run, one each for those of
 /// reads and of writes, and one for each wrong first field in an image.
 pub fn texts() -> Vec<Vec<u8>> {

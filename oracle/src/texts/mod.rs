@@ -1,6 +1,7 @@
 //! Replay texts: those that are the same for every seed, then random ones of every kind; and what
 //! is printed for them.
 
+pub mod boards;
 mod edges;
 mod image;
 pub mod line;
@@ -11,19 +12,28 @@ pub mod spoil;
 
 use crate::counts::Counts;
 use crate::random::Random;
-use crate::replay::replay;
+use crate::replay::watched;
 use crate::terminals;
+use boards::met::Met;
 use served::Taste;
 use std::collections::VecDeque;
 
 /// Length and seed of the list that is stored.
-pub const SMALL: (usize, u64) = (542, 1);
+pub const SMALL: (usize, u64) = (638, 1);
 
-/// A text, with the name of its kind, and what is printed for it.
+/// Texts with boards come after so many random ones: those stored before there were boards keep their
+/// numbers.
+const BEFORE_BOARDS: usize = 255;
+
+/// How many of the texts with boards that every seed has are drawn; the others have names.
+const DRAWN_BOARDS: u64 = 30;
+
+/// A text, with the name of its kind, what is printed for it, and what its refreshes meet.
 pub struct Text {
     pub kind: &'static str,
     pub input: Vec<u8>,
     pub output: String,
+    pub met: Vec<&'static str>,
 }
 
 impl Text {
@@ -34,11 +44,13 @@ impl Text {
 
     /// The text of a kind, answered.
     fn new(kind: &'static str, input: Vec<u8>) -> Self {
-        let output = replay(&input);
+        let mut met = Met::default();
+        let output = watched(&input, |card, line| met.watch(card, line));
         Text {
             kind,
             input,
             output,
+            met: met.names,
         }
     }
 }
@@ -57,6 +69,7 @@ pub fn all(length: usize, seed: u64) -> (Vec<Text>, Counts) {
 pub struct Texts {
     random: Random,
     fixed: VecDeque<(&'static str, Vec<u8>)>,
+    boards: VecDeque<(&'static str, Vec<u8>)>,
     drawn: usize,
     terminals: Vec<Vec<u8>>,
 }
@@ -70,9 +83,25 @@ impl Texts {
         Texts {
             random: Random::new(seed),
             fixed: edges.chain(malformed).collect(),
+            boards: boards().collect(),
             drawn: 0,
             terminals: Vec::new(),
         }
+    }
+
+    /// The next text that is not of those that every seed has first, with the name of its kind: once the
+    /// boards have begun, those that every seed has, and then one text in four is of boards.
+    fn later(&mut self) -> (&'static str, Vec<u8>) {
+        if self.drawn >= BEFORE_BOARDS {
+            if let Some(board) = self.boards.pop_front() {
+                return board;
+            }
+            if self.random.once_in(4) {
+                let lines = 2 + self.random.below(16);
+                return ("board", boards::text(&mut self.random, lines));
+            }
+        }
+        self.draw()
     }
 
     /// The next random text, with the name of its kind. Of twenty, one has a long line, seven are
@@ -116,24 +145,40 @@ impl Iterator for Texts {
         if let Some((kind, input)) = self.fixed.pop_front() {
             return Some(Text::new(kind, input));
         }
-        let (kind, mut input) = self.draw();
-        if kind != "long line" && self.random.once_in(6) {
+        let named = self.boards.len();
+        let (kind, mut input) = self.later();
+        let drawn = self.boards.len() == named && kind != "long line";
+        if drawn && self.random.once_in(6) {
             input.pop();
         }
         Some(Text::new(kind, input))
     }
 }
 
-/// Counts a text by its kind, and each line that is printed for it.
+/// The texts with boards that every seed has: one of malformed lines, those that have names, and some that
+/// are drawn, always the same.
+fn boards() -> impl Iterator<Item = (&'static str, Vec<u8>)> {
+    let named = boards::cases::all();
+    let named = named.map(|case| (case.name, case.text.replace('|', "\t").into_bytes()));
+    let drawn = (0..DRAWN_BOARDS).map(|seed| ("board", boards::text(&mut Random::new(seed), 14)));
+    let malformed = ("malformed line", malformed::refreshes());
+    [malformed].into_iter().chain(named).chain(drawn)
+}
+
+/// Counts a text by its kind, what its refreshes meet, and each line that is printed for it.
 pub fn count(counts: &mut Counts, text: &Text) {
     counts.meet(format!("text: {}", text.kind));
     if text.output.is_empty() {
         counts.meet("nothing printed");
     }
+    for name in &text.met {
+        counts.meet(format!("board: {name}"));
+    }
     for line in text.output.lines() {
         let fields: Vec<&str> = line.split('\t').collect();
         match fields.as_slice() {
             ["image", _, refusal] => counts.meet(format!("image refused {refusal}")),
+            [_, _, _] => counts.meet("lanes printed"),
             [_, "!", refusal, ..] => counts.meet(format!("request refused {refusal}")),
             [_, "00", ..] => counts.meet("done"),
             [_, sf1, sf2, ..] => {
@@ -145,11 +190,13 @@ pub fn count(counts: &mut Counts, text: &Text) {
     }
 }
 
-/// What replay can say: every refusal, every place from 01 to FF and every SF2. Refusals 4, 5, 7
+/// What replay can say: every refusal, every place from 01 to FF and every SF2; and what refreshes can meet,
+/// with the texts that have names. Refusals 4, 5, 7
 /// and 8 are not among them: replay lends enough of each and its card is always a built one.
 fn possible() -> impl Iterator<Item = String> {
     let image = (11..=23).chain([28, 30]);
-    let requests = [1, 2, 3, 6].into_iter();
+    let requests = [1, 2, 3, 6].into_iter().chain(40..=43);
+    let named = boards::cases::all().map(|case| format!("text: {}", case.name));
     let sf2 = [
         0x01, 0x02, 0x03, 0xA3, 0xA4, 0xA5, 0xA6, 0xA7, 0xA8, 0xAC, 0xAF,
     ];
@@ -159,6 +206,8 @@ fn possible() -> impl Iterator<Item = String> {
         .chain((1..=255).map(|sf1| format!("SF1 {sf1:02X}")))
         .chain(sf2.map(|sf2| format!("SF2 {sf2:02X}")))
         .chain(["done".to_string()])
+        .chain(boards::met::ALL.iter().map(|name| format!("board: {name}")))
+        .chain(named)
 }
 
 /// What replay can say and a list did not meet.

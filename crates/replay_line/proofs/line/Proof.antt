@@ -5,7 +5,7 @@ use mathlib.Core.Path.{_≡_, sym, _∙_}
 use denote.Ref.{now}
 use Rattle.replay_line.specs.declared.Kind.{Kind}
 use Rattle.replay_line.specs.Replay.{held, kindOf}
-use Rattle.replay_line.proofs.Takes.{image-taken, request-taken, nothing-taken}
+use Rattle.replay_line.proofs.Takes.{image-taken, request-taken, board-taken, nothing-taken}
 use Rattle.replay_line.proofs.line.Statement.{statement}
 use Rattle.replay_line.proofs.line.Tie as tie
 
@@ -29,14 +29,23 @@ returns-2 c =
 
 returns-3 : tie.Need-returns-3
 returns-3 c =
+    let i = c .before .before in
+    let k = i .before .before .before .before .before in
+    let a = k .before .before .before .before .before .before .args in
+    board-taken (held (a .replay) (now (a .arena))) (now (a .line)) (now (a .work)) (now (a .bytes)) (found k (i .before .before .before .enum-told2 .given .1)) (i .refresh-line .ensures)
+
+returns-4 : tie.Need-returns-4
+returns-4 c =
     let k = c .before .before in
     let a = k .before .before .before .before .before .before .args in
-    nothing-taken (held (a .replay) (now (a .arena))) (now (a .line)) (now (a .work)) (now (a .bytes)) (now (a .out)) (a .at) (found k (c .enum-told2 .given .1))
+    nothing-taken (held (a .replay) (now (a .arena))) (now (a .line)) (now (a .work)) (now (a .bytes)) (now (a .out)) (a .at) (found k (c .enum-told3 .given .1))
 
 pub line-spec : {M : Type 1} → statement M
 line-spec =
     tie.close
     (tie.spec
+    (λ c κs. search needs)
+    (λ c. search needs)
     (λ c κs. search needs)
     (λ c. search needs)
     (λ c κs. search needs)
@@ -51,4 +60,7 @@ line-spec =
     (λ c. search needs)
     (λ c. search needs)
     returns-2
-    returns-3)
+    (λ c. search needs)
+    (λ c. search needs)
+    returns-3
+    returns-4)

@@ -4,9 +4,7 @@ mod spoil;
 
 use super::{codes, values};
 use crate::felica_standard::emulator::doors::{self, Block, PurseStep};
-use crate::felica_standard::{
-    BLOCK_SIZE, BlockListElement, ServiceAttribute, ServiceCode, ServiceKind,
-};
+use crate::felica_standard::{BLOCK_SIZE, ServiceAttribute, ServiceCode, ServiceKind};
 use crate::random::Random;
 use crate::request::{MOST_CODES, MOST_ELEMENTS, Request};
 use crate::tree::{Card, usable};
@@ -51,20 +49,6 @@ pub fn failing(random: &mut Random, card: &Card) -> Request {
         spoil::element(random, &mut draft);
     }
     packed(random, &draft)
-}
-
-/// A read in a session of blocks of one service.
-pub fn read_of(code: u16, numbers: impl Iterator<Item = u16>) -> Request {
-    let elements = numbers.map(|number| BlockListElement::new(number, 0, 0));
-    let packed: Vec<Vec<u8>> = elements.map(|element| element.pack()).collect();
-    Request {
-        write: false,
-        open: false,
-        codes: vec![code],
-        count: packed.len() as u32,
-        list: packed.concat(),
-        data: Vec::new(),
-    }
 }
 
 /// A request whose elements pass their checks, if the card has services for it.

@@ -1,0 +1,82 @@
+-- Laws of eight lanes, one after the other. Assumes nothing.
+use Prim.Native.Nat.{ℕ, suc, _+_, _-_, _≤_, _<_}
+use native.Mathlib.Omega.{arith}
+use mathlib.Core.Path.{_≡_, refl, sym, _∙_}
+use mathlib.Core.Bool.{Bool, true, false, cond, _&&_}
+use mathlib.Core.List.{List}
+use borrow.Author.Tests.{eq-eqb, ne-eqb}
+use Rattle.board_lanes.specs.declared.refusal.BoardRefusal.the-variants.{WrongLane, BadCrew, TailNotZero}
+use Rattle.board_lanes.specs.declared.lanes.Judged.{Judged}
+use Rattle.board_lanes.specs.declared.lanes.Judged.the-variants.{Sound, Refused}
+use lib.Dec.{eqb}
+use lib.ListN.{getD}
+use Rattle.board_lanes.specs.Board.{blockAt, isEmpty, raceOf, areCrew, crewBytes, blockJudged, laneJudged, andThen, lanesJudged, ofRace, sameRace, oneRace}
+
+-- What is judged first, then next, then last.
+pub then-then : (a b c : Judged) → andThen (andThen a b) c ≡ andThen a (andThen b c)
+then-then Sound b c = refl
+then-then (Refused x) b c = refl
+
+-- Nothing wrong at the end.
+pub then-sound : (a : Judged) → andThen a Sound ≡ a
+then-sound Sound = refl
+then-sound (Refused x) = refl
+
+module _ (bytes : List ℕ) (k : ℕ) where
+  -- The lanes from k on, where there is one.
+  pub lanes-here : k < 8 → lanesJudged bytes (8 - k) k ≡ andThen (laneJudged k (blockAt bytes k)) (lanesJudged bytes (8 - (k + 1)) (k + 1))
+  unfolding lanesJudged
+  lanes-here h = let e : 8 - k ≡ suc (8 - (k + 1)) = omega arith in rw e
+
+  -- Where there is none.
+  pub lanes-end : 8 ≤ k → lanesJudged bytes (8 - k) k ≡ Sound
+  unfolding lanesJudged
+  lanes-end h = let e : 8 - k ≡ 0 = omega arith in rw e
+
+  -- The same of the races: a lane of this race, or empty.
+  pub same-here : (race : ℕ) → k < 8 → ofRace race (blockAt bytes k) ≡ true → sameRace bytes race (8 - k) k ≡ sameRace bytes race (8 - (k + 1)) (k + 1)
+  unfolding sameRace
+  same-here race h q = let e : 8 - k ≡ suc (8 - (k + 1)) = omega arith in rw (e, q)
+
+  -- One of another.
+  pub same-not : (race : ℕ) → k < 8 → ofRace race (blockAt bytes k) ≡ false → sameRace bytes race (8 - k) k ≡ false
+  unfolding sameRace
+  same-not race h q = let e : 8 - k ≡ suc (8 - (k + 1)) = omega arith in rw (e, q)
+
+  -- No more lanes.
+  pub same-end : (race : ℕ) → 8 ≤ k → sameRace bytes race (8 - k) k ≡ true
+  unfolding sameRace
+  same-end race h = let e : 8 - k ≡ 0 = omega arith in rw e
+
+  -- An empty lane ahead of the first that is filled.
+  pub one-empty : k < 8 → isEmpty (blockAt bytes k) ≡ true → oneRace bytes (8 - k) k ≡ oneRace bytes (8 - (k + 1)) (k + 1)
+  unfolding oneRace
+  one-empty h q = let e : 8 - k ≡ suc (8 - (k + 1)) = omega arith in rw (e, q)
+
+  -- The first that is filled.
+  pub one-filled : k < 8 → isEmpty (blockAt bytes k) ≡ false → oneRace bytes (8 - k) k ≡ sameRace bytes (raceOf (blockAt bytes k)) (8 - (k + 1)) (k + 1)
+  unfolding oneRace
+  one-filled h q = let e : 8 - k ≡ suc (8 - (k + 1)) = omega arith in rw (e, q)
+
+  -- All lanes are empty.
+  pub one-end : 8 ≤ k → oneRace bytes (8 - k) k ≡ true
+  unfolding oneRace
+  one-end h = let e : 8 - k ≡ 0 = omega arith in rw e
+
+-- A filled block, by its first test that fails.
+module _ (k : ℕ) (b : List ℕ) where
+  pub block-lane : eqb (getD b 0 0) (k + 1) ≡ false → blockJudged k b ≡ Refused WrongLane
+  unfolding blockJudged
+  block-lane p = rw p
+
+  pub block-crew : eqb (getD b 0 0) (k + 1) ≡ true → areCrew (crewBytes b) ≡ false → blockJudged k b ≡ Refused BadCrew
+  unfolding blockJudged
+  block-crew p q = rw (p, q)
+
+  pub block-tail : eqb (getD b 0 0) (k + 1) ≡ true → areCrew (crewBytes b) ≡ true → eqb (getD b 15 0) 0 ≡ false → blockJudged k b ≡ Refused TailNotZero
+  unfolding blockJudged
+  block-tail p q r = rw (p, q, r)
+
+  pub block-sound : eqb (getD b 0 0) (k + 1) ≡ true → areCrew (crewBytes b) ≡ true → eqb (getD b 15 0) 0 ≡ true → blockJudged k b ≡ Sound
+  unfolding blockJudged
+  block-sound p q r = rw (p, q, r)

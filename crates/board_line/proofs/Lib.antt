@@ -1,0 +1,2 @@
+-- What callers cite, and what this crate's proofs share.
+pub mod Refreshes

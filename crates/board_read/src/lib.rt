@@ -1,0 +1,44 @@
+// A refresh of the lane board: one read of a store's first eight blocks, in a session, and what they make.
+use board_lanes::lanes;
+use board_lanes::lanes::Judged;
+use board_lanes::refusal::BoardRefusal;
+use card_build::card::Card;
+use request_plan::Reply;
+use request_serve::reading;
+ghost use mathlib.Core.Path.{_≡_};
+ghost use lib.ListN.{length};
+ghost use Rattle.board_lanes.specs.Board.{judgedOf};
+ghost use Rattle.board_read.specs.Refresh.{refreshedBy, refreshed, blocksAfter};
+
+// What a refresh came to: a board, whose blocks were read; blocks that make none, and why; or the card's own answer, with no block read.
+pub enum Refreshed {
+    Board,
+    NoBoard(BoardRefusal),
+    Card(Reply),
+}
+
+// Tells what eight blocks make.
+fn made(bytes: &[u8]) -> Refreshed
+    ensures { λ r. ⌜ r ≡ refreshedBy (judgedOf (now (bytes .entry))) ⌝ }
+{
+    match lanes::judge(bytes) {
+        Judged::Sound => Refreshed::Board,
+        Judged::Refused(refusal) => Refreshed::NoBoard(refusal),
+    }
+}
+
+// Reads the first eight blocks of a service's store to the front of `bytes`, and tells what they make.
+pub fn refresh(card: Card, arena: &[u8], code: u16, bytes: &mut [u8]) -> Refreshed
+    ensures { λ r. ⌜ r ≡ refreshed card (now (arena .entry)) code (length (now (bytes .entry))) ⌝ }
+    ensures { λ _. ⌜ now (bytes .exit) ≡ blocksAfter card (now (arena .entry)) code (now (bytes .entry)) ⌝ }
+{
+    let codes = [code];
+    let list = b"\x80\x00\x80\x01\x80\x02\x80\x03\x80\x04\x80\x05\x80\x06\x80\x07";
+    let reply = reading::read(card, arena, bytes, false, &codes, 8, list);
+    match reply {
+        Reply::Refused(_) => Refreshed::Card(reply),
+        Reply::Done => made(&bytes[0..128]),
+        Reply::ShortData => Refreshed::Card(reply),
+        Reply::Failed { index: _, fault: _ } => Refreshed::Card(reply),
+    }
+}

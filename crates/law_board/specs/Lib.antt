@@ -1,0 +1,4 @@
+pub mod Shown
+pub mod Lines
+pub mod Redraw
+pub mod Library
