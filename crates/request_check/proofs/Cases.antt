@@ -57,14 +57,14 @@ module _ (w : Row) (a : ServiceAttribute) (write «open» : Bool) (number mode :
 
       module _ (q : (write && (eqb mode 1 && not (allowsCashback a))) ≡ false) where
         -- a block that is not there
-        pub no-block : w .blocks ≤ number → Failed BlockNumber ≡ serviceCheck w a write «open» number mode
+        pub no-block : leb (w .blocks) number ≡ true → Failed BlockNumber ≡ serviceCheck w a write «open» number mode
         unfolding serviceCheck attributeCheck
-        no-block h = rw (k, p, q, le-leb (w .blocks) number h)
+        no-block h = rw (k, p, q, h)
 
         -- one that is
-        pub passed : number < w .blocks → Passed ≡ serviceCheck w a write «open» number mode
+        pub passed : leb (w .blocks) number ≡ false → Passed ≡ serviceCheck w a write «open» number mode
         unfolding serviceCheck attributeCheck
-        passed h = rw (k, p, q, lt-leb (w .blocks) number h)
+        passed h = rw (k, p, q, h)
 
 module _ (w : Row) (write «open» : Bool) (number mode : ℕ) where
   -- a mode that the request may not use

@@ -84,6 +84,7 @@ fn service_check(
     let keyless = key_missing(open, row.code);
     let fixed = read_only(write, attribute);
     let cashless = no_cashback(write, attribute, mode);
+    let beyond = row.blocks <= number;
     if keyless {
         return Check::Failed(Fault::KeyNeeded); // A5
     }
@@ -93,7 +94,7 @@ fn service_check(
     if cashless {
         return Check::Failed(Fault::NoCashback); // A5
     }
-    if row.blocks <= number {
+    if beyond {
         return Check::Failed(Fault::BlockNumber); // A8
     }
     Check::Passed

@@ -26,35 +26,38 @@ module _ (c : tie.After-no-cashback) {b : Bool} where
   cashless e = sym (c .no-cashback .ensures) ∙ e
 
 returns : tie.Need-returns
-returns c = no-key _ _ _ _ _ _ (key (c .before) (c .if1 .taken))
+returns c = no-key _ _ _ _ _ _ (key (c .before .before) (c .if1 .taken))
 
 returns-2 : tie.Need-returns-2
 returns-2 c =
     let k = c .before in
-    no-write _ _ _ _ _ _ (key (k .before) (k .if1 .left)) (fixed (k .before) (c .if2 .taken))
+    let t = k .before .before in
+    no-write _ _ _ _ _ _ (key t (k .if1 .left)) (fixed t (c .if2 .taken))
 
 returns-3 : tie.Need-returns-3
 returns-3 c =
     let f = c .before in
     let k = f .before in
-    let t = k .before in
+    let t = k .before .before in
     no-return _ _ _ _ _ _ (key t (k .if1 .left)) (fixed t (f .if2 .left)) (cashless t (c .if3 .taken))
 
 returns-4 : tie.Need-returns-4
 returns-4 c =
-    let r = c .before .before in
+    let r = c .before in
     let f = r .before in
     let k = f .before in
-    let t = k .before in
-    no-block _ _ _ _ _ _ (key t (k .if1 .left)) (fixed t (f .if2 .left)) (cashless t (r .if3 .left)) (c .if4 .taken)
+    let t = k .before .before in
+    let a = start-of t .args in
+    no-block (a .row) (a .attribute) (a .write) (a .«open») (a .number) (a .mode) (key t (k .if1 .left)) (fixed t (f .if2 .left)) (cashless t (r .if3 .left)) (c .if4 .taken)
 
 returns-5 : tie.Need-returns-5
 returns-5 c =
-    let r = c .before .before in
+    let r = c .before in
     let f = r .before in
     let k = f .before in
-    let t = k .before in
-    passed _ _ _ _ _ _ (key t (k .if1 .left)) (fixed t (f .if2 .left)) (cashless t (r .if3 .left)) (c .if4 .left)
+    let t = k .before .before in
+    let a = start-of t .args in
+    passed (a .row) (a .attribute) (a .write) (a .«open») (a .number) (a .mode) (key t (k .if1 .left)) (fixed t (f .if2 .left)) (cashless t (r .if3 .left)) (c .if4 .left)
 
 pub service-check-spec : {M : Type 1} → statement M
 service-check-spec =
