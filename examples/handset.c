@@ -15,10 +15,12 @@ static uint8_t card[ULUVOLI_CARD_SIZE];
 static uint8_t arena[1024];
 static uint8_t staging[1024];
 
-/* Prints who did what, and how the call ended: a refusal has no status pair. */
+/* Prints who did what, and how the call ended: a refusal has no status pair, and only an A5 has a cause. */
 static uint32_t tell(const char *what, uint32_t answer) {
     uint8_t sf1, sf2;
-    if (uluvoli_pair(answer, &sf1, &sf2)) {
+    if (uluvoli_cause(answer) != 0 && uluvoli_pair(answer, &sf1, &sf2)) {
+        printf("%-28s %02X %02X, cause %u\n", what, (unsigned)sf1, (unsigned)sf2, (unsigned)uluvoli_cause(answer));
+    } else if (uluvoli_pair(answer, &sf1, &sf2)) {
         printf("%-28s %02X %02X\n", what, (unsigned)sf1, (unsigned)sf2);
     } else {
         printf("%-28s refused, %u\n", what, (unsigned)uluvoli_refusal(answer));

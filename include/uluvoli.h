@@ -7,7 +7,8 @@
  *
  * What every call returns
  *   0                      done; of a read, a write or a board that is the status pair 00 00
- *   SF1 << 8 | SF2         another status pair, of a read, a write or a board (uluvoli_pair)
+ *   cause << 24 | SF1 << 8 | SF2
+ *                          another status pair, of a read, a write or a board (uluvoli_pair), and which A5 it was (uluvoli_cause)
  *   number << 16           a refusal (uluvoli_refusal): it has no status pair
  * uluvoli_end_of says which of the three it is. A refusal leaves every byte that the caller lent as it was; a pair other than 00 00 leaves card, arena and output as
  * they were. A number or flag that a call answers is written through its last pointer, only where it returns 0. Each
@@ -92,6 +93,17 @@ enum {
     ULUVOLI_SF2_CYCLIC_TOO_LONG = 0xaf       /* a cyclic run longer than the store */
 };
 
+/* Which A5 it was (ULUVOLI_SF2_NOT_ALLOWED), as uluvoli_cause gives it: the first that holds. */
+enum {
+    ULUVOLI_CAUSE_KEY_NEEDED = 1,            /* an open request on a service that needs a key */
+    ULUVOLI_CAUSE_READ_ONLY = 2,             /* a write to a read-only service */
+    ULUVOLI_CAUSE_NO_CASHBACK = 3,           /* access mode 1 on a service without cashback */
+    ULUVOLI_CAUSE_CYCLIC_BLOCK = 4,          /* a cyclic write that does not name block 0 */
+    ULUVOLI_CAUSE_PURSE_RAISED = 5,          /* a direct write that would raise the purse */
+    ULUVOLI_CAUSE_CASHBACK_RAISED = 6,       /* a direct write that would raise the cashback */
+    ULUVOLI_CAUSE_SUM_TOO_LARGE = 7          /* a direct write whose cashback and the stored purse are too much together */
+};
+
 /* How a call ended. */
 enum uluvoli_end {
     ULUVOLI_DONE,      /* done */
@@ -99,13 +111,16 @@ enum uluvoli_end {
     ULUVOLI_REFUSED    /* a refusal */
 };
 
+/* The number of a refusal; 0 for every other answer. */
+static inline uint32_t uluvoli_refusal(uint32_t answer) { return answer >> 16 & 0xff; }
+
 /* How the call that gave this answer ended. */
 static inline enum uluvoli_end uluvoli_end_of(uint32_t answer) {
-    return answer == 0 ? ULUVOLI_DONE : answer >> 16 == 0 ? ULUVOLI_PAIR : ULUVOLI_REFUSED;
+    return answer == 0 ? ULUVOLI_DONE : uluvoli_refusal(answer) == 0 ? ULUVOLI_PAIR : ULUVOLI_REFUSED;
 }
 
-/* The number of a refusal; 0 for every other answer. */
-static inline uint32_t uluvoli_refusal(uint32_t answer) { return answer >> 16; }
+/* Which A5 a read or a write was told, 1 to 7; 0 for every other answer. */
+static inline uint32_t uluvoli_cause(uint32_t answer) { return answer >> 24; }
 
 /* Gives the status pair of a read, a write or a board, 00 00 too, and true. A refusal has none: false, and the flags stay. */
 static inline bool uluvoli_pair(uint32_t answer, uint8_t *sf1, uint8_t *sf2) {

@@ -286,6 +286,19 @@ static void serve_spoilt(char *f[FIELDS]) {
     check(uluvoli_refusal(got) == 0 || (room_agrees() && arena_agrees()), "a request on a spoilt card");
 }
 
+/* What the header makes of an answer: a cause is neither a refusal nor a part of the pair. The Rust tells no cause, so the
+ * pair is its own, and the cause that of the line's last field. */
+static void read_answer(uint32_t got, uint32_t wanted, uint32_t cause, bool refused) {
+    uint8_t sf1 = MARK, sf2 = (uint8_t)~MARK;
+    bool pair = uluvoli_pair(got, &sf1, &sf2);
+    uint32_t flags = refused ? MARK << 8 | (uint8_t)~MARK : wanted;
+    enum uluvoli_end end = refused ? ULUVOLI_REFUSED : wanted == 0 ? ULUVOLI_DONE : ULUVOLI_PAIR;
+    check(uluvoli_cause(got) == cause, "the cause of an A5");
+    check(uluvoli_refusal(got) == (refused ? wanted >> 16 : 0), "the number of a refusal");
+    check(uluvoli_end_of(got) == end, "how a request ended");
+    check(pair == !refused && ((uint32_t)sf1 << 8 | sf2) == flags, "a status pair");
+}
+
 /* A request: its answer, and every byte of the arena, and of the output or the staging. */
 static void request(char *f[FIELDS]) {
     uint32_t wanted = answer(f[7]);
@@ -303,7 +316,8 @@ static void request(char *f[FIELDS]) {
         memcpy(whole, change + 4, 32);
         bytes(whole, arena + 16 * number(head), 16);
     }
-    check(got == wanted, "the answer to a request");
+    check(got == (number(f[9]) << 24 | wanted), "the answer to a request");
+    read_answer(got, wanted, number(f[9]), *f[7] == '!');
     check(room_agrees(), "output or staging");
     check(arena_agrees(), "the arena after a request");
 }

@@ -31,7 +31,7 @@ fn image_line(line: &str) -> u32 {
 fn request_line(line: &str) -> String {
     let printed = after_card(&[line]);
     let fields: Vec<&str> = printed.trim_end().split('\t').collect();
-    assert_eq!((fields.len(), fields[0]), (5, "1"), "{printed}");
+    assert_eq!((fields.len(), fields[0]), (6, "1"), "{printed}");
     fields[1..4].join(" ")
 }
 
@@ -46,7 +46,7 @@ fn whole_case() {
         "R|O|104B|1|8001",
         "R|O|104B|1|8002",
     ]);
-    let expected = "1|00|00|-|-\n2|00|00|-|11111111111111111111111111111111\n3|01|A8|1|-\n";
+    let expected = "1|00|00|-|-|-\n2|00|00|-|11111111111111111111111111111111|-\n3|01|A8|1|-|-\n";
     assert_eq!(printed, expected.replace('|', "\t"));
 }
 
@@ -72,7 +72,7 @@ fn first_line() {
         "image\t2\t30\n"
     );
     let after = lines(&["card|0001|0000", "R|O|-|0|-", "card|0001|0000"]);
-    assert_eq!(after, "1\t00\t00\t-\t-\n2\t!\t6\t-\t-\n");
+    assert_eq!(after, "1\t00\t00\t-\t-\t-\n2\t!\t6\t-\t-\t-\n");
 }
 
 /// Only LF ends a line, and the last line needs none; an empty line is a line.
@@ -80,14 +80,14 @@ fn first_line() {
 fn line_ends() {
     let card = b"card\t0001\t0000\n";
     let text = |rest: &[u8]| replay(&[card, rest].concat());
-    assert_eq!(text(b"R\tO\t-\t0\t-"), "1\t00\t00\t-\t-\n");
-    assert_eq!(text(b"R\tO\t-\t0\t-\n"), "1\t00\t00\t-\t-\n");
+    assert_eq!(text(b"R\tO\t-\t0\t-"), "1\t00\t00\t-\t-\t-\n");
+    assert_eq!(text(b"R\tO\t-\t0\t-\n"), "1\t00\t00\t-\t-\t-\n");
     assert_eq!(
         text(b"R\tO\t-\t0\t-\n\n"),
-        "1\t00\t00\t-\t-\n2\t!\t6\t-\t-\n"
+        "1\t00\t00\t-\t-\t-\n2\t!\t6\t-\t-\t-\n"
     );
     assert_eq!(text(b"\nR\tO\t-\t0\t-\n"), "image\t2\t30\n");
-    assert_eq!(text(b"R\tO\t-\t0\t-\r\n"), "1\t!\t6\t-\t-\n");
+    assert_eq!(text(b"R\tO\t-\t0\t-\r\n"), "1\t!\t6\t-\t-\t-\n");
     assert_eq!(text(b"R\r\n"), "image\t2\t30\n");
     assert_eq!(text(b"R\0\n"), "image\t2\t30\n");
     assert_eq!(text(b" R\tO\t-\t0\t-\n"), "image\t2\t30\n");
@@ -184,6 +184,88 @@ fn request_lines() {
     assert_eq!(request_line(&format!("R|O|{codes}|0|-")), "! 2 -");
 }
 
+/// A purse block.
+fn purse(purse: u32, cashback: u32) -> String {
+    let bytes = |number: u32| {
+        number
+            .to_le_bytes()
+            .map(|byte| format!("{byte:02X}"))
+            .concat()
+    };
+    bytes(purse) + &bytes(cashback) + "00000000" + &bytes(1)
+}
+
+/// The last column of each line that is printed for these requests to a card of every kind: 2048 needs
+/// a key and 204A does too, 204B is read-only, 30CD a ring, 4051 a purse written directly.
+fn causes(requests: &[String]) -> String {
+    let mut text = ["2048", "204A", "204B", "30CD", "4050", "4051"]
+        .map(|code| format!("svc|1|{code}|2|0000"))
+        .to_vec();
+    text.insert(0, "card|0001|0000".to_string());
+    text.push(format!("blk|4051|0|{}", purse(9, 2)));
+    text.push(format!("blk|4051|1|{}", purse(u32::MAX, u32::MAX)));
+    text.extend_from_slice(requests);
+    let text: Vec<&str> = text.iter().map(String::as_str).collect();
+    let column = |line: &str| line.rsplit('\t').next().unwrap_or("").to_string();
+    lines(&text)
+        .lines()
+        .map(column)
+        .collect::<Vec<_>>()
+        .join(" ")
+}
+
+/// A5 has the first of its causes that holds, and nothing else has one.
+#[test]
+fn which_a5() {
+    let nothing = "0".repeat(32);
+    let write =
+        |kind: &str, code: &str, list: &str, data: &str| format!("W|{kind}|{code}|1|{list}|{data}");
+    let told = causes(&[
+        "R|O|2048|1|8000".to_string(),
+        write("O", "204A", "9000", &nothing),
+        write("S", "204A", "9000", &nothing),
+        write("O", "204B", "8000", &nothing),
+        write("O", "30CD", "9001", &nothing),
+        write("S", "4050", "9000", &purse(10, 3)),
+        write("O", "30CD", "8001", &nothing),
+        write("O", "4051", "8000", &purse(10, 3)),
+        write("S", "4050", "8000", &purse(9, 3)),
+        write("S", "4051", "8001", &purse(0, 1)),
+        "W|O|30CD|3|800080008001|".to_string() + &"0".repeat(96),
+    ]);
+    assert_eq!(told, "1 1 2 2 3 3 4 5 6 7 4");
+    let none = causes(&[
+        "R|S|2048|1|8000".to_string(),
+        "R|O|204B|1|8002".to_string(),
+        "W|O|30CD|3|800080008000|".to_string() + &"1".repeat(96),
+        write("O", "30CD", "8000", "00"),
+        "W|O|30CD|1".to_string(),
+        write("O", "4051", "8000", &purse(9, 2)),
+    ]);
+    assert_eq!(none, "- - - - - -");
+}
+
+/// Past the 254th element the cause is that of the first that fails, checks ahead of rules.
+#[test]
+fn which_a5_beyond() {
+    let long = |passing: usize, last: &str, blocks: &[String]| {
+        let count = passing + last.len() / 4;
+        let list = "8000".repeat(passing) + last;
+        let data = purse(9, 2).repeat(passing) + &blocks.concat();
+        format!("W|S|40512048204A30CD|{count}|{list}|{data}")
+    };
+    let told = causes(&[
+        long(254, "8000", &[purse(10, 0)]),
+        long(300, "8000", &[purse(9, 3)]),
+        long(300, "80008000", &[purse(9, 3), purse(10, 0)]),
+        long(300, "80008001", &[purse(8, 1), purse(0, 1)]),
+        long(300, "80008300", &[purse(9, 3), purse(0, 0)]),
+        long(300, "80008200", &[purse(9, 3), purse(0, 0)]),
+        long(300, "83008301", &[purse(0, 0), purse(0, 0)]),
+    ]);
+    assert_eq!(told, "5 6 6 7 6 2 4");
+}
+
 /// A line has 32,768 bytes at most, with or without an LF; a longer one whose first field is
 /// `R`, `W` or `L` is a malformed request, any other a malformed line of the image.
 #[test]
@@ -195,11 +277,11 @@ fn long_lines() {
     };
     let text = |line: &str| replay(format!("{image}{line}").as_bytes());
     let write = "W\tO\t10491049\t1\t8000\t";
-    assert_eq!(text(&filled(write, 32_768)), "1\t00\t00\t-\t-\n");
-    assert_eq!(text(&filled(write, 32_770)), "1\t!\t6\t-\t-\n");
+    assert_eq!(text(&filled(write, 32_768)), "1\t00\t00\t-\t-\t-\n");
+    assert_eq!(text(&filled(write, 32_770)), "1\t!\t6\t-\t-\t-\n");
     let ended = filled(write, 32_768) + "\n" + &filled("R\t", 32_769) + "\n";
-    assert_eq!(text(&ended), "1\t00\t00\t-\t-\n2\t!\t6\t-\t-\n");
-    assert_eq!(text(&filled("L\t", 32_769)), "1\t!\t6\t-\t-\n");
+    assert_eq!(text(&ended), "1\t00\t00\t-\t-\t-\n2\t!\t6\t-\t-\t-\n");
+    assert_eq!(text(&filled("L\t", 32_769)), "1\t!\t6\t-\t-\t-\n");
     assert_eq!(text(&filled("svc\t", 32_769)), "image\t3\t30\n");
     assert_eq!(text(&filled("RW", 32_769)), "image\t3\t30\n");
     assert_eq!(replay(filled("R\t", 32_769).as_bytes()), "image\t1\t30\n");
@@ -216,7 +298,7 @@ fn blocks_between_nodes() {
         "W|O|2055|1|8000|01000000000000000000000000000002",
         "R|O|2055|1|8000",
     ]);
-    let expected = "1|00|00|-|-\n2|01|03|1|-\n3|00|00|-|F6FFFFFF0F0000000000000000000001\n";
+    let expected = "1|00|00|-|-|-\n2|01|03|1|-|-\n3|00|00|-|F6FFFFFF0F0000000000000000000001|-\n";
     assert_eq!(printed, expected.replace('|', "\t"));
 }
 
@@ -249,7 +331,7 @@ fn any_bytes() {
         for line in replay(&text).lines() {
             let fields = line.split('\t').count();
             let lane = line.starts_with(|first| ('1'..='8').contains(&first));
-            assert!(fields == 5 || fields == 3 && (lane || line.starts_with("image\t")));
+            assert!(fields == 6 || fields == 3 && (lane || line.starts_with("image\t")));
         }
     }
 }

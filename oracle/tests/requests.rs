@@ -103,13 +103,14 @@ fn shape() {
             "s" => 7,
             "l" => 5,
             "b" => 4,
-            "R" | "W" => 9,
+            "R" | "W" => 10,
             kind => panic!("no such line: {kind}"),
         };
         assert_eq!(fields.len(), count, "{line}");
-        if count == 9 {
+        if count == 10 {
             served += 1;
             assert!(fields[7].len() == 4 || fields[7].starts_with('!'), "{line}");
+            assert_eq!(fields[9] != "00", fields[7].ends_with("A5"), "{line}");
         }
     }
     assert_eq!(served, 5_000);

@@ -96,7 +96,10 @@ fn malformed() {
                 .next()
                 .is_some_and(|line| line.starts_with("1\t00\t00"))
         );
-        assert!(lines.all(|line| line.ends_with("\t!\t6\t-\t-")), "{shown}");
+        assert!(
+            lines.all(|line| line.ends_with("\t!\t6\t-\t-\t-")),
+            "{shown}"
+        );
     }
 }
 
@@ -150,7 +153,7 @@ fn stored() {
     let (texts, counts) = texts::all(length, seed);
     assert_eq!(texts.len(), length);
     meets(&counts, 4, 10);
-    let whole = "1|00|00|-|-\n2|00|00|-|11111111111111111111111111111111\n3|01|A8|1|-\n";
+    let whole = "1|00|00|-|-|-\n2|00|00|-|11111111111111111111111111111111|-\n3|01|A8|1|-|-\n";
     assert_eq!(texts[0].output, whole.replace('|', "\t"));
     let bytes: usize = texts.iter().map(|text| text.input.len()).sum();
     assert!(bytes < 1_900_000, "{bytes}");

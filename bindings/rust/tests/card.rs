@@ -1,6 +1,6 @@
 //! A marshal and a tower through the safe calls.
 
-use uluvoli::{Card, Failure, Lane, Refusal, Request, BLOCK_SIZE, CARD_SIZE, LANES, SYSTEM};
+use uluvoli::{Card, Cause, Failure, Lane, Refusal, Request, BLOCK_SIZE, CARD_SIZE, LANES, SYSTEM};
 
 const MARSHAL: u16 = 0x1049;
 const TOWER: u16 = 0x104b;
@@ -15,6 +15,11 @@ fn race(arena: &mut [u8]) -> Card {
     card.add_service(arena, 2, CREDIT, 1, 0x000a).unwrap();
     card.set_limit(200, -50, 0).unwrap();
     card
+}
+
+/// What a request is told: a status pair, and which A5 it was.
+fn pair<T>(sf1: u8, sf2: u8, cause: Option<Cause>) -> Result<T, Failure> {
+    Err(Failure::Pair { sf1, sf2, cause })
 }
 
 /// An open request for the first `count` blocks of a service.
@@ -55,22 +60,16 @@ fn what_fails_changes_nothing() {
         .unwrap();
     let before = arena;
     let tower = card.write(&mut arena, &mut staging, &blocks(&[TOWER], 2), &[b'x'; 32]);
-    assert_eq!(tower, Err(Failure::Pair { sf1: 1, sf2: 0xa5 }));
+    assert_eq!(tower, pair(1, 0xa5, Some(Cause::ReadOnly)));
     let short = card.write(
         &mut arena,
         &mut staging,
         &blocks(&[MARSHAL], 2),
         &[b'x'; 31],
     );
-    assert_eq!(
-        short,
-        Err(Failure::Pair {
-            sf1: 0xff,
-            sf2: 0xac
-        })
-    );
+    assert_eq!(short, pair(0xff, 0xac, None));
     let beyond = card.read(&arena, &mut [0; 48], &blocks(&[TOWER], 3));
-    assert_eq!(beyond, Err(Failure::Pair { sf1: 3, sf2: 0xa8 }));
+    assert_eq!(beyond, pair(3, 0xa8, None));
     let staged = card.write(
         &mut arena,
         &mut [0; 16],
@@ -93,11 +92,49 @@ fn a_purse_stays_within_its_limits() {
         card.write(&mut arena, &mut staging, &blocks(&[CREDIT], 1), &data)
     };
     assert_eq!(spend(50, 1), Ok(()));
-    assert_eq!(spend(1, 2), Err(Failure::Pair { sf1: 1, sf2: 0x03 }));
+    assert_eq!(spend(1, 2), pair(1, 0x03, None));
     assert_eq!(
         card.stored_block(&arena, CREDIT, 0).unwrap()[..4],
         (-50i32).to_le_bytes()
     );
+}
+
+#[test]
+fn an_a5_tells_which_it_was() {
+    const KEYED: u16 = 0x2048;
+    const READ_ONLY: u16 = 0x204b;
+    const CYCLIC: u16 = 0x30cd;
+    const DIRECT: u16 = 0x4051;
+    let (mut arena, mut staging) = ([0u8; 256], [0u8; 256]);
+    let mut card = Card::new(0x0001, 0x0000);
+    for code in [KEYED, READ_ONLY, CYCLIC, DIRECT] {
+        card.add_service(&mut arena, 1, code, 2, 0).unwrap();
+    }
+    let mut stored = [0u8; BLOCK_SIZE];
+    (stored[0], stored[4]) = (9, 2);
+    card.set_block(&mut arena, DIRECT, 0, &stored).unwrap();
+    stored[..8].fill(0xff);
+    card.set_block(&mut arena, DIRECT, 1, &stored).unwrap();
+    let mut told = |code: u16, list: [u8; 2], purse: u8, cashback: u8| {
+        let mut data = [0u8; BLOCK_SIZE];
+        (data[0], data[4], data[12]) = (purse, cashback, 1);
+        let request = Request {
+            open: true,
+            codes: &[code],
+            count: 1,
+            list: &list,
+        };
+        card.write(&mut arena, &mut staging, &request, &data)
+    };
+    let a5 = |cause| pair(1, 0xa5, Some(cause));
+    assert_eq!(told(KEYED, [0x80, 0], 0, 0), a5(Cause::KeyNeeded));
+    assert_eq!(told(READ_ONLY, [0x80, 0], 0, 0), a5(Cause::ReadOnly));
+    assert_eq!(told(DIRECT, [0x90, 0], 0, 0), a5(Cause::NoCashback));
+    assert_eq!(told(CYCLIC, [0x80, 1], 0, 0), a5(Cause::CyclicBlock));
+    assert_eq!(told(DIRECT, [0x80, 0], 10, 9), a5(Cause::PurseRaised));
+    assert_eq!(told(DIRECT, [0x80, 0], 9, 3), a5(Cause::CashbackRaised));
+    assert_eq!(told(DIRECT, [0x80, 1], 0, 1), a5(Cause::SumTooLarge));
+    assert_eq!(told(DIRECT, [0x80, 0], 9, 2), Ok(()));
 }
 
 #[test]
@@ -188,11 +225,11 @@ fn a_board_is_refused() {
     assert_eq!(after(2, 14, 0), refused(42));
     assert_eq!(after(1, 0, 2), refused(41));
     let unknown = card.board(&arena, CREDIT);
-    assert_eq!(unknown, Err(Failure::Pair { sf1: 1, sf2: 0xa6 }));
+    assert_eq!(unknown, pair(1, 0xa6, None));
     assert_eq!(card.board(&arena[..127], TOWER), refused(7));
     let mut few = [0u8; 128];
     let short = race(&mut few).board(&few, TOWER);
-    assert_eq!(short, Err(Failure::Pair { sf1: 3, sf2: 0xa8 }));
+    assert_eq!(short, pair(3, 0xa8, None));
     let broken = Card::from_bytes([0; CARD_SIZE]).board(&few, TOWER);
     assert_eq!(broken, refused(8));
 }

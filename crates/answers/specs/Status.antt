@@ -25,3 +25,22 @@ sf2Of OutsideLimits = 0x03
 sf2Of OutsideWord = 0x01
 sf2Of CashbackExceeds = 0x02
 sf2Of CyclicTooLong = 0xaf
+
+-- which of its causes an A5 has: those of the element check in its order, then those of the rules; 0 for every other fault
+abbrev pub causeOf : Fault → ℕ
+causeOf ListIndex = 0
+causeOf AccessMode = 0
+causeOf Attribute = 0
+causeOf NoService = 0
+causeOf KeyNeeded = 1
+causeOf ReadOnly = 2
+causeOf NoCashback = 3
+causeOf BlockNumber = 0
+causeOf CyclicBlock = 4
+causeOf PurseRaised = 5
+causeOf CashbackRaised = 6
+causeOf SumTooLarge = 7
+causeOf OutsideLimits = 0
+causeOf OutsideWord = 0
+causeOf CashbackExceeds = 0
+causeOf CyclicTooLong = 0

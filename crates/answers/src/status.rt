@@ -1,8 +1,8 @@
 // Status bytes: where in a list an error is (status flag 1), and what it is (status flag 2).
 ghost use mathlib.Core.Path.{_≡_};
-ghost use Rattle.answers.specs.Status.{sf1Of, sf2Of};
+ghost use Rattle.answers.specs.Status.{sf1Of, sf2Of, causeOf};
 
-// Why an element or a rule fails. Several causes share a status byte; they stand apart so that a contract says which one it was.
+// Why an element or a rule fails. Several share a status byte; they stand apart so that a contract says which one it was.
 pub enum Fault {
     // The element's list index is beyond the codes.
     ListIndex,
@@ -60,6 +60,30 @@ impl Fault {
             Fault::OutsideWord => 0x01,
             Fault::CashbackExceeds => 0x02,
             Fault::CyclicTooLong => 0xaf,
+        }
+    }
+
+    // Gives which of its causes an A5 has, 1 to 7 in the order of the tests; 0 for a fault with another byte.
+    pub fn cause(self) -> u8
+        ensures { λ r. ⌜ r ≡ causeOf self ⌝ }
+    {
+        match self {
+            Fault::ListIndex => 0,
+            Fault::AccessMode => 0,
+            Fault::Attribute => 0,
+            Fault::NoService => 0,
+            Fault::KeyNeeded => 1,
+            Fault::ReadOnly => 2,
+            Fault::NoCashback => 3,
+            Fault::BlockNumber => 0,
+            Fault::CyclicBlock => 4,
+            Fault::PurseRaised => 5,
+            Fault::CashbackRaised => 6,
+            Fault::SumTooLarge => 7,
+            Fault::OutsideLimits => 0,
+            Fault::OutsideWord => 0,
+            Fault::CashbackExceeds => 0,
+            Fault::CyclicTooLong => 0,
         }
     }
 }

@@ -12,7 +12,7 @@ use Rattle.text_numbers.specs.declared.codes.Code.the-variants.{Is, Bad}
 use Rattle.text_numbers.specs.Codes.{hex16}
 use Rattle.card_build.specs.declared.card.Card.{Card}
 use Rattle.request_plan.specs.declared.Reply.the-variants.{Refused}
-use Rattle.line_answer.specs.Answer.{closed, refusalFields, answerText}
+use Rattle.line_answer.specs.Answer.{refusedText, answerText}
 use Rattle.line_request.specs.Ask.{fieldIn, isLetter}
 use Rattle.board_lanes.specs.Board.{boardNumber, lanesOf}
 use Rattle.board_lanes.specs.Text.{lanesText}
@@ -33,7 +33,7 @@ boardCode line =
 -- eight lines of the blocks read; or one line, with the ordinal: a refusal of the board's own, or the card's answer
 abbrev pub refreshedText : ℕ → List ℕ → Refreshed → List ℕ
 refreshedText ordinal bytes Board = lanesText 1 (lanesOf bytes)
-refreshedText ordinal bytes (NoBoard x) = closed 10 (refusalFields ordinal (boardNumber x))
+refreshedText ordinal bytes (NoBoard x) = refusedText ordinal (boardNumber x)
 refreshedText ordinal bytes (ByCard reply) = answerText ordinal reply []
 
 -- malformed is refusal 6

@@ -53,9 +53,7 @@ fn put_refreshed(
     match refreshed {
         Refreshed::Board => text::put_board(bytes, out, at),
         Refreshed::NoBoard(refusal) => {
-            let last = line_answer::put_refusal(ordinal, refusal.number(), out, at);
-            out[last] = b'\n';
-            last + 1
+            line_answer::put_refused(ordinal, refusal.number(), out, at)
         }
         Refreshed::Card(reply) => line_answer::put_answer(ordinal, reply, &bytes[0..0], out, at),
     }

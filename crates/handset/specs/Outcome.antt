@@ -1,5 +1,5 @@
--- What a call of the library returns, as one number: 0 where it was done, a status pair as SF1 * 256 + SF2, a refusal as its
--- number * 65536. Whatever else it answers it writes through a reference, which a refusal leaves as it was (proofs/Left.antt).
+-- What a call of the library returns, as one number: 0 where it was done, a status pair as SF1 * 256 + SF2 and the cause of an
+-- A5 * 16777216, a refusal as its number * 65536. Whatever else it answers it writes through a reference, which a refusal leaves as it was (proofs/Left.antt).
 use Prim.Native.Nat.{ℕ, _*_}
 use Rattle.answers.specs.declared.refusal.Refusal.{Refusal}
 use Rattle.answers.specs.Refusal.{refusalNumber}

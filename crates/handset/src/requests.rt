@@ -13,12 +13,15 @@ ghost use Rattle.request_plan.specs.Serve.{serve, outputAfter, stagingBy};
 ghost use Rattle.handset_bytes.specs.Card.{decodedOf};
 ghost use Rattle.handset.specs.Reply.{replyAs};
 
-// The number that a request returns: its status pair, or its refusal.
+// The number that a request returns: its status pair, with the cause of an A5 above it, or its refusal.
 pub(crate) fn replied(reply: Reply) -> u32
     ensures { λ r. ⌜ r ≡ replyAs reply ⌝ }
 {
+    let cause = reply.cause();
     match reply.response() {
-        Response::Pair { flag1, flag2 } => 256 * (flag1 as u32) + flag2 as u32,
+        Response::Pair { flag1, flag2 } => {
+            16777216 * (cause as u32) + 256 * (flag1 as u32) + flag2 as u32
+        }
         Response::Refusal(number) => outcome::numbered(number),
     }
 }

@@ -14,7 +14,7 @@ use Rattle.request_check.specs.Row.{rowOf}
 use Rattle.request_plan.specs.declared.Reply.{Reply}
 use Rattle.request_plan.specs.declared.Reply.the-variants as replies
 use Rattle.request_plan.specs.Serve.{storeIn}
-use Rattle.line_answer.specs.Answer.{closed, refusalFields, answerText}
+use Rattle.line_answer.specs.Answer.{refusedText, answerText}
 use Rattle.board_lanes.specs.Board.{boardNumber, Board, lanes, refused, boardOf}
 use Rattle.board_lanes.specs.Text.{lanesText}
 use Rattle.board_read.specs.Refresh.{boardServed}
@@ -31,7 +31,7 @@ eightOf c a code = part (storeOf c a code) 0 128
 -- what is printed of a board: its eight lanes, or its refusal with the ordinal
 abbrev pub boardText : ℕ → Board → List ℕ
 boardText ordinal (lanes ls) = lanesText 1 ls
-boardText ordinal (refused x) = closed 10 (refusalFields ordinal (boardNumber x))
+boardText ordinal (refused x) = refusedText ordinal (boardNumber x)
 
 -- what is printed of a refresh: the board where the card answers 00 00, else the card's own answer
 abbrev pub shownText : ℕ → Reply → Board → List ℕ

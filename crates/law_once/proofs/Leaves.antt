@@ -29,6 +29,7 @@ use Rattle.service_code.proofs.code.ServiceCode.kind as service_code·ServiceCo
 use Rattle.service_code.proofs.code.ServiceCode.requires_key as service_code·ServiceCode·requires-key
 use Rattle.answers.proofs.refusal.Refusal.number as answers·Refusal·number
 use Rattle.answers.proofs.status.Fault.status_flag2 as answers·Fault·status-flag2
+use Rattle.answers.proofs.status.Fault.cause as answers·Fault·cause
 use Rattle.answers.proofs.status.list_error_index as answers·list-error-index
 use Rattle.error_places.proofs.bitmap_positions as error_places·bitmap-positions
 use Rattle.block_list.proofs.element.BlockListElement.pack as block_list·BlockListElement·pack
@@ -101,6 +102,9 @@ module _ {M : Type 1} (𝓤 : URA M) (H : Heap 𝓤) (A : Atoms 𝓤) (mem : Mem
 
   pub answers·Fault·status-flag2-once : OneAnswer 𝓤 answers·Fault·status-flag2.ended (answers·Fault·status-flag2.clauses 𝓤 H A mem run)
   answers·Fault·status-flag2-once κs a g r r′ ws ws′ = result 𝓤 refl
+
+  pub answers·Fault·cause-once : OneAnswer 𝓤 answers·Fault·cause.ended (answers·Fault·cause.clauses 𝓤 H A mem run)
+  answers·Fault·cause-once κs a g r r′ ws ws′ = result 𝓤 refl
 
   pub answers·list-error-index-once : OneAnswer 𝓤 answers·list-error-index.ended (answers·list-error-index.clauses 𝓤 H A mem run)
   answers·list-error-index-once κs a g r r′ ws ws′ = result 𝓤 refl

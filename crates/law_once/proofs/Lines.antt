@@ -15,9 +15,9 @@ use Rattle.line_request.proofs.is_letter as line_request·is-letter
 use Rattle.line_request.proofs.is_request as line_request·is-request
 use Rattle.line_request.proofs.ask_of as line_request·ask-of
 use Rattle.line_answer.proofs.put_number as line_answer·put-number
-use Rattle.line_answer.proofs.put_refusal as line_answer·put-refusal
 use Rattle.line_answer.proofs.put_fields as line_answer·put-fields
 use Rattle.line_answer.proofs.put_answer as line_answer·put-answer
+use Rattle.line_answer.proofs.put_refused as line_answer·put-refused
 use Rattle.line_serve.proofs.serve_line as line_serve·serve-line
 use Rattle.line_serve.proofs.request_line as line_serve·request-line
 use Rattle.replay_state.proofs.start as replay_state·start
@@ -47,14 +47,14 @@ module _ {M : Type 1} (𝓤 : URA M) (H : Heap 𝓤) (A : Atoms 𝓤) (mem : Mem
   pub line_answer·put-number-once : OneAnswer 𝓤 line_answer·put-number.ended (line_answer·put-number.clauses 𝓤 H A mem run)
   line_answer·put-number-once κs a g r r′ ws ws′ = of-two 𝓤 (λ p p′ q q′. (once (p .place) (q .place), λ i. (tt, (tt, (once (p .bytes) (q .bytes) i, (tt, tt))))))
 
-  pub line_answer·put-refusal-once : OneAnswer 𝓤 line_answer·put-refusal.ended (line_answer·put-refusal.clauses 𝓤 H A mem run)
-  line_answer·put-refusal-once κs a g r r′ ws ws′ = of-two 𝓤 (λ p p′ q q′. (once (p .place) (q .place), λ i. (tt, (tt, (once (p .bytes) (q .bytes) i, (tt, tt))))))
-
   pub line_answer·put-fields-once : OneAnswer 𝓤 line_answer·put-fields.ended (line_answer·put-fields.clauses 𝓤 H A mem run)
   line_answer·put-fields-once κs a g r r′ ws ws′ = of-two 𝓤 (λ p p′ q q′. (once (p .place) (q .place), λ i. (tt, (tt, (tt, (once (p .bytes) (q .bytes) i, (tt, tt)))))))
 
   pub line_answer·put-answer-once : OneAnswer 𝓤 line_answer·put-answer.ended (line_answer·put-answer.clauses 𝓤 H A mem run)
   line_answer·put-answer-once κs a g r r′ ws ws′ = of-two 𝓤 (λ p p′ q q′. (once (p .place) (q .place), λ i. (tt, (tt, (tt, (once (p .bytes) (q .bytes) i, (tt, tt)))))))
+
+  pub line_answer·put-refused-once : OneAnswer 𝓤 line_answer·put-refused.ended (line_answer·put-refused.clauses 𝓤 H A mem run)
+  line_answer·put-refused-once κs a g r r′ ws ws′ = of-two 𝓤 (λ p p′ q q′. (once (p .place) (q .place), λ i. (tt, (tt, (once (p .bytes) (q .bytes) i, (tt, tt))))))
 
   pub line_serve·serve-line-once : OneAnswer 𝓤 line_serve·serve-line.ended (line_serve·serve-line.clauses 𝓤 H A mem run)
   line_serve·serve-line-once κs a g r r′ ws ws′ = of-four 𝓤 (λ e arena work bytes. (e, λ i. (tt, (arena i, (work i, (bytes i, (tt, tt)))))))

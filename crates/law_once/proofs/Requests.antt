@@ -28,6 +28,7 @@ use Rattle.request_rules.proofs.element_on as request_rules·element-on
 use Rattle.request_rules.proofs.end_on as request_rules·end-on
 use Rattle.request_runs.proofs.run.apply as request_runs·apply
 use Rattle.request_plan.proofs.Reply.response as request_plan·Reply·response
+use Rattle.request_plan.proofs.Reply.cause as request_plan·Reply·cause
 use Rattle.request_plan.proofs.judge as request_plan·judge
 use Rattle.request_block.proofs.judge_block as request_block·judge-block
 use Rattle.request_block.proofs.set_block as request_block·set-block
@@ -71,6 +72,9 @@ module _ {M : Type 1} (𝓤 : URA M) (H : Heap 𝓤) (A : Atoms 𝓤) (mem : Mem
 
   pub request_plan·Reply·response-once : OneAnswer 𝓤 request_plan·Reply·response.ended (request_plan·Reply·response.clauses 𝓤 H A mem run)
   request_plan·Reply·response-once κs a g r r′ ws ws′ = result 𝓤 refl
+
+  pub request_plan·Reply·cause-once : OneAnswer 𝓤 request_plan·Reply·cause.ended (request_plan·Reply·cause.clauses 𝓤 H A mem run)
+  request_plan·Reply·cause-once κs a g r r′ ws ws′ = result 𝓤 refl
 
   pub request_plan·judge-once : OneAnswer 𝓤 request_plan·judge.ended (request_plan·judge.clauses 𝓤 H A mem run)
   request_plan·judge-once κs a g r r′ ws ws′ = result 𝓤 refl

@@ -1,4 +1,4 @@
--- The line that answers a request: five fields, parted by tabs (9) and ended by LF (10).
+-- The line that answers a request: five fields and the cause, parted by tabs (9) and ended by LF (10).
 use Prim.Native.Nat.{ℕ}
 use mathlib.Core.Bool.{cond}
 use mathlib.Core.List.{List, [], _∷_, _++_}
@@ -8,7 +8,7 @@ use Rattle.text_numbers.specs.Hex.{hexText}
 use Rattle.request_plan.specs.declared.Reply.{Reply}
 use Rattle.request_plan.specs.declared.Response.{Response}
 use Rattle.request_plan.specs.declared.Response.the-variants.{Pair, Refusal}
-use Rattle.request_plan.specs.Request.{responseOf}
+use Rattle.request_plan.specs.Request.{responseOf, causeIn}
 
 -- a field and the byte that ends it
 abbrev pub closed : ℕ → List ℕ → List ℕ
@@ -39,6 +39,14 @@ responseFields ordinal (Pair flag1 flag2) read = statusFields ordinal flag1 flag
 abbrev pub answerFields : ℕ → Reply → List ℕ → List ℕ
 answerFields ordinal reply read = responseFields ordinal (responseOf reply) read
 
+-- which A5 it was, in decimal; `-` (45) where it was none
+unfoldable pub causeText : ℕ → List ℕ
+causeText cause = cond (eqb cause 0) (45 ∷ []) (decText cause)
+
 -- the whole line
 abbrev pub answerText : ℕ → Reply → List ℕ → List ℕ
-answerText ordinal reply read = closed 10 (answerFields ordinal reply read)
+answerText ordinal reply read = closed 9 (answerFields ordinal reply read) ++ closed 10 (causeText (causeIn reply))
+
+-- the whole line of a refusal, by its number
+abbrev pub refusedText : ℕ → ℕ → List ℕ
+refusedText ordinal number = closed 9 (refusalFields ordinal number) ++ closed 10 (45 ∷ [])

@@ -4,12 +4,12 @@ use request_plan::Response;
 use text_numbers::decimals;
 use text_numbers::hex;
 ghost use mathlib.Core.List.{[], _∷_};
-ghost use Prim.Native.Nat.{_+_, _≤_};
+ghost use Prim.Native.Nat.{_+_, _≤_, _<_};
 ghost use lib.ListN.{length};
 ghost use Rattle.text_numbers.specs.Decimal.{decText};
 ghost use Rattle.text_numbers.specs.Hex.{hexText};
 ghost use Rattle.text_stream.specs.Stream.{Written};
-ghost use Rattle.line_answer.specs.Answer.{closed, whereText, statusFields, refusalFields, answerFields, answerText};
+ghost use Rattle.line_answer.specs.Answer.{closed, whereText, statusFields, refusalFields, answerFields, causeText, answerText, refusedText};
 
 // Puts one byte and the byte that ends its field into `out` from `at` on, and answers the place after them.
 fn put_mark(mark: u8, end: u8, out: &mut [u8], at: usize) -> usize
@@ -61,8 +61,8 @@ fn put_flag(flag: u8, out: &mut [u8], at: usize) -> usize
     last + 1
 }
 
-// Puts the fields of a refused request, and answers the place after them; the caller ends the line.
-pub fn put_refusal(ordinal: u64, number: u8, out: &mut [u8], at: usize) -> usize
+// Puts the fields of a refused request, and answers the place after them.
+fn put_refusal(ordinal: u64, number: u8, out: &mut [u8], at: usize) -> usize
     requires { ⌜ at + 47 ≤ length (now out) ⌝ }
     ensures { λ r. ⌜ Written (now (out .entry)) at (refusalFields ordinal number) r (now (out .exit)) ⌝ }
     ensures { λ r. ⌜ r ≤ at + 47 ⌝ }
@@ -90,14 +90,26 @@ fn put_status(ordinal: u64, flag1: u8, flag2: u8, read: &[u8], out: &mut [u8], a
 
 // Puts the five fields that answer a request into `out` from `at` on, and answers the place after them; the caller ends the line.
 pub fn put_fields(ordinal: u64, reply: Reply, read: &[u8], out: &mut [u8], at: usize) -> usize
-    requires { ⌜ at + length (now read) + length (now read) + 63 ≤ length (now out) ⌝ }
+    requires { ⌜ at + length (now read) + length (now read) + 61 ≤ length (now out) ⌝ }
     ensures { λ r. ⌜ Written (now (out .entry)) at (answerFields ordinal reply (now (read .entry))) r (now (out .exit)) ⌝ }
-    ensures { λ r. ⌜ r ≤ at + length (now (read .entry)) + length (now (read .entry)) + 63 ⌝ }
+    ensures { λ r. ⌜ r ≤ at + length (now (read .entry)) + length (now (read .entry)) + 61 ⌝ }
 {
     match reply.response() {
         Response::Refusal(number) => put_refusal(ordinal, number, out, at),
         Response::Pair { flag1, flag2 } => put_status(ordinal, flag1, flag2, read, out, at),
     }
+}
+
+// Puts a cause and the LF that ends its line, and answers the place after them: `-` for 0, else its digit.
+fn put_cause(cause: u8, out: &mut [u8], at: usize) -> usize
+    requires { ⌜ (cause < 10) × (at + 2 ≤ length (now out)) ⌝ }
+    ensures { λ r. ⌜ Written (now (out .entry)) at (closed 10 (causeText cause)) r (now (out .exit)) ⌝ }
+    ensures { λ r. ⌜ r ≤ at + 2 ⌝ }
+{
+    if cause == 0 {
+        return put_mark(b'-', b'\n', out, at);
+    }
+    put_mark(b'0' + cause, b'\n', out, at)
 }
 
 // Puts the line that answers a request into `out` from `at` on, and answers the place after it.
@@ -106,7 +118,18 @@ pub fn put_answer(ordinal: u64, reply: Reply, read: &[u8], out: &mut [u8], at: u
     ensures { λ r. ⌜ Written (now (out .entry)) at (answerText ordinal reply (now (read .entry))) r (now (out .exit)) ⌝ }
     ensures { λ r. ⌜ r ≤ at + length (now (read .entry)) + length (now (read .entry)) + 64 ⌝ }
 {
-    let last = put_fields(ordinal, reply, read, out, at);
-    out[last] = b'\n';
-    last + 1
+    let five = put_fields(ordinal, reply, read, out, at);
+    out[five] = b'\t';
+    put_cause(reply.cause(), out, five + 1)
+}
+
+// Puts the line of a request that is refused with this number into `out` from `at` on, and answers the place after it.
+pub fn put_refused(ordinal: u64, number: u8, out: &mut [u8], at: usize) -> usize
+    requires { ⌜ at + 50 ≤ length (now out) ⌝ }
+    ensures { λ r. ⌜ Written (now (out .entry)) at (refusedText ordinal number) r (now (out .exit)) ⌝ }
+    ensures { λ r. ⌜ r ≤ at + 50 ⌝ }
+{
+    let tab = put_refusal(ordinal, number, out, at);
+    out[tab] = b'\t';
+    put_mark(b'-', b'\n', out, tab + 1)
 }

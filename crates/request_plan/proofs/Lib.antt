@@ -10,3 +10,4 @@ pub mod Codes
 pub mod Same
 mod Walks
 pub mod Frame
+pub mod Causes

@@ -2,7 +2,7 @@
 use Prim.Native.Nat.{ℕ}
 use mathlib.Core.List.{List, []}
 use mathlib.Core.Bool.{Bool, true, false}
-use Rattle.answers.specs.Status.{sf1Of, sf2Of}
+use Rattle.answers.specs.Status.{sf1Of, sf2Of, causeOf}
 use Rattle.answers.specs.Refusal.{refusalNumber}
 use Rattle.request_plan.specs.declared.Reply.{Reply}
 use Rattle.request_plan.specs.declared.Reply.the-variants.{Refused, Done, ShortData, Failed}
@@ -34,3 +34,10 @@ responseOf (Refused r) = Refusal (refusalNumber r)
 responseOf Done = Pair 0 0
 responseOf ShortData = Pair 0xff 0xac
 responseOf (Failed i f) = Pair (sf1Of i) (sf2Of f)
+
+-- which A5 it was, 1 to 7, beside the pair; 0 for any other reply
+abbrev pub causeIn : Reply → ℕ
+causeIn (Refused r) = 0
+causeIn Done = 0
+causeIn ShortData = 0
+causeIn (Failed i f) = causeOf f

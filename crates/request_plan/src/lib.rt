@@ -7,7 +7,7 @@ use byte_parts::sizes::BLOCK_SIZE;
 use byte_parts::sizes::MOST_CODES;
 use byte_parts::sizes::MOST_ELEMENTS;
 ghost use mathlib.Core.Path.{_≡_};
-ghost use Rattle.request_plan.specs.Request.{responseOf};
+ghost use Rattle.request_plan.specs.Request.{responseOf, causeIn};
 ghost use Prim.Native.Nat.{_*_};
 ghost use lib.Dec.{ltb};
 ghost use Rattle.request_plan.specs.Plan.{mostElements, mostCodes, writeJudged, readJudged, judgedWith};
@@ -48,6 +48,18 @@ impl Reply {
                     flag2: flag2,
                 }
             }
+        }
+    }
+
+    // Gives which A5 it was, 1 to 7; 0 where the reply is no A5.
+    pub fn cause(self) -> u8
+        ensures { λ r. ⌜ r ≡ causeIn self ⌝ }
+    {
+        match self {
+            Reply::Refused(_) => 0,
+            Reply::Done => 0,
+            Reply::ShortData => 0,
+            Reply::Failed { index: _, fault } => fault.cause(),
         }
     }
 }

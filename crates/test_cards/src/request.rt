@@ -26,6 +26,13 @@ fn told(reply: Reply, answer: &[u8]) -> bool {
     }
 }
 
+// Whether a reply is the one told, with the cause that the line's last field has: the Rust tells no cause.
+fn told_of(line: &[u8], reply: Reply, answer: &[u8]) -> bool {
+    let mut cause = [0u8; 8];
+    let n = spelt::bytes(line, 9, &mut cause);
+    n == 1 && cause[0] == reply.cause() && told(reply, answer)
+}
+
 // Whether all bytes have a value.
 fn all(s: &[u8], value: u8) -> bool {
     let mut i = 0;
@@ -72,7 +79,7 @@ fn read_agrees(
     let n = spelt::bytes(line, 7, &mut answer);
     let mut last = [0u8; 16384];
     let m = spelt::bytes(line, 8, &mut last);
-    told(reply, &answer[0..n]) && read_right(out, &last[0..m], 0xa5)
+    told_of(line, reply, &answer[0..n]) && read_right(out, &last[0..m], 0xa5)
 }
 
 // Whether the staging is as a reply leaves it: zero for the blocks in use after a status pair, and else the mark it held.
@@ -141,7 +148,7 @@ fn written_right(
     let n = spelt::bytes(line, 7, &mut answer);
     let mut last = [0u8; 16384];
     let m = spelt::bytes(line, 8, &mut last);
-    if !told(reply, &answer[0..n]) {
+    if !told_of(line, reply, &answer[0..n]) {
         return false;
     }
     if !staging_right(reply, card.used, staging) {

@@ -149,7 +149,7 @@ fn outcome(question: &Question, told: Result<Option<Block>, u8>) -> String {
         Ok(None) => "unchanged".to_string(),
         Err(0xA5) => {
             let cause = cause::of_direct(&question.stored, &question.command, signed);
-            format!("A5 {cause}")
+            format!("A5 {}", cause.name())
         }
         Err(0x02) => "02".to_string(),
         Err(sf2) => {

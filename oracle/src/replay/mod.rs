@@ -4,6 +4,7 @@ mod fields;
 pub mod line;
 
 use crate::board::{self, LANES};
+use crate::cause::{self, Cause};
 use crate::hex::hex;
 use crate::refusal::{self, Refusal};
 use crate::request::{self, DONE, Request, Told};
@@ -71,7 +72,8 @@ fn take(card: &mut Card, line: &[u8]) -> Result<(), Refusal> {
     }
 }
 
-/// What is printed for the first request and all lines after it.
+/// What is printed for the first request and all lines after it: what the Rust tells, and the
+/// cause as a last column.
 fn requests<'a>(
     mut card: Card,
     lines: impl Iterator<Item = &'a [u8]>,
@@ -82,7 +84,7 @@ fn requests<'a>(
         watch(&card, line);
         out += &match answer(&mut card, ordinal, line) {
             Ok(lines) => lines,
-            Err(refusal) => format!("{ordinal}\t!\t{refusal}\t-\t-\n"),
+            Err(refusal) => format!("{ordinal}\t!\t{refusal}\t-\t-\t-\n"),
         };
     }
     out
@@ -93,7 +95,8 @@ fn answer(card: &mut Card, ordinal: usize, line: &[u8]) -> Result<String, Refusa
     match line::asked(line).ok_or(refusal::REQUEST_LINE)? {
         Asked::Request(request) => {
             let answer = request::serve(card, ARENA, ROOM, &request)?;
-            Ok(told(ordinal, &answer))
+            let cause = cause::of(card, &request, answer.pair);
+            Ok(told(ordinal, &answer, cause))
         }
         Asked::Board(code) => refresh(card, ordinal, code),
     }
@@ -105,20 +108,22 @@ fn refresh(card: &mut Card, ordinal: usize, code: u16) -> Result<String, Refusal
     let read = Request::read_of(code, 0..LANES);
     let answer = request::serve(card, ARENA, ROOM, &read)?;
     if answer.pair != DONE {
-        return Ok(told(ordinal, &answer));
+        let cause = cause::of(card, &read, answer.pair);
+        return Ok(told(ordinal, &answer, cause));
     }
     let (blocks, _) = answer.read.as_chunks();
     board::board(blocks)
 }
 
 /// The line of a request that was told a pair.
-fn told(ordinal: usize, answer: &Told) -> String {
+fn told(ordinal: usize, answer: &Told, cause: Option<Cause>) -> String {
     let (sf1, sf2) = answer.pair;
     let read = hex(&answer.read);
+    let cause = cause.map_or("-".to_string(), |cause| cause.number().to_string());
     let place = match sf1 {
         0 => "-".to_string(),
         255 => "*".to_string(),
         _ => sf1.to_string(),
     };
-    format!("{ordinal}\t{sf1:02X}\t{sf2:02X}\t{place}\t{read}\n")
+    format!("{ordinal}\t{sf1:02X}\t{sf2:02X}\t{place}\t{read}\t{cause}\n")
 }

@@ -79,9 +79,8 @@ fn failed(
     let letter = if request.write { 'W' } else { 'R' };
     let (name, by_rule) = match sf2 {
         0xA5 => {
-            let cause = cause::of_element(card, request, elements, index);
-            let by_rule = !["key needed", "read-only", "no cashback"].contains(&cause);
-            (format!("A5 {cause}"), by_rule)
+            let cause = cause::of(card, request, (index as u8 + 1, sf2)).expect("A5 has a cause");
+            (format!("A5 {}", cause.name()), cause.by_rule())
         }
         0x01..=0x03 | 0xAF => (format!("{sf2:02X}"), true),
         _ => (format!("{sf2:02X}"), false),

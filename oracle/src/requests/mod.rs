@@ -3,6 +3,7 @@
 
 mod met;
 
+use crate::cause::{self, Cause};
 use crate::counts::Counts;
 use crate::draw::{additions, cards, requests};
 use crate::felica_standard::emulator::doors::Block;
@@ -16,8 +17,11 @@ use crate::tree::{Card, usable};
 /// Length and seed of the list that is small enough to be stored.
 pub const SMALL: (usize, u64) = (2_000, 1);
 
-/// A card gets no further request once its text is this long, so that it fits one file.
+/// A card gets no further request once its text, causes aside, is this long, so that it fits one file.
 const LONG_TEXT: usize = 20_000;
+
+/// The bytes of a line's last field, the cause, with the blank before it.
+const CAUSE_FIELD: usize = 3;
 
 /// This many requests, fixed by the seed; each text is a card with its requests.
 pub fn all(length: usize, seed: u64) -> List {
@@ -49,7 +53,7 @@ fn card(random: &mut Random, most: usize, counts: &mut Counts) -> (String, usize
     let wanted = most.min(1 + random.below(60));
     let mut served = 0;
     let mut last = None;
-    while served < wanted && text.len() < LONG_TEXT {
+    while served < wanted && text.len() - served * CAUSE_FIELD < LONG_TEXT {
         let short = |arena| usable(arena) < card.used();
         if random.once_in(if short(arena) { 2 } else { 40 }) {
             arena = additions::other_arena(random, &card);
@@ -91,19 +95,21 @@ pub fn serve(
     let before = card.arena();
     let told = request::serve(card, arena, room, request);
     met::count(counts, card, request, &told);
-    let (answer, outcome) = match told {
-        Err(refusal) => (format!("!{refusal:02X}"), "-".to_string()),
+    let (answer, outcome, cause) = match told {
+        Err(refusal) => (format!("!{refusal:02X}"), "-".to_string(), None),
         Ok(Told { pair, read }) => {
             let outcome = if request.write {
                 changes(&before, &card.arena())
             } else {
                 hex(&read)
             };
-            (format!("{:02X}{:02X}", pair.0, pair.1), outcome)
+            let cause = cause::of(card, request, pair);
+            (format!("{:02X}{:02X}", pair.0, pair.1), outcome, cause)
         }
     };
+    let cause = cause.map_or(0, Cause::number);
     format!(
-        "{} {} {} {:08X} {} {} {room:08X} {answer} {outcome}\n",
+        "{} {} {} {:08X} {} {} {room:08X} {answer} {outcome} {cause:02X}\n",
         if request.write { 'W' } else { 'R' },
         if request.open { 'O' } else { 'S' },
         hex_codes(&request.codes),

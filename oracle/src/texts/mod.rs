@@ -12,6 +12,7 @@ pub mod spoil;
 
 use crate::counts::Counts;
 use crate::random::Random;
+use crate::replay::line::is_request;
 use crate::replay::watched;
 use crate::terminals;
 use boards::met::Met;
@@ -181,18 +182,34 @@ pub fn count(counts: &mut Counts, text: &Text) {
             [_, _, _] => counts.meet("lanes printed"),
             [_, "!", refusal, ..] => counts.meet(format!("request refused {refusal}")),
             [_, "00", ..] => counts.meet("done"),
-            [_, sf1, sf2, ..] => {
+            [ordinal, sf1, sf2, .., cause] => {
                 counts.meet(format!("SF1 {sf1}"));
                 counts.meet(format!("SF2 {sf2}"));
+                if *cause != "-" {
+                    let kind = kind_of(&text.input, ordinal);
+                    counts.meet(format!("cause {cause}, {kind}"));
+                }
             }
-            _ => unreachable!("replay prints three or five fields"),
+            _ => unreachable!("replay prints three or six fields"),
         }
     }
 }
 
-/// What replay can say: every refusal, every place from 01 to FF and every SF2; and what refreshes can meet,
-/// with the texts that have names. Refusals 4, 5, 7
-/// and 8 are not among them: replay lends enough of each and its card is always a built one.
+/// Whether the request of this ordinal is an open one or in a session.
+fn kind_of(text: &[u8], ordinal: &str) -> &'static str {
+    let lines = text.split(|&byte| byte == b'\n');
+    let ordinal: usize = ordinal.parse().expect("an ordinal is a number");
+    let mut requests = lines.skip_while(|line| !is_request(line));
+    match requests.nth(ordinal - 1) {
+        Some([_, _, b'O', ..]) => "open",
+        _ => "session",
+    }
+}
+
+/// What replay can say: every refusal, every place from 01 to FF, every SF2, and every cause of an
+/// A5, of open requests and, but for a key that is needed, in sessions; and what refreshes can meet,
+/// with the texts that have names. Refusals 4, 5, 7 and 8 are not among them: replay lends enough of
+/// each and its card is always a built one.
 fn possible() -> impl Iterator<Item = String> {
     let image = (11..=23).chain([28, 30]);
     let requests = [1, 2, 3, 6].into_iter().chain(40..=43);
@@ -205,6 +222,8 @@ fn possible() -> impl Iterator<Item = String> {
         .chain(requests.map(|number| format!("request refused {number}")))
         .chain((1..=255).map(|sf1| format!("SF1 {sf1:02X}")))
         .chain(sf2.map(|sf2| format!("SF2 {sf2:02X}")))
+        .chain((1..=7).map(|cause| format!("cause {cause}, open")))
+        .chain((2..=7).map(|cause| format!("cause {cause}, session")))
         .chain(["done".to_string()])
         .chain(boards::met::ALL.iter().map(|name| format!("board: {name}")))
         .chain(named)

@@ -1,10 +1,6 @@
 -- `board_line::put_refreshed` meets its contract, by what the refresh came to. Assumes nothing.
 use borrow.Author.Needs.{needs}
 use native.Mathlib.Omega.{arith}
-use mathlib.Core.Path.{_≡_}
-use Rattle.text_stream.proofs.Prints.{written-byte}
-use Rattle.line_answer.specs.Answer.{refusalFields}
-use Rattle.board_lanes.specs.Board.{boardNumber}
 use Rattle.board_line.proofs.put_refreshed.Statement.{statement}
 use Rattle.board_line.proofs.put_refreshed.Tie as tie
 
@@ -18,7 +14,7 @@ returns-2 c =
     let p = c .before .before in
     let n = p .before .before in
     let r = n .before .before in
-    rw (r .refreshed .given .1) (written-byte _ 10 (rw (n .number .ensures) at (p .put-refusal .ensures .0)), omega (arith, p .put-refusal .ensures .1))
+    rw (r .refreshed .given .1) (rw (n .number .ensures) at (p .put-refused .ensures .0), omega (arith, p .put-refused .ensures .1))
 
 returns-3 : tie.Need-returns-3
 returns-3 c =
@@ -34,8 +30,6 @@ put-refreshed-spec =
     (λ c. search needs)
     (λ c κs. search needs)
     (λ c κs. search needs)
-    (λ c. search needs)
-    (λ c. search needs)
     (λ c. search needs)
     (λ c. search needs)
     (λ c. search needs)

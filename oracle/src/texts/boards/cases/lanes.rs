@@ -18,7 +18,7 @@ fn leander() -> (u8, Block) {
 
 /// The one line of a refusal.
 fn refused(number: u8) -> String {
-    format!("1|!|{number}|-|-\n")
+    format!("1|!|{number}|-|-|-\n")
 }
 
 /// Boards, and what they print.

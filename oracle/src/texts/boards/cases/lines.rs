@@ -21,17 +21,17 @@ pub fn stores() -> Vec<Case> {
         case(
             "store: no blocks",
             of(0x1049, 0) + "L|1049\n",
-            "1|01|A8|1|-\n",
+            "1|01|A8|1|-|-\n",
         ),
         case(
             "store: one block",
             of(0x1049, 1) + &lane(0x1049) + "L|1049\n",
-            "1|02|A8|2|-\n",
+            "1|02|A8|2|-|-\n",
         ),
         case(
             "store: seven blocks, ahead of 41",
             of(0x1049, 7) + &wrong + "L|1049\n",
-            "1|08|A8|8|-\n",
+            "1|08|A8|8|-|-\n",
         ),
         case(
             "store: nine blocks, the ninth none of a board",
@@ -46,20 +46,20 @@ pub fn stores() -> Vec<Case> {
         case(
             "store: cyclic, and its ring moves on",
             of(0x104C, 8) + &lane(0x104C) + "L|104C\n" + &ring("8000", &moved) + "L|104C\n",
-            format!("{leander}2|00|00|-|-\n3|!|41|-|-\n"),
+            format!("{leander}2|00|00|-|-|-\n3|!|41|-|-|-\n"),
         ),
         case(
             "store: a purse, lowered",
             of(0x1051, 8) + &lane(0x1051) + "L|1051\n" + purse + lowered + "L|1051\n",
             format!(
-                "{leander}2|00|00|-|-\n3|00|00|-|-\n{}",
+                "{leander}2|00|00|-|-|-\n3|00|00|-|-|-\n{}",
                 leander.replace("|7|", "|6|")
             ),
         ),
         case(
             "store: keyed, and the read is a session's",
             of(0x1048, 8) + &lane(0x1048) + "R|O|1048|1|8000\nL|1048\n",
-            format!("1|01|A5|1|-\n{leander}"),
+            format!("1|01|A5|1|-|1\n{leander}"),
         ),
         case(
             "store: read-only, of a number that others write",
@@ -78,7 +78,7 @@ pub fn stores() -> Vec<Case> {
             "no store: unknown, undefined, areas, the system",
             format!("{areas}L|1089\nL|104B\nL|1040\nL|1041\nL|0000\nL|FFFF\nL|ffff\nL|1049\n"),
             format!(
-                "1|01|A6|1|-\n2|01|A6|1|-\n3|01|A4|1|-\n4|01|A4|1|-\n5|01|A4|1|-\n6|01|A4|1|-\n7|01|A4|1|-\n{EMPTY}"
+                "1|01|A6|1|-|-\n2|01|A6|1|-|-\n3|01|A4|1|-|-\n4|01|A4|1|-|-\n5|01|A4|1|-|-\n6|01|A4|1|-|-\n7|01|A4|1|-|-\n{EMPTY}"
             ),
         ),
     ]
@@ -102,7 +102,7 @@ pub fn lines() -> Vec<Case> {
         case(
             "line: malformed, and yet the first request",
             format!("{EIGHT}L\nblk|1049|0|\n{read}"),
-            "1|!|6|-|-\n2|!|6|-|-\n3|00|00|-|-\n",
+            "1|!|6|-|-|-\n2|!|6|-|-|-\n3|00|00|-|-|-\n",
         ),
         case(
             "line: another first field in an image",
@@ -117,28 +117,28 @@ pub fn lines() -> Vec<Case> {
         case(
             "line: another first field after a request",
             format!("{EIGHT}{read}l|1049\nLL|1049\nL|1049\n"),
-            format!("1|00|00|-|-\n2|!|6|-|-\n3|!|6|-|-\n{EMPTY}"),
+            format!("1|00|00|-|-|-\n2|!|6|-|-|-\n3|!|6|-|-|-\n{EMPTY}"),
         ),
         case(
             "line: it takes an ordinal",
             format!("{EIGHT}{read}L|1049\n{read}L|1049\n{read}"),
-            format!("1|00|00|-|-\n{EMPTY}3|00|00|-|-\n{EMPTY}5|00|00|-|-\n"),
+            format!("1|00|00|-|-|-\n{EMPTY}3|00|00|-|-|-\n{EMPTY}5|00|00|-|-|-\n"),
         ),
         case(
             "line: too long, and yet the first request",
             format!("{EIGHT}{over}\n{most}\nL|1049\n"),
-            format!("1|!|6|-|-\n2|!|6|-|-\n{EMPTY}"),
+            format!("1|!|6|-|-|-\n2|!|6|-|-|-\n{EMPTY}"),
         ),
         case(
             "line: no LF, and CR",
             format!("{EIGHT}L|1049\r\nL|1049\nL|1049"),
-            format!("1|!|6|-|-\n{EMPTY}{EMPTY}"),
+            format!("1|!|6|-|-|-\n{EMPTY}{EMPTY}"),
         ),
         case(
             "refreshes: a redraw between two",
             format!("{EIGHT}{drawn}L|1049\n{redrawn}L|1049\nL|1049\n"),
             format!(
-                "1|00|00|-|-\n{}3|00|00|-|-\n{}{}",
+                "1|00|00|-|-|-\n{}3|00|00|-|-|-\n{}{}",
                 board("LEANDER"),
                 board("THAMES"),
                 board("THAMES")
@@ -151,7 +151,7 @@ pub fn lines() -> Vec<Case> {
                 redrawn.replace("8000", "8008")
             ),
             format!(
-                "1|00|00|-|-\n{}3|01|A8|1|-\n{}",
+                "1|00|00|-|-|-\n{}3|01|A8|1|-|-\n{}",
                 board("LEANDER"),
                 board("LEANDER")
             ),
@@ -164,7 +164,7 @@ pub fn lines() -> Vec<Case> {
                 written(2, 8, "THAMES")
             ),
             format!(
-                "1|00|00|-|-\n2|!|42|-|-\n3|00|00|-|-\n{}5|00|00|-|-\n6|!|40|-|-\n",
+                "1|00|00|-|-|-\n2|!|42|-|-|-\n3|00|00|-|-|-\n{}5|00|00|-|-|-\n6|!|40|-|-|-\n",
                 board("LEANDER")
             ),
         ),
@@ -186,7 +186,7 @@ fn many() -> Case {
     for ordinal in 1..=420 {
         if ordinal % 7 == 0 {
             text += "R|O|-|0|-\n";
-            told += &format!("{ordinal}|00|00|-|-\n");
+            told += &format!("{ordinal}|00|00|-|-|-\n");
         } else {
             text += "L|1049\n";
             told += &board;
