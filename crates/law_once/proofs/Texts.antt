@@ -15,7 +15,11 @@ use Rattle.law_once.specs.One.{OneAnswer, OneSeen}
 use Rattle.law_once.proofs.Law.{once, once-by, of-two, result}
 use Rattle.text_fields.proofs.field_count as text_fields·field-count
 use Rattle.text_fields.proofs.field as text_fields·field
+use Rattle.text_fields.proofs.find_ends as text_fields·find-ends
+use Rattle.text_fields.proofs.field_at as text_fields·field-at
+use Rattle.text_fields.proofs.count_at as text_fields·count-at
 use Rattle.text_numbers.proofs.digits.digit as text_numbers·digit
+use Rattle.text_numbers.proofs.digits.hex_digit as text_numbers·hex-digit
 use Rattle.text_numbers.proofs.digits.are_digits as text_numbers·are-digits
 use Rattle.text_numbers.proofs.hex.is_hex_field as text_numbers·is-hex-field
 use Rattle.text_numbers.proofs.hex.put_bytes as text_numbers·put-bytes
@@ -39,8 +43,21 @@ module _ {M : Type 1} (𝓤 : URA M) (H : Heap 𝓤) (A : Atoms 𝓤) (mem : Mem
   pub text_fields·field-once : OneSeen 𝓤 text_fields·field.ended (text_fields·field.clauses 𝓤 H A mem run) (λ κs x. now x)
   text_fields·field-once κs a g r r′ ws ws′ = result 𝓤 refl
 
+  pub text_fields·find-ends-once : OneAnswer 𝓤 text_fields·find-ends.ended (text_fields·find-ends.clauses 𝓤 H A mem run)
+  text_fields·find-ends-once κs a g r r′ ws ws′ = result 𝓤 refl
+
+  -- the same of a field by its ends
+  pub text_fields·field-at-once : OneSeen 𝓤 text_fields·field-at.ended (text_fields·field-at.clauses 𝓤 H A mem run) (λ κs x. now x)
+  text_fields·field-at-once κs a g r r′ ws ws′ = result 𝓤 refl
+
+  pub text_fields·count-at-once : OneAnswer 𝓤 text_fields·count-at.ended (text_fields·count-at.clauses 𝓤 H A mem run)
+  text_fields·count-at-once κs a g r r′ ws ws′ = result 𝓤 refl
+
   pub text_numbers·digit-once : OneAnswer 𝓤 text_numbers·digit.ended (text_numbers·digit.clauses 𝓤 H A mem run)
   text_numbers·digit-once κs a g r r′ ws ws′ = result 𝓤 refl
+
+  pub text_numbers·hex-digit-once : OneAnswer 𝓤 text_numbers·hex-digit.ended (text_numbers·hex-digit.clauses 𝓤 H A mem run)
+  text_numbers·hex-digit-once κs a g r r′ ws ws′ = result 𝓤 refl
 
   pub text_numbers·are-digits-once : OneAnswer 𝓤 text_numbers·are-digits.ended (text_numbers·are-digits.clauses 𝓤 H A mem run)
   text_numbers·are-digits-once κs a g r r′ ws ws′ = result 𝓤 refl

@@ -1,10 +1,12 @@
 // What a request line asks.
 use byte_parts::sizes::LONGEST_LINE;
+use text_fields::Ends;
 use text_numbers::codes;
 use text_numbers::decimals;
 use text_numbers::decimals::Number;
 use text_numbers::hex;
 ghost use mathlib.Core.Path.{_≡_};
+ghost use Rattle.text_fields.specs.Field.{endsOf};
 ghost use Rattle.text_numbers.specs.Hex.{hexField};
 ghost use Rattle.text_numbers.specs.Codes.{codesField};
 ghost use Rattle.line_request.specs.Ask.{fieldIn, isLetter, isEither, requestLine, shaped, isWrite, countIn, askOf};
@@ -45,70 +47,76 @@ pub fn is_request(line: &[u8]) -> bool
 }
 
 // Whether field k of a line is hex.
-fn has_hex(line: &[u8], k: usize) -> bool
+fn has_hex(line: &[u8], ends: Ends, k: usize) -> bool
+    requires { ⌜ ends ≡ endsOf 9 (now line) ⌝ }
     ensures { λ r. ⌜ r ≡ hexField (fieldIn (now (line .entry)) k) ⌝ }
 {
-    hex::is_hex_field(text_fields::field(line, k, b'\t'))
+    hex::is_hex_field(text_fields::field_at(line, ends, k, b'\t'))
 }
 
 // Whether field 2 of a line is codes, several of them joined.
-fn has_codes(line: &[u8]) -> bool
+fn has_codes(line: &[u8], ends: Ends) -> bool
+    requires { ⌜ ends ≡ endsOf 9 (now line) ⌝ }
     ensures { λ r. ⌜ r ≡ codesField (fieldIn (now (line .entry)) 2) ⌝ }
 {
-    codes::is_codes(text_fields::field(line, 2, b'\t'))
+    codes::is_codes(text_fields::field_at(line, ends, 2, b'\t'))
 }
 
 // Reads how many elements a line's list has, from field 3.
-fn count_in(line: &[u8]) -> Number
+fn count_in(line: &[u8], ends: Ends) -> Number
+    requires { ⌜ ends ≡ endsOf 9 (now line) ⌝ }
     ensures { λ r. ⌜ r ≡ countIn (now (line .entry)) ⌝ }
 {
-    decimals::read_dec(text_fields::field(line, 3, b'\t'), u32::MAX)
+    decimals::read_dec(text_fields::field_at(line, ends, 3, b'\t'), u32::MAX)
 }
 
 // Whether a line begins with this letter and has `count` fields, and kind, codes and list are well formed.
-fn is_shaped(line: &[u8], letter: u8, count: usize) -> bool
+fn is_shaped(line: &[u8], ends: Ends, letter: u8, count: usize) -> bool
+    requires { ⌜ ends ≡ endsOf 9 (now line) ⌝ }
     ensures { λ r. ⌜ r ≡ shaped letter count (now (line .entry)) ⌝ }
 {
     if !is_letter(line, 0, letter) {
         return false;
     }
-    if text_fields::field_count(line, b'\t') != count {
+    if text_fields::count_at(line, ends, b'\t') != count {
         return false;
     }
     if !is_either(line, 1, b'O', b'S') {
         return false;
     }
-    if !has_codes(line) {
+    if !has_codes(line, ends) {
         return false;
     }
-    has_hex(line, 4)
+    has_hex(line, ends, 4)
 }
 
 // Whether a line has the fields of a write.
-fn is_write(line: &[u8]) -> bool
+fn is_write(line: &[u8], ends: Ends) -> bool
+    requires { ⌜ ends ≡ endsOf 9 (now line) ⌝ }
     ensures { λ r. ⌜ r ≡ isWrite (now (line .entry)) ⌝ }
 {
-    if !is_shaped(line, b'W', 6) {
+    if !is_shaped(line, ends, b'W', 6) {
         return false;
     }
-    has_hex(line, 5)
+    has_hex(line, ends, 5)
 }
 
-// Reads what a line asks: one over the longest size is malformed, whatever it says.
-pub fn ask_of(line: &[u8]) -> Ask
+// Reads what a line asks, by where its fields end: one over the longest size is malformed, whatever it says.
+pub fn ask_of(line: &[u8], ends: Ends) -> Ask
+    requires { ⌜ ends ≡ endsOf 9 (now line) ⌝ }
     ensures { λ r. ⌜ r ≡ askOf (now (line .entry)) ⌝ }
 {
     if LONGEST_LINE < line.len() {
         return Ask::Malformed;
     }
-    let Number::Is(count) = count_in(line) else {
+    let Number::Is(count) = count_in(line, ends) else {
         return Ask::Malformed;
     };
     let open = is_letter(line, 1, b'O');
-    if is_shaped(line, b'R', 5) {
+    if is_shaped(line, ends, b'R', 5) {
         return Ask::Read { open, count };
     }
-    if is_write(line) {
+    if is_write(line, ends) {
         return Ask::Write { open, count };
     }
     Ask::Malformed

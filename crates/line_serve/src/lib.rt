@@ -5,6 +5,7 @@ use line_request::Ask;
 use request_plan::Reply;
 use request_serve::reading;
 use request_serve::writing;
+use text_fields::Ends;
 use text_numbers::codes;
 use text_numbers::hex;
 ghost use mathlib.Core.Path.{_≡_};
@@ -12,6 +13,7 @@ ghost use mathlib.Core.Bool.{true};
 ghost use Prim.Native.Nat.{_+_, _≤_};
 ghost use lib.ListN.{length, take};
 ghost use Rattle.byte_parts.specs.Part.{put};
+ghost use Rattle.text_fields.specs.Field.{endsOf};
 ghost use Rattle.text_numbers.specs.Hex.{hexField, unhex};
 ghost use Rattle.text_numbers.specs.Codes.{codesField};
 ghost use Rattle.request_plan.specs.Serve.{lengthRead};
@@ -22,21 +24,21 @@ ghost use Rattle.line_serve.specs.Line.{codesIn, outcomeOf, lineServed, 
 ghost use Rattle.line_serve.specs.Text.{mostSpelled, mostPrinted, requestText};
 
 // Puts the codes of a line to the front of `codes`, as many as it holds, and answers how many.
-fn read_codes(line: &[u8], codes: &mut [u16]) -> usize
-    requires { ⌜ codesField (fieldIn (now line) 2) ≡ true ⌝ }
+fn read_codes(line: &[u8], ends: Ends, codes: &mut [u16]) -> usize
+    requires { ⌜ (codesField (fieldIn (now line) 2) ≡ true) × (ends ≡ endsOf 9 (now line)) ⌝ }
     ensures { λ r. ⌜ r ≤ length (now (codes .entry)) ⌝ }
     ensures { λ r. ⌜ take r (now (codes .exit)) ≡ take (length (now (codes .entry))) (codesIn (now (line .entry))) ⌝ }
 {
-    codes::read_codes(text_fields::field(line, 2, b'\t'), codes)
+    codes::read_codes(text_fields::field_at(line, ends, 2, b'\t'), codes)
 }
 
 // Puts the bytes that field k of a line spells into `bytes` from `at` on, and answers the place after them.
-fn put_field(line: &[u8], k: usize, bytes: &mut [u8], at: usize) -> usize
-    requires { ⌜ (hexField (fieldIn (now line) k) ≡ true) × (at + length (unhex (fieldIn (now line) k)) ≤ length (now bytes)) ⌝ }
+fn put_field(line: &[u8], ends: Ends, k: usize, bytes: &mut [u8], at: usize) -> usize
+    requires { ⌜ (hexField (fieldIn (now line) k) ≡ true) × (at + length (unhex (fieldIn (now line) k)) ≤ length (now bytes)) × (ends ≡ endsOf 9 (now line)) ⌝ }
     ensures { λ r. ⌜ r ≡ at + length (unhex (fieldIn (now (line .entry)) k)) ⌝ }
     ensures { λ _. ⌜ now (bytes .exit) ≡ put (now (bytes .entry)) at (length (unhex (fieldIn (now (line .entry)) k))) (unhex (fieldIn (now (line .entry)) k)) ⌝ }
 {
-    hex::put_bytes(text_fields::field(line, k, b'\t'), bytes, at)
+    hex::put_bytes(text_fields::field_at(line, ends, k, b'\t'), bytes, at)
 }
 
 // Carries out a read that a line asks. Seventeen codes are as good as all: more than sixteen are refused.
@@ -46,17 +48,18 @@ fn read_asked(
     work: &mut [u8],
     bytes: &mut [u8],
     line: &[u8],
+    ends: Ends,
     open: bool,
     count: u32,
 ) -> Reply
-    requires { ⌜ (askOf (now line) ≡ Read «open» count) × (mostSpelled ≤ length (now bytes)) ⌝ }
+    requires { ⌜ (askOf (now line) ≡ Read «open» count) × (mostSpelled ≤ length (now bytes)) × (ends ≡ endsOf 9 (now line)) ⌝ }
     ensures { λ r. ⌜ r ≡ lineServed card (now (arena .entry)) (length (now (work .entry))) (now (line .entry)) .reply ⌝ }
     ensures { λ _. ⌜ now (work .exit) ≡ workAfter card (now (arena .entry)) (now (work .entry)) (now (line .entry)) ⌝ }
     ensures { λ _. ⌜ now (bytes .exit) ≡ bytesAfter (now (bytes .entry)) (now (line .entry)) ⌝ }
 {
     let mut codes = [0u16; 17];
-    let n = read_codes(line, &mut codes);
-    let end = put_field(line, 4, bytes, 0);
+    let n = read_codes(line, ends, &mut codes);
+    let end = put_field(line, ends, 4, bytes, 0);
     reading::read(card, arena, work, open, &codes[0..n], count, &bytes[0..end])
 }
 
@@ -67,19 +70,20 @@ fn write_asked(
     work: &mut [u8],
     bytes: &mut [u8],
     line: &[u8],
+    ends: Ends,
     open: bool,
     count: u32,
 ) -> Reply
-    requires { ⌜ (askOf (now line) ≡ Write «open» count) × (mostSpelled ≤ length (now bytes)) ⌝ }
+    requires { ⌜ (askOf (now line) ≡ Write «open» count) × (mostSpelled ≤ length (now bytes)) × (ends ≡ endsOf 9 (now line)) ⌝ }
     ensures { λ r. ⌜ r ≡ lineServed card (now (arena .entry)) (length (now (work .entry))) (now (line .entry)) .reply ⌝ }
     ensures { λ _. ⌜ now (arena .exit) ≡ lineServed card (now (arena .entry)) (length (now (work .entry))) (now (line .entry)) .arena ⌝ }
     ensures { λ _. ⌜ now (work .exit) ≡ workAfter card (now (arena .entry)) (now (work .entry)) (now (line .entry)) ⌝ }
     ensures { λ _. ⌜ now (bytes .exit) ≡ bytesAfter (now (bytes .entry)) (now (line .entry)) ⌝ }
 {
     let mut codes = [0u16; 17];
-    let n = read_codes(line, &mut codes);
-    let middle = put_field(line, 4, bytes, 0);
-    let last = put_field(line, 5, bytes, middle);
+    let n = read_codes(line, ends, &mut codes);
+    let middle = put_field(line, ends, 4, bytes, 0);
+    let last = put_field(line, ends, 5, bytes, middle);
     writing::write(
         card,
         arena,
@@ -124,20 +128,21 @@ pub fn serve_line(
     ensures { λ _. ⌜ now (work .exit) ≡ workAfter card (now (arena .entry)) (now (work .entry)) (now (line .entry)) ⌝ }
     ensures { λ _. ⌜ now (bytes .exit) ≡ bytesAfter (now (bytes .entry)) (now (line .entry)) ⌝ }
 {
-    match line_request::ask_of(line) {
+    let ends = text_fields::find_ends(line, b'\t');
+    match line_request::ask_of(line, ends) {
         Ask::Malformed => Outcome {
             reply: Reply::Refused(Refusal::MalformedRequest),
             read: 0,
         },
         Ask::Read { open, count } => {
-            let reply = read_asked(card, arena, work, bytes, line, open, count);
+            let reply = read_asked(card, arena, work, bytes, line, ends, open, count);
             Outcome {
                 reply,
                 read: length_read(reply, count),
             }
         }
         Ask::Write { open, count } => {
-            let reply = write_asked(card, arena, work, bytes, line, open, count);
+            let reply = write_asked(card, arena, work, bytes, line, ends, open, count);
             Outcome { reply, read: 0 }
         }
     }

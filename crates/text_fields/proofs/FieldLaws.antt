@@ -76,7 +76,7 @@ split-cut b (x ∷ s) =
 -- `end` is where a search for the separator from a place on ended.
 module _ (b from : ℕ) (s : List ℕ) (h : from ≤ length s) (end : ℕ) (e : end ≡ from + indexOf b (slice from (length s) s)) where
   -- The field at that place is the last one and goes to the end, or the next one starts after `end`.
-  end-cut
+  pub end-cut
       : ((end ≡ length s) × (split b (drop from s) ≡ drop from s ∷ []))
       ⊎ ((end < length s) × (split b (drop from s) ≡ take (end - from) (drop from s) ∷ split b (drop (end + 1) s)))
   unfolding slice

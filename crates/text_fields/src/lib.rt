@@ -3,8 +3,19 @@
 use bytes::scan;
 ghost use mathlib.Core.Path.{_≡_};
 ghost use mathlib.Core.List.{[]};
-ghost use lib.ListN.{length, getD};
-ghost use Rattle.text_fields.specs.Field.{split};
+ghost use Prim.Native.Nat.{_-_, _≤_};
+ghost use lib.ListN.{length, getD, take, drop};
+ghost use Rattle.text_fields.specs.Field.{split, fieldEnd, endsOf};
+
+// Where the first six fields of a line end: each at a separator or at the line's end, where all after it end too.
+pub struct Ends {
+    pub first: usize,
+    pub second: usize,
+    pub third: usize,
+    pub fourth: usize,
+    pub fifth: usize,
+    pub sixth: usize,
+}
 
 // Counts the fields of s: one more than its separators.
 pub fn field_count(s: &[u8], separator: u8) -> usize
@@ -37,4 +48,82 @@ pub fn field<'a>(s: &'a [u8], k: usize, separator: u8) -> &'a [u8]
     }
     let end = scan::find(s, from, s.len(), separator);
     &s[from..end]
+}
+
+// Gives where the field of s that starts at `from` ends; behind the end of s, that end.
+fn field_end(s: &[u8], from: usize, separator: u8) -> usize
+    ensures { λ r. ⌜ (r ≡ fieldEnd separator from (now (s .entry))) × (r ≤ length (now (s .entry))) ⌝ }
+{
+    if s.len() < from {
+        return s.len();
+    }
+    scan::find(s, from, s.len(), separator)
+}
+
+// Finds where the first six fields of s end, in one walk, so that no field is sought again.
+pub fn find_ends(s: &[u8], separator: u8) -> Ends
+    ensures { λ r. ⌜ r ≡ endsOf separator (now (s .entry)) ⌝ }
+{
+    let first = field_end(s, 0, separator);
+    let second = field_end(s, first + 1, separator);
+    let third = field_end(s, second + 1, separator);
+    let fourth = field_end(s, third + 1, separator);
+    let fifth = field_end(s, fourth + 1, separator);
+    let sixth = field_end(s, fifth + 1, separator);
+    Ends {
+        first,
+        second,
+        third,
+        fourth,
+        fifth,
+        sixth,
+    }
+}
+
+// Gives the part of s from `from` to `to`, an empty one where it would start behind its end.
+fn part<'a>(s: &'a [u8], from: usize, to: usize) -> &'a [u8]
+    requires { ⌜ to ≤ length (now s) ⌝ }
+    ensures { λ r. ⌜ now r ≡ take (to - from) (drop from (now (s .entry))) ⌝ }
+{
+    if to < from {
+        return &s[0..0];
+    }
+    &s[from..to]
+}
+
+// Gives field number k of s, as `field` does, by where the first six end.
+pub fn field_at<'a>(s: &'a [u8], ends: Ends, k: usize, separator: u8) -> &'a [u8]
+    requires { ⌜ ends ≡ endsOf separator (now s) ⌝ }
+    ensures { λ r. ⌜ now r ≡ getD (split separator (now (s .entry))) k [] ⌝ }
+{
+    if k == 2 {
+        return part(s, ends.second + 1, ends.third);
+    }
+    if k == 3 {
+        return part(s, ends.third + 1, ends.fourth);
+    }
+    if k == 4 {
+        return part(s, ends.fourth + 1, ends.fifth);
+    }
+    if k == 5 {
+        return part(s, ends.fifth + 1, ends.sixth);
+    }
+    field(s, k, separator)
+}
+
+// Counts the fields of s, as `field_count` does, by where the first six end.
+pub fn count_at(s: &[u8], ends: Ends, separator: u8) -> usize
+    requires { ⌜ ends ≡ endsOf separator (now s) ⌝ }
+    ensures { λ r. ⌜ r ≡ length (split separator (now (s .entry))) ⌝ }
+{
+    if s.len() <= ends.fourth {
+        return field_count(s, separator);
+    }
+    if s.len() <= ends.fifth {
+        return 5;
+    }
+    if s.len() <= ends.sixth {
+        return 6;
+    }
+    field_count(s, separator)
 }

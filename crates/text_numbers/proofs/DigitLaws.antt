@@ -1,6 +1,7 @@
 -- Laws of digits: which bytes are digits, and what they spell. Assumes nothing.
-use Prim.Native.Nat.{ℕ, zero, suc, _+_, _*_, _≤_, _<_}
+use Prim.Native.Nat.{ℕ, zero, suc, _+_, _*_, _/_, _%_, _≤_, _<_}
 use native.Mathlib.Omega.{arith}
+use native.Mathlib.Decide.{decLt}
 use mathlib.Core.Path.{_≡_, refl}
 use mathlib.Core.Bool.{Bool, true, false, _&&_, and-eq-true-iff}
 use mathlib.Core.List.{List, [], _∷_, _++_}
@@ -31,7 +32,53 @@ module _ (low high x : ℕ) where
   unfolding among
   past h = rw (lt-leb x high h) (and-false (leb low x))
 
+-- What a hex digit stands for, by its bits.
+pub digit-known : (x : ℕ) → digitOf x < 16 → x % 16 + x / 64 * 9 ≡ digitOf x
+unfolding digitOf
+digit-known x h =
+    elim (decLt x 48) [
+      | yes a ↦ absurd (omega (arith, rw (under 48 57 x a, under 65 70 x (omega arith), under 97 102 x (omega arith)) at h))
+      | no a ↦
+          elim (decLt x 58) [
+            | yes b ↦ rw (amid 48 57 x (omega arith) (omega arith)) (omega arith)
+            | no b ↦
+                elim (decLt x 65) [
+                  | yes c ↦ absurd (omega (arith, rw (past 48 57 x (omega arith), under 65 70 x c, under 97 102 x (omega arith)) at h))
+                  | no c ↦
+                      elim (decLt x 71) [
+                        | yes d ↦ rw (past 48 57 x (omega arith), amid 65 70 x (omega arith) (omega arith)) (omega arith)
+                        | no d ↦
+                            elim (decLt x 97) [
+                              | yes e ↦ absurd (omega (arith, rw (past 48 57 x (omega arith), past 65 70 x (omega arith), under 97 102 x e) at h))
+                              | no e ↦
+                                  elim (decLt x 103) [
+                                    | yes f ↦ rw (past 48 57 x (omega arith), past 65 70 x (omega arith), amid 97 102 x (omega arith) (omega arith)) (omega arith)
+                                    | no f ↦ absurd (omega (arith, rw (past 48 57 x (omega arith), past 65 70 x (omega arith), past 97 102 x (omega arith)) at h))
+                                  ]
+                            ]
+                      ]
+                ]
+          ]
+    ]
+
+-- A test that ends in true.
+pub and-true : (b : Bool) → b && true ≡ b
+and-true true = refl
+and-true false = refl
+
+-- Tests in another order.
+and-turn : (a b c : Bool) → a && (b && c) ≡ (b && a) && c
+and-turn true true c = refl
+and-turn true false c = refl
+and-turn false true c = refl
+and-turn false false c = refl
+
 module _ (base : ℕ) (s : List ℕ) (i : ℕ) where
+  -- The rest at i, behind those before.
+  pub digits-with : (all : Bool) → i < length s → all && digits base (drop i s) ≡ (ltb (digitOf (getD s i 0)) base && all) && digits base (drop (i + 1) s)
+  unfolding digits
+  digits-with all h = rw (here s i h) (and-turn all (ltb (digitOf (getD s i 0)) base) (digits base (drop (i + 1) s)))
+
   -- The rest at i, where a digit stands.
   pub digits-here : i < length s → digitOf (getD s i 0) < base → digits base (drop i s) ≡ digits base (drop (i + 1) s)
   unfolding digits

@@ -1,6 +1,6 @@
 // Bytes in hex, two digits each: read in either case, printed in capitals. A field of none is `-`, so that no field is empty.
 use crate::digits::are_digits;
-use crate::digits::digit;
+use crate::digits::hex_digit;
 ghost use mathlib.Core.Path.{_≡_};
 ghost use mathlib.Core.Bool.{true};
 ghost use mathlib.Core.List.{[], _∷_};
@@ -31,7 +31,7 @@ fn byte(high: u8, low: u8) -> u8
     requires { ⌜ (digitOf high < 16) × (digitOf low < 16) ⌝ }
     ensures { λ r. ⌜ r ≡ digitOf high * 16 + digitOf low ⌝ }
 {
-    digit(high) * 16 + digit(low)
+    hex_digit(high) * 16 + hex_digit(low)
 }
 
 // Puts the bytes of the hex field s into `out` from `at` on, and answers the place after them.

@@ -7,4 +7,4 @@ use Rattle.line_request.proofs.count_in.Tie as tie
 
 pub count-in-spec : {M : Type 1} → statement M
 count-in-spec =
-    tie.close (tie.spec (λ c κs. search needs) (λ c κs. search needs) (λ c. c .read-dec .ensures ∙ ap (decimal 4294967295) (c .before .field .ensures)))
+    tie.close (tie.spec (λ c κs. search needs) (λ c κs. search needs) (λ c. c .read-dec .ensures ∙ ap (decimal 4294967295) (c .before .field-at .ensures)))

@@ -7,4 +7,4 @@ use Rattle.line_request.proofs.has_codes.Tie as tie
 
 pub has-codes-spec : {M : Type 1} → statement M
 has-codes-spec =
-    tie.close (tie.spec (λ c κs. search needs) (λ c κs. search needs) (λ c. c .is-codes .ensures ∙ ap codesField (c .before .field .ensures)))
+    tie.close (tie.spec (λ c κs. search needs) (λ c κs. search needs) (λ c. c .is-codes .ensures ∙ ap codesField (c .before .field-at .ensures)))

@@ -7,4 +7,4 @@ use Rattle.line_request.proofs.has_hex.Tie as tie
 
 pub has-hex-spec : {M : Type 1} → statement M
 has-hex-spec =
-    tie.close (tie.spec (λ c κs. search needs) (λ c κs. search needs) (λ c. c .is-hex-field .ensures ∙ ap hexField (c .before .field .ensures)))
+    tie.close (tie.spec (λ c κs. search needs) (λ c κs. search needs) (λ c. c .is-hex-field .ensures ∙ ap hexField (c .before .field-at .ensures)))

@@ -18,11 +18,11 @@ letter c = sym (c .before .is-letter .ensures) ∙ not-false _ (c .if1 .left)
 
 -- the fields are as many
 fields : (c : tie.Else2) → let a = c .before .before .before .before .before .args in eqb (length (split 9 (now (a .line)))) (a .count) ≡ true
-fields c = eq-eqb _ _ (sym (c .before .field-count .ensures) ∙ c .if2 .left)
+fields c = eq-eqb _ _ (sym (c .before .count-at .ensures) ∙ c .if2 .left)
 
 -- they are not
 other : (c : tie.Then2) → let a = c .before .before .before .before .before .args in eqb (length (split 9 (now (a .line)))) (a .count) ≡ false
-other c = ne-eqb _ _ (λ e. c .if2 .taken (c .before .field-count .ensures ∙ e))
+other c = ne-eqb _ _ (λ e. c .if2 .taken (c .before .count-at .ensures ∙ e))
 
 -- the kind is there
 kind : (c : tie.Else3) → isEither 79 83 (fieldIn (now (c .before .before .before .before .before .before .before .args .line)) 1) ≡ true

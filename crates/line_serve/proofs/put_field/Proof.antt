@@ -12,20 +12,20 @@ put-bytes-requires : tie.Need-put-bytes-requires
 put-bytes-requires c κs =
     let s = c .before .before .before .before in
     let f = fieldIn (now (s .args .line)) (s .args .k) in
-    rw (c .before .field .ensures) (s .pre .0, omega (arith, length-unhex f))
+    rw (c .before .field-at .ensures) (s .pre .0, omega (arith, length-unhex f))
 
 returns : tie.Need-returns
 returns c =
     let p = c .before .before in
     let f = p .before .before in
     let a = f .before .before .before .args in
-    spelled _ (fieldIn (now (a .line)) (a .k)) (now (a .bytes)) (a .at) (f .field .ensures) (p .put-bytes .ensures .0) (p .put-bytes .ensures .1)
+    spelled _ (fieldIn (now (a .line)) (a .k)) (now (a .bytes)) (a .at) (f .field-at .ensures) (p .put-bytes .ensures .0) (p .put-bytes .ensures .1)
 
 pub put-field-spec : {M : Type 1} → statement M
 put-field-spec =
     tie.close
     (tie.spec
-    (λ c κs. search needs)
+    (λ c κs. c .before .before .pre .2)
     put-bytes-requires
     (λ c. search needs)
     returns)

@@ -23,7 +23,7 @@ abbrev start-of : tie.After-read-codes → tie.Start
 start-of c = c .before .before .before .before .before .before
 
 put-field-requires : tie.Need-put-field-requires
-put-field-requires c κs = let s = start-of (c .before .before) in (fields s .list, room s)
+put-field-requires c κs = let s = start-of (c .before .before) in (fields s .list, room s, s .pre .2)
 
 part-read-end-2 : tie.Need-part-read-end-2
 part-read-end-2 c =
@@ -37,7 +37,7 @@ returns c =
     let k = p .before .before .before in
     let s = start-of k in
     let a = s .args in
-    read-line (a .card) (now (a .arena)) (now (a .work)) (now (a .line)) (k .read-codes .result) (k .read-codes .last .1 .0) (k .read-codes .ensures .1) (s .pre .0) (now (a .bytes)) (room s)
+    read-line (a .card) (now (a .arena)) (now (a .work)) (now (a .line)) (k .read-codes .result) (k .read-codes .last .1 .1 .0) (k .read-codes .ensures .1) (s .pre .0) (now (a .bytes)) (room s)
     (p .put-field .ensures .0) (p .put-field .ensures .1) (r .read .ensures .0) (r .read .ensures .1)
 
 pub read-asked-spec : {M : Type 1} → statement M
@@ -45,7 +45,7 @@ read-asked-spec =
     tie.close
     (tie.spec
     (λ c. search needs)
-    (λ c κs. fields (c .before .before .before .before .before) .codes)
+    (λ c κs. let s = c .before .before .before .before .before in (fields s .codes, s .pre .2))
     put-field-requires
     (λ c. search needs)
     (λ c. search needs)

@@ -12,14 +12,14 @@ returns c =
     let p = c .before .before in
     let f = p .before .before in
     let a = f .before .before .before .args in
-    let e = f .field .ensures in
+    let e = f .field-at .ensures in
     as-many (now (a .codes)) (codesOf (fieldIn (now (a .line)) 2)) (rw e at (p .read-codes .ensures .0)) (rw e at (p .read-codes .ensures .1))
 
 pub read-codes-spec : {M : Type 1} → statement M
 read-codes-spec =
     tie.close
     (tie.spec
-    (λ c κs. search needs)
-    (λ c κs. rw (c .before .field .ensures) (c .before .before .before .before .pre))
+    (λ c κs. c .before .before .pre .1)
+    (λ c κs. rw (c .before .field-at .ensures) (c .before .before .before .before .pre .0))
     (λ c. search needs)
     returns)

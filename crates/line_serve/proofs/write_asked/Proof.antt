@@ -29,13 +29,13 @@ start-of c = c .before .before .before .before .before .before .before .before .
 put-field-requires : tie.Need-put-field-requires
 put-field-requires c κs =
     let s = c .before .before .before .before .before .before .before .before in
-    (fields s .0 .list, list-room (fields s .0) (s .pre .1))
+    (fields s .0 .list, list-room (fields s .0) (s .pre .1), s .pre .2)
 
 put-field-requires-2 : tie.Need-put-field-requires-2
 put-field-requires-2 c κs =
     let p = c .before .before .before in
     let s = start-of p in
-    (fields s .1, omega (arith, room s, p .put-field .ensures .0, p .put-field .kept))
+    (fields s .1, omega (arith, room s, p .put-field .ensures .0, p .put-field .kept), s .pre .2)
 
 part-write-end-2 : tie.Need-part-write-end-2
 part-write-end-2 c =
@@ -58,7 +58,7 @@ returns c =
     let s = start-of p in
     let a = s .args in
     let o = r .write .ensures in
-    write-line (a .card) (now (a .arena)) (now (a .work)) (now (a .line)) (k .read-codes .result) (k .read-codes .last .1 .0) (k .read-codes .ensures .1) (s .pre .0) (now (a .bytes)) (room s)
+    write-line (a .card) (now (a .arena)) (now (a .work)) (now (a .line)) (k .read-codes .result) (k .read-codes .last .1 .1 .0) (k .read-codes .ensures .1) (s .pre .0) (now (a .bytes)) (room s)
     (p .put-field .ensures .0) (q .put-field2 .ensures .0) (p .put-field .ensures .1) (q .put-field2 .ensures .1) (o .0) (o .1 .0) (o .1 .1)
 
 pub write-asked-spec : {M : Type 1} → statement M
@@ -66,7 +66,7 @@ write-asked-spec =
     tie.close
     (tie.spec
     (λ c. search needs)
-    (λ c κs. fields (c .before .before .before .before .before) .0 .codes)
+    (λ c κs. let s = c .before .before .before .before .before in (fields s .0 .codes, s .pre .2))
     put-field-requires
     put-field-requires-2
     (λ c. search needs)
