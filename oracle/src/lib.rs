@@ -7,8 +7,9 @@
 //! a lane board out of eight blocks, and `replay` answers a whole text. `leaves` asks the questions
 //! that need no card, `trees` those about growing one, `requests` those about requests, `boards`
 //! those about boards, `texts` those about whole texts, `terminals` those about two lists of
-//! requests on one card; `draw` draws what they ask about. `beside` puts texts to another program
-//! and compares. `random`, `hex`, `lines`, `files`, `cause`, `counts` and `program` are tools.
+//! requests on one card, `resends` those about a write that is sent twice; `draw` draws what they ask
+//! about. `beside` puts texts to another program and compares. `random`, `hex`, `lines`, `files`,
+//! `cause`, `counts` and `program` are tools.
 
 pub mod beside;
 pub mod board;
@@ -27,6 +28,7 @@ pub mod refusal;
 pub mod replay;
 pub mod request;
 pub mod requests;
+pub mod resends;
 pub mod terminals;
 pub mod texts;
 pub mod tree;

@@ -176,3 +176,33 @@ fn stored() {
         assert_eq!(text.output, replay(&text.input));
     }
 }
+
+/// Of the writes that are sent twice the first does no harm; a purse block named twice is paid from
+/// twice more, or raised and so refused; a ring in two runs turns on.
+#[test]
+fn sent_twice() {
+    let (texts, _) = texts::all(600, 1);
+    let told: Vec<Vec<String>> = (of_kind(&texts, "sent twice").iter())
+        .map(|text| {
+            text.output
+                .lines()
+                .map(|line| line[2..].to_string())
+                .collect()
+        })
+        .collect();
+    let [every, twice, parted, lowered, turned] = told.as_slice() else {
+        panic!("five are stored");
+    };
+    let done = "00\t00\t-\t-\t-";
+    for told in &told {
+        assert_eq!(told[0], done);
+    }
+    for told in [every, twice, parted, turned] {
+        assert_eq!(told[2], done);
+    }
+    assert_eq!(lowered[2], "01\tA5\t1\t-\t5");
+    assert_eq!(every[1], every[3]);
+    for told in [twice, parted, turned] {
+        assert_ne!(told[1], told[3]);
+    }
+}

@@ -103,7 +103,7 @@ module _ (bytes : List ℕ) where
   library-two = two-runs (decodedOf bytes) requestOf (libraryLeft (decodedOf bytes)) (decoded-long bytes)
 
   -- a call returns its answer's reply as a number
-  returned : (k : Call) (x : Answer) → libraryLeft (decodedOf bytes) k x .reply ≡ replyAs (x .reply)
+  pub returned : (k : Call) (x : Answer) → libraryLeft (decodedOf bytes) k x .reply ≡ replyAs (x .reply)
   returned (reads «open» codes count list out) x = refl
   returned (writes «open» codes count list «data» staging) x = refl
 

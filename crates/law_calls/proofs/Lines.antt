@@ -93,13 +93,13 @@ module _ (c : Card) (z : length (c .nodes) ≡ 64) where
   lines-two = two-runs c lineRequest (lineLeft c) z
 
   -- a line that is told `Done` asked a request that was done
-  told-done : (x : Ask) (y : Answer) → toldBy x y .reply ≡ Done → y .reply ≡ Done
+  pub told-done : (x : Ask) (y : Answer) → toldBy x y .reply ≡ Done → y .reply ≡ Done
   told-done Malformed y e = absurd (let z : _≡_ {A = ℕ} 0 1 = cc in (omega arith))
   told-done (Read «open» count) y e = e
   told-done (Write «open» count) y e = e
 
   -- a line that asked a write that was done is told so
-  done-told : (k : LineCall) (x : Ask) (y : Answer) → requestBy (length (k .work)) (k .line) x .write ≡ true → y .reply ≡ Done →
+  pub done-told : (k : LineCall) (x : Ask) (y : Answer) → requestBy (length (k .work)) (k .line) x .write ≡ true → y .reply ≡ Done →
       toldBy x y .reply ≡ Done
   done-told k Malformed y w e = absurd (false≢true w)
   done-told k (Read «open» count) y w e = e

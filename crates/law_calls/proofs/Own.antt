@@ -49,7 +49,7 @@ module _ (c : Card) (z : length (c .nodes) ≡ 64) where
   own-two = two-runs c requestOf (ownLeft c) z
 
   -- a call leaves `Done` where its answer does
-  same-reply : (k : Call) (x : Answer) → ownLeft c k x .reply ≡ x .reply
+  pub same-reply : (k : Call) (x : Answer) → ownLeft c k x .reply ≡ x .reply
   same-reply (reads «open» codes count list out) x = refl
   same-reply (writes «open» codes count list «data» staging) x = refl
 

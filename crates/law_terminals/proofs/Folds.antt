@@ -5,45 +5,10 @@ use native.Mathlib.Nat.{add-zero}
 use mathlib.Core.Path.{_≡_, refl, sym, ap, _∙_}
 use mathlib.Core.Bool.{Bool, true, false, cond}
 use mathlib.Core.List.{List, [], _∷_, _++_}
-use lib.Dec.{eqb}
 use lib.ListN.{length, getD}
-use Rattle.answers.specs.declared.status.Fault.{Fault}
-use Rattle.request_runs.specs.Runs.{Walked, bad, good, then, push, runsOf, scan, walk}
-
--- a failure is no state
-pub failure : {B S : Type 0} {i : ℕ} {f : Fault} {s : S} → bad i f ≡ good s → B
-failure e = absurd (let z : _≡_ {A = ℕ} 0 1 = cc in (omega arith))
-
--- two steps that pass: the first does, and the second from where it ended
-then-good : {S : Type 0} (r : Walked S) (g : S → Walked S) {t : S} → then r g ≡ good t → (s : S) × (r ≡ good s) × (g s ≡ good t)
-unfolding then
-then-good (bad i f) g e = failure e
-then-good (good s) g e = (s, refl, e)
-
--- the elements of all runs, in order
-unfoldable pub flat : {E : Type 0} → List (List E) → List E
-flat [] = []
-flat (r ∷ rs) = r ++ flat rs
-
--- the runs of a list of elements hold that list
-pub flat-runs : {E : Type 0} (key : E → ℕ) (xs : List E) → flat (runsOf key xs) ≡ xs
-unfolding runsOf push flat
-flat-runs key [] = refl
-flat-runs {E} key (x ∷ xs) = pushed (runsOf key xs) ∙ ap (λ (l : List E). x ∷ l) (flat-runs key xs)
-  where
-    by-key : (t : Bool) (ys : List E) (rs : List (List E)) → flat (cond t ((x ∷ ys) ∷ rs) ((x ∷ []) ∷ ys ∷ rs)) ≡ x ∷ flat (ys ∷ rs)
-    by-key true ys rs = refl
-    by-key false ys rs = refl
-
-    pushed : (rs : List (List E)) → flat (push key x rs) ≡ x ∷ flat rs
-    pushed [] = refl
-    pushed ([] ∷ rs) = refl
-    pushed ((y ∷ ys) ∷ rs) = by-key (eqb (key y) (key x)) (y ∷ ys) rs
-
--- each of a list, the first of them counted i
-abbrev pub AllFrom : {E : Type 0} → (ℕ → E → Type 0) → ℕ → List E → Type 0
-AllFrom P i [] = Unit {0}
-AllFrom P i (x ∷ xs) = P i x × AllFrom P (i + 1) xs
+use Rattle.request_runs.specs.Runs.{Walked, good, then, scan, walk}
+use Rattle.request_runs.proofs.Steps.{then-good}
+use Rattle.request_runs.proofs.WalkSteps.{flat, AllFrom, all-append}
 
 -- a value, changed by each element in order
 unfoldable pub folded : {E A : Type 0} → (ℕ → E → A → A) → ℕ → List E → A → A
@@ -52,13 +17,6 @@ folded change i (x ∷ xs) v = folded change (i + 1) xs (change i x v)
 
 module _ {E A : Type 0} (P : ℕ → E → Type 0) (change : ℕ → E → A → A) where
   -- two lists, one after the other
-  all-append : (i : ℕ) (xs ys : List E) → AllFrom P i (xs ++ ys) → AllFrom P i xs × AllFrom P (i + length xs) ys
-  all-append i [] ys p = (tt, rw (add-zero i) p)
-  all-append i (x ∷ xs) ys p =
-      let e : i + 1 + length xs ≡ i + suc (length xs) = omega arith in
-      let q = all-append (i + 1) xs ys (p .1) in
-      ((p .0, q .0), rw e at (q .1))
-
   folded-append : (i : ℕ) (xs ys : List E) (v : A) → folded change i (xs ++ ys) v ≡ folded change (i + length xs) ys (folded change i xs v)
   unfolding folded
   folded-append i [] ys v = rw (add-zero i)
@@ -91,7 +49,7 @@ module _ {E A : Type 0} (P : ℕ → E → Type 0) (change : ℕ → E → A →
       walk-tracks i ([] ∷ rs) s t p f e = walk-tracks i rs s t p f e
       walk-tracks i ((x ∷ xs) ∷ rs) s t p f e =
           let n = length (x ∷ xs) in
-          let q = all-append i (x ∷ xs) (flat rs) p in
+          let q = all-append P i (x ∷ xs) (flat rs) p in
           let h = then-good (scan one close i (x ∷ xs) s) (λ u. then (close i x n u) (λ v. walk one close (i + n) rs v)) e in
           let a = scan-tracks i (x ∷ xs) s (h .0) (q .0) f (h .1) in
           let m = then-good (close i x n (h .0)) (λ v. walk one close (i + n) rs v) (h .2) in

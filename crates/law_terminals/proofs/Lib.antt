@@ -1,11 +1,11 @@
 -- The theorems: Two (two terminals), Runs (the same of the program's own calls), Last (the tower). Example computes orders of both
 -- kinds, and the race of the sample (Race). The others are what these cite.
 mod Generic
-mod Owned
+pub mod Owned
 mod Folds
 mod Named
-mod Stored
-mod Written
+pub mod Stored
+pub mod Written
 mod Given
 pub mod Orders
 pub mod Two

@@ -6,7 +6,7 @@ use mathlib.Core.Path.{_≡_, refl, sym, ap, _∙_}
 use mathlib.Core.Bool.{Bool, true, false≢true}
 use mathlib.Core.List.{List, [], _∷_}
 use mathlib.Core.Logic.{_⊎_, inl, inr, ⊎-elim}
-use lib.ListN.{getD}
+use lib.ListN.{length, getD}
 use Rattle.service_code.specs.Code.{numberOf, attributeOf, codeKindOf}
 use Rattle.block_list.specs.declared.element.BlockListElement.{BlockListElement}
 use Rattle.card_nodes.specs.declared.node.Entry.{Entry}
@@ -24,6 +24,24 @@ use Rattle.request_check.specs.Row.{rowBy, rowAt, rowOf, rowsOf, rowAtIndex, ro
 use Rattle.request_check.proofs.Laws.{Good}
 use Rattle.request_plan.proofs.Frame.{LiesIn}
 use Rattle.law_terminals.specs.Two.{Any, HasNumber}
+
+-- the row of a code is of that code
+row-code : (ns : List Node) (code : ℕ) → rowOf ns code .code ≡ code
+unfolding rowOf
+row-code ns code = here (serviceOf ns code)
+  where
+    by-entry : (x : Entry) → rowBy code x .code ≡ code
+    by-entry (Area end) = refl
+    by-entry (Service start blocks limit) = refl
+
+    here : (f : Found) → rowAt ns code f .code ≡ code
+    here (At i) = by-entry (getD ns i rootNode .entry)
+    here Nothing = refl
+
+pub index-code : (ns : List Node) (codes : List ℕ) (j : ℕ) → j < length (rowsOf ns codes) → rowAtIndex (rowsOf ns codes) j .code ≡ getD codes j 0
+index-code ns [] j h = absurd (omega arith)
+index-code ns (code ∷ codes) zero h = row-code ns code
+index-code ns (code ∷ codes) (suc j) h = index-code ns codes j (omega arith)
 
 -- a row is that of a service of the code
 pub record ServiceRow (ns : List Node) (code : ℕ) (w : Row) : Type 0 where

@@ -20,18 +20,19 @@ use Rattle.service_code.specs.Code.{numberOf, attributeOf, codeKindOf, kindOf, 
 use Rattle.block_list.specs.declared.element.BlockListElement.{BlockListElement}
 use Rattle.byte_parts.specs.Part.{part, put}
 use Rattle.byte_parts.proofs.Part.{length-part, length-put, part-put, part-put-apart, part-part, put-part}
-use Rattle.answers.specs.Outcome.{Outcome, passed, failed}
+use Rattle.answers.specs.Outcome.{Outcome, passed}
 use Rattle.card_nodes.specs.declared.node.Node.{Node}
 use Rattle.card_laws.proofs.Laid.{Laid}
 use Rattle.request_check.specs.declared.table.Row.{Row}
 use Rattle.request_check.specs.Row.{rowsOf, rowIn, numberIn}
 use Rattle.request_check.proofs.Laws.{Good}
-use Rattle.request_rules.specs.Lens.{back, within}
 use Rattle.request_rules.specs.Rules.{elementBy, endBy, onStore}
 use Rattle.request_runs.specs.Runs.{good, runsOf}
 use Rattle.request_runs.specs.Staged.{atIndex, elementOn, endOn, staged}
+use Rattle.request_runs.proofs.WalkSteps.{AllFrom, flat-runs}
+use Rattle.request_runs.proofs.OwnRuns.{step-put}
 use Rattle.law_terminals.proofs.Owned.{ServiceRow, good-service, one-store, two-stores}
-use Rattle.law_terminals.proofs.Folds.{failure, AllFrom, folded, replaced, flat-runs, walk-tracks}
+use Rattle.law_terminals.proofs.Folds.{folded, replaced, walk-tracks}
 
 -- a part of what was put
 pub part-of-put : (s : List ℕ) (at n : ℕ) (t : List ℕ) (from m : ℕ) → at + n ≤ length s → length t ≡ n → from + m ≤ n →
@@ -63,7 +64,7 @@ module _ (s : List ℕ) (at n x b : ℕ) (t : List ℕ) (h : at + n ≤ length s
       sides e = elim (decLt x b) [ yes k ↦ inr (omega arith) | no k ↦ inl (omega arith) ]
 
 -- of the random kind only one attribute may be written
-random-writes : (a : ServiceAttribute) → OfKind (kindOf a) ≡ OfKind Random → allowsWrite a ≡ true → Defined a ≡ Defined RandomReadWrite
+pub random-writes : (a : ServiceAttribute) → OfKind (kindOf a) ≡ OfKind Random → allowsWrite a ≡ true → Defined a ≡ Defined RandomReadWrite
 random-writes RandomReadWrite k w = refl
 random-writes RandomReadOnly k w = absurd (false≢true w)
 random-writes CyclicReadWrite k w = absurd (let z : _≡_ {A = ℕ} 0 1 = cc in (omega arith))
@@ -72,18 +73,6 @@ random-writes PurseDirect k w = absurd (let z : _≡_ {A = ℕ} 0 1 = cc in (ome
 random-writes PurseCashback k w = absurd (let z : _≡_ {A = ℕ} 0 1 = cc in (omega arith))
 random-writes PurseDecrement k w = absurd (let z : _≡_ {A = ℕ} 0 1 = cc in (omega arith))
 random-writes PurseReadOnly k w = absurd (false≢true w)
-
--- a step on a row's store that passes: what was put
-step-put : (i : ℕ) (w : Row) (rule : List ℕ → Outcome) (s t : List ℕ) → atIndex i (onStore w rule s) ≡ good t →
-    (u : List ℕ) × (rule (part s (16 * w .start) (16 * w .blocks)) ≡ passed u) × (t ≡ put s (16 * w .start) (16 * w .blocks) u)
-unfolding onStore within back
-step-put i w rule s t e = by-outcome (rule (part s (16 * w .start) (16 * w .blocks))) refl e
-  where
-    by-outcome : (o : Outcome) → rule (part s (16 * w .start) (16 * w .blocks)) ≡ o →
-        atIndex i (back s (16 * w .start) (16 * w .blocks) o) ≡ good t →
-        (u : List ℕ) × (rule (part s (16 * w .start) (16 * w .blocks)) ≡ passed u) × (t ≡ put s (16 * w .start) (16 * w .blocks) u)
-    by-outcome (failed f) q k = failure k
-    by-outcome (passed u) q k = let z : put s (16 * w .start) (16 * w .blocks) u ≡ t = cc in (u, q, sym z)
 
 -- an outcome that passes has one result
 one-result : {o : Outcome} {s t : List ℕ} → o ≡ passed s → o ≡ passed t → t ≡ s

@@ -27,10 +27,11 @@ use Rattle.request_plan.specs.Request.{Request}
 use Rattle.request_plan.specs.Plan.{rowsIn, elementsIn}
 use Rattle.request_plan.specs.Serve.{serve}
 use Rattle.request_plan.proofs.Accepted.{Accepted, accepted, nothing, counted, each-passed, stores-put}
+use Rattle.request_runs.proofs.WalkSteps.{AllFrom}
 use Rattle.law_terminals.specs.Two.{arenaAfter}
 use Rattle.law_terminals.specs.Last.{elementAt, codeAt, NamesBlock}
 use Rattle.law_terminals.proofs.Owned.{ServiceRow}
-use Rattle.law_terminals.proofs.Folds.{AllFrom, folded, replaced, folded-none, folded-last}
+use Rattle.law_terminals.proofs.Folds.{folded, replaced, folded-none, folded-last}
 use Rattle.law_terminals.proofs.Stored.{part-of-put, hits, dataAt, Checks, block-staged}
 
 -- a test that is not true is false
@@ -44,7 +45,7 @@ unfolding part
 part-front s n at m h = part-part s 0 n at m h ∙ rw (zero-add at)
 
 -- elements that passed, whose data are there
-checks-from : (rows : List Row) (d : List ℕ) («open» : Bool) (i : ℕ) (es : List BlockListElement) → AllPass rows true «open» es →
+pub checks-from : (rows : List Row) (d : List ℕ) («open» : Bool) (i : ℕ) (es : List BlockListElement) → AllPass rows true «open» es →
     16 * (i + length es) ≤ length d → AllFrom (Checks rows d) i es
 checks-from rows d «open» i [] p h = tt
 checks-from rows d «open» i (e ∷ es) p h =

@@ -1,4 +1,7 @@
--- What the proofs cite.
+-- What the proofs cite; what callers may is pub.
 pub mod Named
 mod RunLaws
 mod Walking
+pub mod Steps
+pub mod WalkSteps
+pub mod OwnRuns

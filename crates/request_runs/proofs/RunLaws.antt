@@ -13,13 +13,13 @@ use Rattle.answers.specs.declared.status.Fault.{Fault}
 use Rattle.request_runs.specs.Runs.{Walked, bad, good, then, push, runsOf, scan, walk}
 
 -- one step after another
-then-then : {S : Type 0} (r : Walked S) (f g : S → Walked S) → then (then r f) g ≡ then r (λ s. then (f s) g)
+pub then-then : {S : Type 0} (r : Walked S) (f g : S → Walked S) → then (then r f) g ≡ then r (λ s. then (f s) g)
 unfolding then
 then-then (bad i c) f g = refl
 then-then (good s) f g = refl
 
 -- steps that come to the same
-then-ext : {S : Type 0} (r : Walked S) (f g : S → Walked S) → ((s : S) → f s ≡ g s) → then r f ≡ then r g
+pub then-ext : {S : Type 0} (r : Walked S) (f g : S → Walked S) → ((s : S) → f s ≡ g s) → then r f ≡ then r g
 unfolding then
 then-ext (bad i c) f g h = refl
 then-ext (good s) f g h = h s

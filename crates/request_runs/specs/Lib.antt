@@ -1,3 +1,4 @@
 pub mod Runs
 pub mod Staged
+pub mod Own
 pub mod Ready

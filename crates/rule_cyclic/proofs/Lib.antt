@@ -1,2 +1,3 @@
--- The rule in each of its cases, which only the proofs here cite.
+-- The rule in each of its cases, which only the proofs here cite; Again is for callers.
 mod Ring
+pub mod Again

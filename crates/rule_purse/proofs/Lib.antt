@@ -1,4 +1,5 @@
--- The rule in each of its cases, which only the proofs here cite.
+-- The rule in each of its cases, which only the proofs here cite; Again is for callers.
 mod Range
 mod Rule
 mod Stores
+pub mod Again

@@ -7,6 +7,7 @@ mod image;
 pub mod line;
 mod long;
 mod malformed;
+mod resent;
 pub mod served;
 pub mod spoil;
 
@@ -20,7 +21,7 @@ use served::Taste;
 use std::collections::VecDeque;
 
 /// Length and seed of the list that is stored.
-pub const SMALL: (usize, u64) = (638, 1);
+pub const SMALL: (usize, u64) = (643, 1);
 
 /// Texts with boards come after so many random ones: those stored before there were boards keep their
 /// numbers.
@@ -56,10 +57,16 @@ impl Text {
     }
 }
 
-/// This many texts, fixed by the seed, and what they met.
+/// This many texts, fixed by the seed, and what they met. The last are those of writes that are sent
+/// twice.
 pub fn all(length: usize, seed: u64) -> (Vec<Text>, Counts) {
     let mut counts = Counts::default();
-    let texts: Vec<Text> = Texts::new(seed).take(length).collect();
+    let resent: Vec<Vec<u8>> = resent::texts().collect();
+    let drawn = Texts::new(seed).take(length.saturating_sub(resent.len()));
+    let resent = resent
+        .into_iter()
+        .map(|input| Text::new("sent twice", input));
+    let texts: Vec<Text> = drawn.chain(resent).collect();
     for text in &texts {
         count(&mut counts, text);
     }

@@ -51,6 +51,12 @@ pub fn failing(random: &mut Random, card: &Card) -> Request {
     packed(random, &draft)
 }
 
+/// One request for the card as it stands, of which nothing is spoilt.
+pub fn plain(random: &mut Random, card: &Card) -> Request {
+    let draft = draft(random, card);
+    packed(random, &draft)
+}
+
 /// A request whose elements pass their checks, if the card has services for it.
 fn draft<'a>(random: &mut Random, card: &'a Card) -> Draft<'a> {
     let write = !random.once_in(3);

@@ -1,0 +1,223 @@
+-- The theorem is not empty, and both premises are needed: a write of every kind that does no harm when it is sent again, and writes that do,
+-- computed. Assumes nothing.
+use Prim.Native.Nat.{ℕ, zero, suc, _*_, _≤_, _<_}
+use native.Mathlib.Omega.{arith}
+use mathlib.Core.Path.{_≡_, refl, ap}
+use mathlib.Core.Bool.{true}
+use mathlib.Core.List.{List, [], _∷_, _++_}
+use lib.ListN.{getD, replicate}
+use Rattle.answers.specs.declared.status.Fault.the-variants.{PurseRaised, OutsideWord}
+use Rattle.service_code.specs.declared.code.ServiceKind.the-variants.{Cyclic, Purse}
+use Rattle.service_code.specs.Code.{numberOf, attributesOf, tableOf, decodedOf, attributeOf, codeKindOf, requiresKey}
+use Rattle.block_list.specs.Element.{unpackAt, endsFrom, endsAfter, elementsFrom}
+use Rattle.byte_parts.specs.Part.{part, put, sameBytes}
+use Rattle.byte_parts.specs.Word.{wordAt, wordBytes, signedOf, wordOf}
+use Rattle.rule_purse.specs.Purse.{valueOf, insideOf, outsideOf, sumOf, storedOf, purseRule}
+use Rattle.rule_cyclic.specs.Cyclic.{cyclicOf}
+use Rattle.rule_purse.specs.Bytes.{purseDataOf, blockOf, purseOf}
+use Rattle.card_nodes.specs.Find.{firstFrom, openAt, parentFrom}
+use Rattle.card_admit.specs.Admit.{isDepth, parentAt, outside, serviceUnder, sameKind, joinedTo, usable, newStore, placedOf}
+use Rattle.card_sound.specs.Sound.{isRoot, allRoots, stepOf, stepsFrom, stepsOf, soundOf}
+use Rattle.card_build.specs.declared.card.Card.{Card}
+use Rattle.card_build.specs.Card.{newCard}
+use Rattle.card_build.specs.Grow.{addService}
+use Rattle.card_laws.specs.Built.{Built, new, service}
+use Rattle.request_check.specs.Row.{rowOf}
+use Rattle.request_check.specs.Check.{modeAllowed, attributeCheck, serviceCheck, rowCheck, elementCheck, checkedFrom}
+use Rattle.request_rules.specs.Lens.{back, within}
+use Rattle.request_rules.specs.Rules.{cashbackIn, elementBy, endBy, onStore}
+use Rattle.request_runs.specs.Runs.{then, push, runsOf, scan, walk}
+use Rattle.request_runs.specs.Staged.{staged}
+use Rattle.request_plan.specs.declared.Reply.{Reply}
+use Rattle.request_plan.specs.declared.Reply.the-variants.{Done, Failed}
+use Rattle.request_plan.specs.Request.{Request, writeRequest}
+use Rattle.request_plan.specs.Plan.{writeJudged, judgedWith, planOf}
+use Rattle.request_plan.specs.Serve.{committed, carried, serve}
+use Rattle.law_terminals.specs.Two.{arenaAfter}
+use Rattle.law_terminals.specs.Last.{codeAt}
+use Rattle.law_resend.specs.Resend.{Names, PursesOnce, RingsOnce, Harmless}
+use Rattle.law_resend.proofs.Resend.{built-resent}
+
+-- lanes, a random store of one block, number 41h
+abbrev lanes : Card
+lanes = addService (newCard 1 0) 96 1 0x1049 1 0 .card
+
+-- a purse of two blocks, number 42h: what is paid, what is given back or paid, what is lowered directly
+abbrev paid : Card
+paid = addService lanes 96 1 0x1095 2 0 .card
+
+abbrev given : Card
+given = addService paid 96 1 0x1093 2 0 .card
+
+abbrev lowered : Card
+lowered = addService given 96 1 0x1091 2 0 .card
+
+-- a ring of three, number 43h
+abbrev card : Card
+card = addService lowered 96 1 0x10cd 3 0 .card
+
+built : Built card
+unfolding addService placedOf isDepth parentAt parentFrom openAt firstFrom serviceUnder outside sameKind joinedTo usable newStore numberOf attributesOf tableOf decodedOf attributeOf codeKindOf
+built =
+    service {c = lowered} 96 1 0x10cd 3 0
+    (service {c = given} 96 1 0x1091 2 0
+    (service {c = paid} 96 1 0x1093 2 0
+    (service {c = lanes} 96 1 0x1095 2 0
+    (service {c = newCard 1 0} 96 1 0x1049 1 0 (new 1 0) refl) refl) refl) refl) refl
+
+-- the arena: a lane, the two blocks of the purse, the ring
+abbrev arenaOf : ℕ → List ℕ → List ℕ → List ℕ → List ℕ
+arenaOf lane first second ring = replicate 16 lane ++ first ++ second ++ ring
+
+-- a purse of that much, its cashback, its last execution id
+abbrev purse : ℕ → ℕ → ℕ → List ℕ
+purse value back id = value ∷ 0 ∷ 0 ∷ 0 ∷ back ∷ replicate 7 0 ++ (id ∷ 0 ∷ 0 ∷ 0 ∷ [])
+
+-- three blocks of a ring
+abbrev ring : ℕ → ℕ → ℕ → List ℕ
+ring x y z = replicate 16 x ++ replicate 16 y ++ replicate 16 z
+
+-- an empty lane, credits of 100 and 50, a ring of 1, 2, 3
+abbrev arena : List ℕ
+arena = arenaOf 0 (purse 100 0 0) (purse 50 0 0) (ring 1 2 3)
+
+-- an open write
+abbrev writing : List ℕ → ℕ → List ℕ → List ℕ → Request
+writing codes count list «data» = writeRequest true codes count list «data» 96
+
+-- an amount paid, by an execution id
+abbrev pay : ℕ → ℕ → List ℕ
+pay amount id = purse amount 0 id
+
+-- Every kind at once: a payment, the lane twice, a payment from the other block through the other service, two blocks to the ring.
+abbrev every : Request
+every =
+    writing (0x1095 ∷ 0x1049 ∷ 0x1093 ∷ 0x10cd ∷ []) 6
+    (0x80 ∷ 0 ∷ 0x81 ∷ 0 ∷ 0x81 ∷ 0 ∷ 0x82 ∷ 1 ∷ 0x83 ∷ 0 ∷ 0x83 ∷ 0 ∷ [])
+    (pay 10 1 ++ replicate 16 8 ++ replicate 16 9 ++ pay 5 2 ++ replicate 16 5 ++ replicate 16 6)
+
+-- A purse block named twice, through two services.
+abbrev twice : Request
+twice = writing (0x1095 ∷ 0x1093 ∷ []) 2 (0x80 ∷ 0 ∷ 0x81 ∷ 0 ∷ []) (pay 10 1 ++ pay 10 2)
+
+-- Named twice by one code, with a lane between.
+abbrev parted : Request
+parted = writing (0x1095 ∷ 0x1049 ∷ []) 3 (0x80 ∷ 0 ∷ 0x81 ∷ 0 ∷ 0x80 ∷ 0 ∷ []) (pay 10 1 ++ replicate 16 9 ++ pay 10 2)
+
+-- Lowered twice directly.
+abbrev lowering : Request
+lowering = writing (0x1091 ∷ []) 2 (0x80 ∷ 0 ∷ 0x80 ∷ 0 ∷ []) (purse 90 0 0 ++ purse 80 0 0)
+
+-- A cyclic number in two runs, in a ring longer than both together: a lane stands between.
+abbrev turned : Request
+turned = writing (0x10cd ∷ 0x1049 ∷ []) 3 (0x80 ∷ 0 ∷ 0x81 ∷ 0 ∷ 0x80 ∷ 0 ∷ []) (replicate 16 5 ++ replicate 16 9 ++ replicate 16 6)
+
+-- A payment of too much.
+abbrev toomuch : Request
+toomuch = writing (0x1095 ∷ []) 1 (0x80 ∷ 0 ∷ []) (pay 200 1)
+
+-- what a request is told and leaves the first time, and the second
+pub record Twice (r : Request) (one two : Reply) (a b : List ℕ) : Type 0 where
+  pub first : serve card arena r .reply ≡ one
+  pub left : arenaAfter card arena r ≡ a
+  pub second : serve card a r .reply ≡ two
+  pub then-left : arenaAfter card a r ≡ b
+
+-- what comes of them, by the definitions
+computed
+    : Twice every Done Done (arenaOf 9 (purse 90 10 1) (purse 45 5 2) (ring 5 6 1)) (arenaOf 9 (purse 90 10 1) (purse 45 5 2) (ring 5 6 1))
+    × Twice twice Done Done (arenaOf 0 (purse 80 10 2) (purse 50 0 0) (ring 1 2 3)) (arenaOf 0 (purse 60 10 2) (purse 50 0 0) (ring 1 2 3))
+    × Twice parted Done Done (arenaOf 9 (purse 80 10 2) (purse 50 0 0) (ring 1 2 3)) (arenaOf 9 (purse 60 10 2) (purse 50 0 0) (ring 1 2 3))
+    × Twice lowering Done (Failed 0 PurseRaised) (arenaOf 0 (purse 80 0 0) (purse 50 0 0) (ring 1 2 3)) (arenaOf 0 (purse 80 0 0) (purse 50 0 0) (ring 1 2 3))
+    × Twice turned Done Done (arenaOf 9 (purse 100 0 0) (purse 50 0 0) (ring 6 5 1)) (arenaOf 9 (purse 100 0 0) (purse 50 0 0) (ring 6 5 6))
+    × Twice toomuch (Failed 0 OutsideWord) (Failed 0 OutsideWord) arena arena
+unfolding addService placedOf isDepth parentAt parentFrom openAt firstFrom serviceUnder outside sameKind joinedTo usable newStore numberOf attributesOf tableOf decodedOf attributeOf codeKindOf requiresKey unpackAt endsFrom endsAfter elementsFrom part put sameBytes wordAt wordBytes signedOf wordOf cyclicOf valueOf insideOf outsideOf sumOf storedOf purseRule purseDataOf blockOf purseOf isRoot allRoots stepOf stepsFrom stepsOf soundOf rowOf modeAllowed attributeCheck serviceCheck rowCheck elementCheck checkedFrom then push runsOf scan walk back within cashbackIn elementBy endBy onStore staged writeJudged judgedWith planOf committed carried serve
+computed = (
+  record { first = refl; left = refl; second = refl; then-left = refl },
+  record { first = refl; left = refl; second = refl; then-left = refl },
+  record { first = refl; left = refl; second = refl; then-left = refl },
+  record { first = refl; left = refl; second = refl; then-left = refl },
+  record { first = refl; left = refl; second = refl; then-left = refl },
+  record { first = refl; left = refl; second = refl; then-left = refl },
+)
+
+-- a request that leaves another byte the second time, or is not accepted, does harm
+harms : {r : Request} {one : Reply} {a b : List ℕ} (i : ℕ) → Twice r one Done a b → (getD b i 0 ≡ getD a i 0 → ⊥) → Harmless card arena r → ⊥
+harms i x f h = f (ap (λ (l : List ℕ). getD l i 0) (rw (x .left, x .then-left) at (h .unchanged)))
+
+-- the purse paid twice more, the ring turned on, the lowered purse raised: none of these is harmless
+harmful
+    : (Harmless card arena twice → ⊥) × (Harmless card arena parted → ⊥) × (Harmless card arena turned → ⊥)
+    × (Harmless card arena lowering → ⊥) × (Harmless card arena toomuch → ⊥)
+harmful = (
+  harms 16 (computed .1) (λ e. omega arith),
+  harms 16 (computed .2) (λ e. omega arith),
+  harms 80 (computed .4) (λ e. omega arith),
+  λ h. let z : _≡_ {A = ℕ} 0 1 = let q = rw (computed .3 .left, computed .3 .second) at (h .accepted) in cc in omega arith,
+  λ h. let z : _≡_ {A = ℕ} 0 1 = let q = rw (computed .5 .left, computed .5 .second) at (h .accepted) in cc in omega arith,
+)
+
+-- where the premises fail: a purse block is named twice, by two codes, by elements that are not neighbours, directly; a ring has two runs
+premises
+    : (PursesOnce twice → ⊥) × (PursesOnce parted → ⊥) × (PursesOnce lowering → ⊥) × (RingsOnce turned → ⊥)
+    × (codeAt twice 0 ≡ codeAt twice 1 → ⊥)
+unfolding numberOf attributesOf tableOf decodedOf attributeOf codeKindOf unpackAt elementsFrom
+premises = (
+  λ q. q 0x42 0 0 1 (omega arith) (record { listed = omega arith; kinded = refl; number = refl; block = refl })
+      (record { listed = omega arith; kinded = refl; number = refl; block = refl }),
+  λ q. q 0x42 0 0 2 (omega arith) (record { listed = omega arith; kinded = refl; number = refl; block = refl })
+      (record { listed = omega arith; kinded = refl; number = refl; block = refl }),
+  λ q. q 0x42 0 0 1 (omega arith) (record { listed = omega arith; kinded = refl; number = refl; block = refl })
+      (record { listed = omega arith; kinded = refl; number = refl; block = refl }),
+  λ q.
+      let e = q 0x43 0 0 0 1 2 (omega arith) (omega arith) (record { listed = omega arith; kinded = refl; number = refl; block = refl })
+      (record { listed = omega arith; kinded = refl; number = refl; block = refl }) in
+      omega arith,
+  λ e. omega arith,
+)
+
+-- and the other premise holds there
+no-ring : (n b i : ℕ) → Names Cyclic n b twice i → ⊥
+unfolding numberOf attributesOf tableOf decodedOf attributeOf codeKindOf unpackAt elementsFrom
+no-ring n b zero h = let z : _≡_ {A = ℕ} 0 1 = let q = h .kinded in cc in omega arith
+no-ring n b (suc zero) h = let z : _≡_ {A = ℕ} 0 1 = let q = h .kinded in cc in omega arith
+no-ring n b (suc (suc i)) h = let l = h .listed in omega arith
+
+no-purse : (n b i : ℕ) → Names Purse n b turned i → ⊥
+unfolding numberOf attributesOf tableOf decodedOf attributeOf codeKindOf unpackAt elementsFrom
+no-purse n b zero h = let z : _≡_ {A = ℕ} 0 1 = let q = h .kinded in cc in omega arith
+no-purse n b (suc zero) h = let z : _≡_ {A = ℕ} 0 1 = let q = h .kinded in cc in omega arith
+no-purse n b (suc (suc zero)) h = let z : _≡_ {A = ℕ} 0 1 = let q = h .kinded in cc in omega arith
+no-purse n b (suc (suc (suc i))) h = let l = h .listed in omega arith
+
+others : RingsOnce twice × PursesOnce turned
+others = (λ n b d i k j l m x y. absurd (no-ring n b i x), λ n b i j l x y. no-purse n b i x)
+
+-- in the write of every kind elements 0 and 3 name blocks 0 and 1 of the purse, and elements 4 and 5 the ring
+every-purse : (n b i : ℕ) → Names Purse n b every i → i ≡ 3 * b
+unfolding numberOf attributesOf tableOf decodedOf attributeOf codeKindOf unpackAt elementsFrom
+every-purse n b zero h = let q = h .block in omega arith
+every-purse n b (suc zero) h = let z : _≡_ {A = ℕ} 0 1 = let q = h .kinded in cc in omega arith
+every-purse n b (suc (suc zero)) h = let z : _≡_ {A = ℕ} 0 1 = let q = h .kinded in cc in omega arith
+every-purse n b (suc (suc (suc zero))) h = let q = h .block in omega arith
+every-purse n b (suc (suc (suc (suc zero)))) h = let z : _≡_ {A = ℕ} 0 1 = let q = h .kinded in cc in omega arith
+every-purse n b (suc (suc (suc (suc (suc zero))))) h = let z : _≡_ {A = ℕ} 0 1 = let q = h .kinded in cc in omega arith
+every-purse n b (suc (suc (suc (suc (suc (suc i)))))) h = let l = h .listed in omega arith
+
+every-ring : (n b i : ℕ) → Names Cyclic n b every i → (4 ≤ i) × (i < 6)
+unfolding numberOf attributesOf tableOf decodedOf attributeOf codeKindOf unpackAt elementsFrom
+every-ring n b zero h = let z : _≡_ {A = ℕ} 0 1 = let q = h .kinded in cc in omega arith
+every-ring n b (suc zero) h = let z : _≡_ {A = ℕ} 0 1 = let q = h .kinded in cc in omega arith
+every-ring n b (suc (suc zero)) h = let z : _≡_ {A = ℕ} 0 1 = let q = h .kinded in cc in omega arith
+every-ring n b (suc (suc (suc zero))) h = let z : _≡_ {A = ℕ} 0 1 = let q = h .kinded in cc in omega arith
+every-ring n b (suc (suc (suc (suc i)))) h = (omega arith, h .listed)
+
+every-purses : PursesOnce every
+every-purses n b i j l x y = omega (arith, l, every-purse n b i x, every-purse n b j y)
+
+every-rings : RingsOnce every
+every-rings n b d i k j l m x y = let p = every-ring n b i x in let q = every-ring n d j y in absurd (omega arith)
+
+-- so the theorem speaks of it
+every-harmless : Harmless card arena every
+every-harmless = built-resent built arena every refl (computed .0 .first) every-purses every-rings

@@ -1,0 +1,2 @@
+pub mod Resend
+pub mod Calls

@@ -1,0 +1,50 @@
+-- The reply got lost: the statement. A write that was accepted is sent again at once.
+use Prim.Native.Nat.{ℕ, _<_}
+use mathlib.Core.Bool.{true}
+use mathlib.Core.List.{List}
+use mathlib.Core.Path.{_≡_}
+use lib.ListN.{length}
+use Rattle.service_code.specs.declared.code.ServiceKind.{ServiceKind}
+use Rattle.service_code.specs.declared.code.ServiceKind.the-variants.{Cyclic, Purse}
+use Rattle.service_code.specs.declared.code.DecodedKind.the-variants.{Defined as OfKind}
+use Rattle.service_code.specs.Code.{numberOf, codeKindOf}
+use Rattle.card_build.specs.declared.card.Card.{Card}
+use Rattle.request_plan.specs.declared.Reply.the-variants.{Done}
+use Rattle.request_plan.specs.Request.{Request}
+use Rattle.request_plan.specs.Plan.{elementsIn}
+use Rattle.request_plan.specs.Serve.{serve}
+use Rattle.law_terminals.specs.Two.{arenaAfter}
+use Rattle.law_terminals.specs.Last.{elementAt, codeAt}
+
+-- element i of a request, of a service of that kind, names block b of the service number n
+pub record Names (kind : ServiceKind) (n b : ℕ) (r : Request) (i : ℕ) : Type 0 where
+  pub listed : i < length (elementsIn r)
+  pub kinded : codeKindOf (codeAt r i) ≡ OfKind kind
+  pub number : numberOf (codeAt r i) ≡ n
+  pub block : elementAt r i .number ≡ b
+
+-- no two elements of purse kind name the same block of the same service number, by whichever codes
+abbrev pub PursesOnce : Request → Type 0
+PursesOnce r = (n b i j : ℕ) → i < j → Names Purse n b r i → Names Purse n b r j → ⊥
+
+-- the elements of each cyclic number are one run: whatever stands between two of them is of that number
+abbrev pub RingsOnce : Request → Type 0
+RingsOnce r = (n b d i k j : ℕ) → i < k → k < j → Names Cyclic n b r i → Names Cyclic n d r j → numberOf (codeAt r k) ≡ n
+
+-- what the same request comes to when it is sent again
+pub record Harmless (c : Card) (a : List ℕ) (w : Request) : Type 0 where
+  -- it is accepted
+  pub accepted : serve c (arenaAfter c a w) w .reply ≡ Done
+  -- and changes no stored byte
+  pub unchanged : arenaAfter c (arenaAfter c a w) w ≡ arenaAfter c a w
+
+-- At the card c, whatever bytes the arena holds: an accepted write in which no purse block is named twice, by whichever service, and each
+-- cyclic number forms a single run does no harm when it is sent again at once.
+abbrev pub Resent : Card → Type 0
+Resent c =
+    (a : List ℕ) (w : Request)
+    → w .write ≡ true
+    → serve c a w .reply ≡ Done
+    → PursesOnce w
+    → RingsOnce w
+    → Harmless c a w
