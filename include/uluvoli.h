@@ -11,7 +11,7 @@
  *                          another status pair, of a read, a write or a board (uluvoli_pair), and which A5 it was (uluvoli_cause)
  *   number << 16           a refusal (uluvoli_refusal): it has no status pair
  * uluvoli_end_of says which of the three it is. A refusal leaves every byte that the caller lent as it was; a pair other than 00 00 leaves card, arena and output as
- * they were. A number or flag that a call answers is written through its last pointer, only where it returns 0. Each
+ * they were. A number or flag that a call answers is written through its last pointers, only where it returns 0. Each
  * call below lists the refusals that it can give: the first that holds is given.
  *
  * What the library checks, and what it cannot
@@ -44,6 +44,10 @@ enum {
     ULUVOLI_ELEMENTS_MOST = 512,     /* elements of a request */
     ULUVOLI_CODES_MOST = 16,         /* service codes of a request */
     ULUVOLI_LANES = 8,               /* lanes of a board */
+    ULUVOLI_PACKET_MOST = 16,        /* areas and services of a packet, together */
+    ULUVOLI_CODE_LIST_MOST = 67,     /* bytes of a code list */
+    ULUVOLI_ASKED_MOST = 32,         /* nodes of block information */
+    ULUVOLI_INFORMATION_MOST = 129,  /* bytes of block information */
     ULUVOLI_STACK = 16384,           /* bytes of stack that a call takes, at most */
     ULUVOLI_SYSTEM = 0xffff          /* the code that names the system */
 };
@@ -54,7 +58,7 @@ enum {
     ULUVOLI_TOO_MANY_CODES = 2,              /* over 16 service codes */
     ULUVOLI_LIST_LENGTH = 3,                 /* the list ends before its elements do, or runs on */
     ULUVOLI_SHORT_STAGING = 4,               /* the staging is shorter than the blocks in use */
-    ULUVOLI_SHORT_OUTPUT = 5,                /* the output of a read, a directory or a board is too short */
+    ULUVOLI_SHORT_OUTPUT = 5,                /* what is lent for an answer is too short */
     ULUVOLI_SHORT_ARENA = 7,                 /* the arena is shorter than the blocks in use */
     ULUVOLI_NOT_BUILT = 8,                   /* bytes that are no card, or a card that no calls build */
     ULUVOLI_INVALID_AREA_RANGE = 11,         /* an area ends before it begins */
@@ -75,7 +79,11 @@ enum {
     ULUVOLI_RACES_DIFFER = 40,               /* two filled lanes of a board are of different races */
     ULUVOLI_WRONG_LANE = 41,                 /* a filled block with another lane's byte */
     ULUVOLI_BAD_CREW = 42,                   /* a crew byte that is not 20h to 7Eh */
-    ULUVOLI_TAIL_NOT_ZERO = 43               /* a filled block whose last byte is not zero */
+    ULUVOLI_TAIL_NOT_ZERO = 43,              /* a filled block whose last byte is not zero */
+    ULUVOLI_PARENT_NO_AREA = 44,             /* the parent of a code list is no area */
+    ULUVOLI_PACKET_PAST_END = 45,            /* no such packet */
+    ULUVOLI_TOO_MANY_NODES = 46,             /* over 32 nodes are asked */
+    ULUVOLI_NOT_A_MESSAGE = 47               /* bytes that are no message */
 };
 
 /* Status flag 2. Status flag 1 is the place of the element that failed, counted from 1 and at most 255. */
@@ -208,6 +216,37 @@ uint32_t uluvoli_service_list(const uint8_t *card, size_t card_len, const uint16
 /* Where the sixteen bytes of a stored block begin in the arena. Refusals: 8, 7, 23. */
 uint32_t uluvoli_stored_block(const uint8_t *card, size_t card_len, const uint8_t *arena, size_t arena_len,
                               uint16_t code, uint32_t number, size_t *offset);
+
+/* ---- messages: what a card has, for a program that has no card. Numbers of 16 bits go low byte first. `bytes` is how many
+ * bytes a message has; those behind them stay as they were. */
+
+/* Writes a packet of the direct children of the area `parent` to the front of `out` as a code list: a flag, 1 where more
+ * packets follow; how many areas, code and end of each; how many services, their codes. Packet p, from 0 on, holds
+ * children 16 p to 16 p + 15 in tree order, areas and services counted together; packet 0 always exists. The first area
+ * of a code answers: one inside an area of its own code cannot be asked for, and a walk must not try.
+ * ULUVOLI_CODE_LIST_MOST bytes are room for any. Refusals: 8, 44, 45, 5. */
+uint32_t uluvoli_code_list(const uint8_t *card, size_t card_len, uint16_t parent, uint32_t packet, uint8_t *out,
+                           size_t out_len, size_t *bytes);
+
+/* Writes block information of the nodes `codes` to the front of `out`: how many nodes, the block total of each (as
+ * uluvoli_total has it), and how many blocks are free for each: all unused ones of the arena for an area, 0 otherwise.
+ * ULUVOLI_INFORMATION_MOST bytes are room for any. Refusals: 8, 7, 46, 5. */
+uint32_t uluvoli_block_information(const uint8_t *card, size_t card_len, const uint8_t *arena, size_t arena_len,
+                                   const uint16_t *codes, size_t codes_len, uint8_t *out, size_t out_len,
+                                   size_t *bytes);
+
+/* Reads a code list: code and end of each area to the front of `areas`, two numbers an area, and the services' codes to
+ * the front of `services`. 2 * ULUVOLI_PACKET_MOST and ULUVOLI_PACKET_MOST numbers are room for any. The codes are not
+ * judged. Refusals: 47, 5. */
+uint32_t uluvoli_read_code_list(const uint8_t *message, size_t message_len, uint16_t *areas, size_t areas_len,
+                                uint16_t *services, size_t services_len, size_t *area_count, size_t *service_count,
+                                bool *more);
+
+/* Reads block information: the assigned counts to the front of `assigned`, the free ones to the front of `free_blocks`,
+ * one for each node. ULUVOLI_ASKED_MOST numbers are room for any. Refusals: 47, 5. */
+uint32_t uluvoli_read_block_information(const uint8_t *message, size_t message_len, uint16_t *assigned,
+                                        size_t assigned_len, uint16_t *free_blocks, size_t free_blocks_len,
+                                        size_t *nodes);
 
 #ifdef __cplusplus
 }

@@ -65,7 +65,9 @@ static uint8_t card[ULUVOLI_CARD_SIZE];
 static uint8_t arena[ARENA], staging[ARENA], out[OUTPUT], data[OUTPUT], list[3 * ULUVOLI_ELEMENTS_MOST];
 static uint8_t lanes[ULUVOLI_LANES * sizeof(uluvoli_lane)];
 static uint16_t pairs[ULUVOLI_DIRECTORY_MOST], codes[ULUVOLI_CODES_MOST], names[LIST], code;
-static size_t place;
+static uint16_t first[ULUVOLI_ASKED_MOST], second[ULUVOLI_ASKED_MOST];
+static size_t place, firsts, seconds;
+static uint32_t packet;
 static uint16_t told;
 static bool well;
 static uint32_t answer;
@@ -102,6 +104,20 @@ static void total(void) { answer = uluvoli_total(card, sizeof card, code, &told)
 static void key_version(void) { answer = uluvoli_key_version(card, sizeof card, code, &told); }
 static void area_list(void) { answer = uluvoli_area_list(card, sizeof card, names, LIST, &well); }
 static void service_list(void) { answer = uluvoli_service_list(card, sizeof card, names, LIST, &well); }
+static void code_list(void) {
+    answer = uluvoli_code_list(card, sizeof card, code, packet, out, sizeof out, &place);
+}
+static void read_code_list(void) {
+    answer = uluvoli_read_code_list(out, place, first, 2 * ULUVOLI_PACKET_MOST, second, ULUVOLI_PACKET_MOST, &firsts,
+                                    &seconds, &well);
+}
+static void block_information(void) {
+    answer = uluvoli_block_information(card, sizeof card, arena, sizeof arena, names, ULUVOLI_ASKED_MOST, out,
+                                       sizeof out, &place);
+}
+static void read_block_information(void) {
+    answer = uluvoli_read_block_information(out, place, first, ULUVOLI_ASKED_MOST, second, ULUVOLI_ASKED_MOST, &firsts);
+}
 
 /* ---- the cards: so many nodes beside the root */
 
@@ -243,7 +259,22 @@ static void ask_board(bool has) {
     }
 }
 
-/* Every question, read, write and board, on a card of 64 nodes. */
+/* Every packet of the root's children, and the blocks of as many nodes as may be asked at once. */
+static void ask_messages(void) {
+    code = 0x0000;
+    packet = 0;
+    do {
+        expect("code_list", code_list, 0);
+        expect("read_code_list", read_code_list, 0);
+        packet++;
+    } while (well);
+    expect("code_list, refused", code_list, ULUVOLI_PACKET_PAST_END << 16);
+    expect("block_information", block_information, 0);
+    expect("read_block_information", read_block_information, 0);
+    must(firsts == ULUVOLI_ASKED_MOST, "the information has other nodes");
+}
+
+/* Every question, message, read, write and board, on a card of 64 nodes. */
 static void ask(uint16_t wanted_total) {
     expect("directory", directory, 0);
     must(place == ULUVOLI_NODES_MOST, "the directory has other nodes");
@@ -258,6 +289,7 @@ static void ask(uint16_t wanted_total) {
     }
     expect("area_list", area_list, 0);
     expect("service_list", service_list, 0);
+    ask_messages();
     code = codes[0];
     expect("set_block", set_block, has ? 0 : ULUVOLI_NO_SUCH_BLOCK << 16);
     expect("stored_block", stored_block, has ? 0 : ULUVOLI_NO_SUCH_BLOCK << 16);

@@ -4,12 +4,12 @@
 //! From the bottom up: `felica_standard` is the Rust with our stand-ins around it. What its
 //! emulator hides from the outside is asked through `emulator::doors`. `refusal` has the numbers of
 //! docs/RULES.md, `tree` grows a card by its rules, `request` serves a request on it, `board` works
-//! a lane board out of eight blocks, and `replay` answers a whole text. `leaves` asks the questions
+//! a lane board out of eight blocks, `replay` answers a whole text, and `inspect` one with questions. `leaves` asks the questions
 //! that need no card, `trees` those about growing one, `requests` those about requests, `boards`
-//! those about boards, `texts` those about whole texts, `terminals` those about two lists of
+//! those about boards, `texts` those about whole texts, `inspections` those about texts with questions, `terminals` those about two lists of
 //! requests on one card, `resends` those about a write that is sent twice; `draw` draws what they ask
 //! about. `beside` puts texts to another program and compares. `random`, `hex`, `lines`, `files`,
-//! `cause`, `counts` and `program` are tools.
+//! `cause`, `counts`, `filter` and `program` are tools.
 
 pub mod beside;
 pub mod board;
@@ -19,7 +19,10 @@ pub mod counts;
 pub mod draw;
 pub mod felica_standard;
 pub mod files;
+pub mod filter;
 pub mod hex;
+pub mod inspect;
+pub mod inspections;
 pub mod leaves;
 pub mod lines;
 pub mod program;

@@ -2,6 +2,7 @@
 
 use crate::counts::Counts;
 use crate::files;
+use crate::filter::{Filter, INSPECT, REPLAY};
 use std::io::{self, Write};
 use std::path::PathBuf;
 
@@ -22,12 +23,22 @@ pub enum Wanted {
     Counts,
 }
 
+/// The filter that the words are about, and the other words: `inspect` if `--inspect` comes first, else
+/// `replay`.
+pub fn filter() -> (&'static Filter, Vec<String>) {
+    let mut words: Vec<String> = std::env::args().skip(1).collect();
+    if words.first().is_some_and(|word| word == "--inspect") {
+        words.remove(0);
+        return (&INSPECT, words);
+    }
+    (&REPLAY, words)
+}
+
 /// Reads the words `N SEED [DIR | --counts]`, where `--small` may stand in place of `N SEED` and
 /// means these two.
-pub fn words(name: &str, small: (usize, u64)) -> io::Result<Words> {
-    let words: Vec<String> = std::env::args().skip(1).collect();
+pub fn words(name: &str, small: (usize, u64), words: &[String]) -> io::Result<Words> {
     let usage = || io::Error::other(format!("usage: {name} (N SEED | --small) [DIR | --counts]"));
-    let ((length, seed), rest) = match words.as_slice() {
+    let ((length, seed), rest) = match words {
         [word, rest @ ..] if word == "--small" => (small, rest),
         [length, seed, rest @ ..] => {
             let length = length.parse().map_err(|_| usage())?;
@@ -50,11 +61,10 @@ pub fn words(name: &str, small: (usize, u64)) -> io::Result<Words> {
 }
 
 /// Reads two numbers, and a word that may follow them.
-pub fn numbers(usage: &str) -> io::Result<([u64; 2], String)> {
-    let words: Vec<String> = std::env::args().skip(1).collect();
+pub fn numbers(usage: &str, words: &[String]) -> io::Result<([u64; 2], String)> {
     let wrong = || io::Error::other(format!("usage: {usage}"));
     let number = |word: &String| word.parse().map_err(|_| wrong());
-    match words.as_slice() {
+    match words {
         [one, two] => Ok(([number(one)?, number(two)?], String::new())),
         [one, two, word] => Ok(([number(one)?, number(two)?], word.clone())),
         _ => Err(wrong()),
@@ -63,7 +73,8 @@ pub fn numbers(usage: &str) -> io::Result<([u64; 2], String)> {
 
 /// Draws the list that the words ask for, and prints it, writes it or prints its counts.
 pub fn run(name: &str, small: (usize, u64), draw: impl Fn(usize, u64) -> List) -> io::Result<()> {
-    let words = words(name, small)?;
+    let given: Vec<String> = std::env::args().skip(1).collect();
+    let words = words(name, small, &given)?;
     let (texts, counts) = draw(words.length, words.seed);
     let mut out = io::BufWriter::new(io::stdout().lock());
     match words.wanted {

@@ -23,6 +23,10 @@ pub const RACES_DIFFER: Refusal = 40;
 pub const WRONG_LANE: Refusal = 41;
 pub const BAD_CREW: Refusal = 42;
 pub const TAIL_NOT_ZERO: Refusal = 43;
+pub const NO_AREA: Refusal = 44;
+pub const NO_PACKET: Refusal = 45;
+pub const TOO_MANY_NODES: Refusal = 46;
+pub const NO_MESSAGE: Refusal = 47;
 
 /// The number of an error of the Rust.
 pub fn of_rust(error: &EmulatorConfigError) -> Refusal {

@@ -72,7 +72,7 @@ fn often() {
     }
     assert!(counts.of("text: board") > 500);
     for name in texts.iter().flat_map(|text| &text.met) {
-        assert!(met::ALL.contains(name), "{name}");
+        assert!(met::ALL.contains(&name.as_str()), "{name}");
     }
 }
 
@@ -137,7 +137,11 @@ fn refreshes_leave_nothing() {
 #[test]
 fn watched() {
     let text = Text::of(b"card\t0001\t0000\nsvc\t1\t1049\t8\t0000\nL\t1049\n".to_vec());
-    assert!(text.met.contains(&"sound, eight empty lanes"));
+    assert!(
+        text.met
+            .iter()
+            .any(|name| name == "sound, eight empty lanes")
+    );
     assert!(Text::of(b"L\t1049\n".to_vec()).met.is_empty());
 }
 

@@ -126,4 +126,48 @@ extern "C" {
         number: u32,
         offset: *mut usize,
     ) -> u32;
+
+    pub fn uluvoli_code_list(
+        card: *const u8,
+        card_len: usize,
+        parent: u16,
+        packet: u32,
+        out: *mut u8,
+        out_len: usize,
+        bytes: *mut usize,
+    ) -> u32;
+
+    pub fn uluvoli_block_information(
+        card: *const u8,
+        card_len: usize,
+        arena: *const u8,
+        arena_len: usize,
+        codes: *const u16,
+        codes_len: usize,
+        out: *mut u8,
+        out_len: usize,
+        bytes: *mut usize,
+    ) -> u32;
+
+    pub fn uluvoli_read_code_list(
+        message: *const u8,
+        message_len: usize,
+        areas: *mut u16,
+        areas_len: usize,
+        services: *mut u16,
+        services_len: usize,
+        area_count: *mut usize,
+        service_count: *mut usize,
+        more: *mut bool,
+    ) -> u32;
+
+    pub fn uluvoli_read_block_information(
+        message: *const u8,
+        message_len: usize,
+        assigned: *mut u16,
+        assigned_len: usize,
+        free_blocks: *mut u16,
+        free_blocks_len: usize,
+        nodes: *mut usize,
+    ) -> u32;
 }

@@ -15,6 +15,14 @@ pub const STACK: usize = 16_384;
 pub const BLOCK_SIZE: usize = 16;
 /// Lanes of a board.
 pub const LANES: usize = 8;
+/// Areas and services of a packet, together.
+pub const PACKET_MOST: usize = 16;
+/// Bytes of a code list, at most.
+pub const CODE_LIST_MOST: usize = 67;
+/// Nodes of block information, at most.
+pub const ASKED_MOST: usize = 32;
+/// Bytes of block information, at most.
+pub const INFORMATION_MOST: usize = 129;
 /// The code that names the system.
 pub const SYSTEM: u16 = 0xffff;
 
@@ -78,6 +86,78 @@ pub struct Lane {
     pub race: u16,
     /// The crew's code, without trailing spaces.
     pub crew: String,
+}
+
+/// A packet of an area's children, in tree order.
+#[derive(Clone, Debug, Default, PartialEq, Eq)]
+pub struct CodeList {
+    /// Whether more packets follow.
+    pub more: bool,
+    /// The areas, code and end of each.
+    pub areas: Vec<(u16, u16)>,
+    /// The codes of the services.
+    pub services: Vec<u16>,
+}
+
+/// The blocks of the nodes that were asked, in their order.
+#[derive(Clone, Debug, Default, PartialEq, Eq)]
+pub struct BlockInformation {
+    /// The blocks assigned to each.
+    pub assigned: Vec<u16>,
+    /// The blocks free for each.
+    pub free: Vec<u16>,
+}
+
+impl CodeList {
+    /// Reads the bytes of a code list. Refusal 47 for any others.
+    pub fn from_bytes(message: &[u8]) -> Result<Self, Refusal> {
+        let (mut areas, mut services) = ([0; 2 * PACKET_MOST], [0; PACKET_MOST]);
+        let (mut area_count, mut service_count, mut more) = (0, 0, false);
+        // SAFETY: the pointers are valid for their lengths; all but the message are lent for writing, and apart.
+        done(unsafe {
+            ffi::uluvoli_read_code_list(
+                message.as_ptr(),
+                message.len(),
+                areas.as_mut_ptr(),
+                areas.len(),
+                services.as_mut_ptr(),
+                services.len(),
+                &mut area_count,
+                &mut service_count,
+                &mut more,
+            )
+        })?;
+        let pairs = areas.chunks_exact(2).map(|pair| (pair[0], pair[1]));
+        Ok(CodeList {
+            more,
+            areas: pairs.take(area_count).collect(),
+            services: services[..service_count].to_vec(),
+        })
+    }
+}
+
+impl BlockInformation {
+    /// Reads the bytes of block information. Refusal 47 for any others.
+    pub fn from_bytes(message: &[u8]) -> Result<Self, Refusal> {
+        let (mut assigned, mut free) = ([0; ASKED_MOST], [0; ASKED_MOST]);
+        let mut nodes = 0;
+        // SAFETY: the pointers are valid for their lengths; all but the message are lent for writing, and apart.
+        done(unsafe {
+            ffi::uluvoli_read_block_information(
+                message.as_ptr(),
+                message.len(),
+                assigned.as_mut_ptr(),
+                assigned.len(),
+                free.as_mut_ptr(),
+                free.len(),
+                &mut nodes,
+            )
+        })?;
+        Ok(BlockInformation {
+            assigned: assigned[..nodes].to_vec(),
+            free: free[..nodes].to_vec(),
+        })
+    }
 }
 
 /// A card, as its bytes.
@@ -353,6 +433,51 @@ impl Card {
             )
         })?;
         Ok(well_formed)
+    }
+
+    /// Writes a packet of the direct children of an area to the front of `out` as a code list, and gives how many bytes
+    /// it has: at most [`CODE_LIST_MOST`].
+    pub fn code_list(&self, parent: u16, packet: u32, out: &mut [u8]) -> Result<usize, Refusal> {
+        let mut bytes = 0;
+        // SAFETY: the pointers are valid for their lengths; output and count are lent for writing.
+        done(unsafe {
+            ffi::uluvoli_code_list(
+                self.0.as_ptr(),
+                CARD_SIZE,
+                parent,
+                packet,
+                out.as_mut_ptr(),
+                out.len(),
+                &mut bytes,
+            )
+        })?;
+        Ok(bytes)
+    }
+
+    /// Writes block information of the nodes `codes` to the front of `out`, and gives how many bytes it has: at most
+    /// [`INFORMATION_MOST`].
+    pub fn block_information(
+        &self,
+        arena: &[u8],
+        codes: &[u16],
+        out: &mut [u8],
+    ) -> Result<usize, Refusal> {
+        let mut bytes = 0;
+        // SAFETY: the pointers are valid for their lengths; output and count are lent for writing.
+        done(unsafe {
+            ffi::uluvoli_block_information(
+                self.0.as_ptr(),
+                CARD_SIZE,
+                arena.as_ptr(),
+                arena.len(),
+                codes.as_ptr(),
+                codes.len(),
+                out.as_mut_ptr(),
+                out.len(),
+                &mut bytes,
+            )
+        })?;
+        Ok(bytes)
     }
 
     /// The sixteen bytes of a stored block, which are the arena's own.

@@ -1,6 +1,9 @@
 //! A marshal and a tower through the safe calls.
 
-use uluvoli::{Card, Cause, Failure, Lane, Refusal, Request, BLOCK_SIZE, CARD_SIZE, LANES, SYSTEM};
+use uluvoli::{
+    BlockInformation, Card, Cause, CodeList, Failure, Lane, Refusal, Request, BLOCK_SIZE, CARD_SIZE,
+    CODE_LIST_MOST, INFORMATION_MOST, LANES, SYSTEM,
+};
 
 const MARSHAL: u16 = 0x1049;
 const TOWER: u16 = 0x104b;
@@ -232,6 +235,77 @@ fn a_board_is_refused() {
     assert_eq!(short, pair(3, 0xa8, None));
     let broken = Card::from_bytes([0; CARD_SIZE]).board(&few, TOWER);
     assert_eq!(broken, refused(8));
+}
+
+#[test]
+fn packets_tell_every_child_once() {
+    let mut arena = [0u8; 256];
+    let mut card = race(&mut arena);
+    for k in 0..16 {
+        card.add_area(1, 0x2000 + 64 * k, 0x203f + 64 * k, 0)
+            .unwrap();
+    }
+    card.add_service(&mut arena, 1, 0x4009, 3, 0).unwrap();
+    let mut out = [7u8; CODE_LIST_MOST + 1];
+    let mut packet = |number, room: usize| {
+        let bytes = card.code_list(0, number, &mut out[..room])?;
+        assert_eq!(out[bytes..], [7; CODE_LIST_MOST + 1][bytes..]);
+        let list = CodeList::from_bytes(&out[..bytes]);
+        out = [7; CODE_LIST_MOST + 1];
+        list
+    };
+    let first = packet(0, CODE_LIST_MOST).unwrap();
+    assert_eq!((first.more, first.areas.len()), (true, 16));
+    assert_eq!(first.areas[0], (0x1000, 0x10ff));
+    assert_eq!(first.areas[15], (0x2380, 0x23bf));
+    let second = CodeList {
+        more: false,
+        areas: vec![(0x23c0, 0x23ff)],
+        services: vec![0x4009],
+    };
+    assert_eq!(packet(1, 9), Ok(second));
+    assert_eq!(packet(1, 8), Err(Refusal(5)));
+    assert_eq!(packet(2, 0), Err(Refusal(45)));
+    assert_eq!(card.code_list(MARSHAL, 0, &mut []), Err(Refusal(44)));
+    assert_eq!(card.code_list(SYSTEM, 0, &mut []), Err(Refusal(44)));
+}
+
+#[test]
+fn block_information_is_told_for_each_node() {
+    let mut arena = [0u8; 256];
+    let card = race(&mut arena);
+    let mut out = [0u8; INFORMATION_MOST];
+    let asked = [0, 0x1000, MARSHAL, TOWER, CREDIT, 0x9000, SYSTEM];
+    let bytes = card.block_information(&arena, &asked, &mut out).unwrap();
+    let told = BlockInformation {
+        assigned: vec![5, 5, 2, 2, 1, 0, 0],
+        free: vec![13, 13, 0, 0, 0, 0, 0],
+    };
+    assert_eq!(BlockInformation::from_bytes(&out[..bytes]), Ok(told));
+    let mut refused = |arena: &[u8], asked: &[u16], room: usize| {
+        card.block_information(arena, asked, &mut out[..room])
+            .unwrap_err()
+    };
+    assert_eq!(refused(&arena, &asked, 28), Refusal(5));
+    assert_eq!(refused(&arena, &[0; 33], 0), Refusal(46));
+    assert_eq!(refused(&arena[..47], &[0; 33], 0), Refusal(7));
+}
+
+#[test]
+fn bytes_that_are_no_message_are_refused() {
+    let list = CodeList::from_bytes(&[1, 0, 0]).unwrap();
+    assert_eq!((list.more, list.areas.len()), (true, 0));
+    let mut most = [0u8; CODE_LIST_MOST];
+    most[1] = 16;
+    assert!(CodeList::from_bytes(&most).is_ok());
+    for bytes in [&[][..], &[0, 0], &[2, 0, 0], &[0, 0, 0, 0], &[0, 0, 1], &[0, 17, 0]] {
+        assert_eq!(CodeList::from_bytes(bytes), Err(Refusal(47)));
+    }
+    assert_eq!(BlockInformation::from_bytes(&[0]), Ok(BlockInformation::default()));
+    assert!(BlockInformation::from_bytes(&[[32].as_slice(), &[0; 128]].concat()).is_ok());
+    for bytes in [&[][..], &[1, 0, 0, 0], &[0, 0], &[33; 133]] {
+        assert_eq!(BlockInformation::from_bytes(bytes), Err(Refusal(47)));
+    }
 }
 
 #[test]

@@ -12,7 +12,7 @@ pub enum Refusal {
     ListLength,
     // The staging lent to a write is too short.
     ShortStaging,
-    // The output lent to a read or a directory is too short.
+    // The output lent to a read, a directory or a message is too short.
     ShortOutput,
     // A malformed request line.
     MalformedRequest,
@@ -41,6 +41,14 @@ pub enum Refusal {
     NotAService,
     // A malformed image line.
     MalformedImage,
+    // The parent that a code list names is no area.
+    ParentNoArea,
+    // A packet of a code list past the last.
+    PacketPastEnd,
+    // More than 32 nodes asked.
+    TooManyNodes,
+    // Bytes that are no message.
+    NotAMessage,
 }
 
 // How a call ended.
@@ -84,6 +92,10 @@ impl Refusal {
             Refusal::NoSuchBlock => 23,
             Refusal::NotAService => 28,
             Refusal::MalformedImage => 30,
+            Refusal::ParentNoArea => 44,
+            Refusal::PacketPastEnd => 45,
+            Refusal::TooManyNodes => 46,
+            Refusal::NotAMessage => 47,
         }
     }
 }

@@ -1,3 +1,4 @@
 pub mod Part
 pub mod Sizes
 pub mod Word
+pub mod Half

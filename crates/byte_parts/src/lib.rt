@@ -1,4 +1,5 @@
-// Bytes: parts of a slice, four of them as a number, and the sizes that every floor above goes by.
+// Bytes: parts of a slice, two or four of them as a number, and the sizes that every floor above goes by.
+pub mod half;
 pub mod sizes;
 pub mod spans;
 pub mod word;

@@ -162,7 +162,7 @@ fn joined_to(first: Node, code: u16, used: usize) -> Placed
 }
 
 // How many blocks of an arena of `arena_len` bytes can be used.
-fn usable_blocks(arena_len: usize) -> usize
+pub fn usable_blocks(arena_len: usize) -> usize
     ensures { λ r. ⌜ r ≡ usable «arena_len» ⌝ }
 {
     let whole = arena_len / BLOCK_SIZE;

@@ -6,3 +6,4 @@ pub mod Built
 pub mod Places
 pub mod Laid
 pub mod Kept
+pub mod Steps

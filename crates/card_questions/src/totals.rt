@@ -72,7 +72,7 @@ fn area_total(nodes: [Node; 64], count: usize, code: u16) -> u16
 }
 
 // The total of `code`: that of a service's store, else an area's, else 0.
-fn block_total(nodes: [Node; 64], count: usize, code: u16) -> u16
+pub fn block_total(nodes: [Node; 64], count: usize, code: u16) -> u16
     ensures { λ r. ⌜ r ≡ totalOf (take count nodes) code ⌝ }
 {
     match find::find_service(nodes, count, code) {

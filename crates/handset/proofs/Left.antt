@@ -30,6 +30,13 @@ use Rattle.card_questions.specs.declared.listing.Listing.the-variants.{Listed, 
 use Rattle.card_questions.specs.declared.keys.Checked.{Checked}
 use Rattle.card_questions.specs.declared.keys.Checked.the-variants.{WellFormed, Malformed, Refused as NotChecked}
 use Rattle.card_questions.specs.Directory.{directoryOf, listedOf, listingOf, outAfter, directoryAnswer, directoryOut}
+use Rattle.node_messages.specs.declared.message.Put.{Put}
+use Rattle.node_messages.specs.declared.message.Put.the-variants.{Bytes, Refused as NotPut}
+use Rattle.node_messages.specs.Message.{putOf, outputAfter as messageAfter}
+use Rattle.node_messages.specs.CodeList.{codeListBytes}
+use Rattle.node_messages.specs.Information.{informationBytes}
+use Rattle.card_lists.specs.Packet.{putAnswered, outAnswered, codeListOf, codeListPut, codeListOut}
+use Rattle.card_lists.specs.Information.{blocksOf, blocksPut, blocksOut}
 use Rattle.request_check.specs.Row.{rowOf}
 use Rattle.request_runs.specs.Runs.{Walked, bad, good}
 use Rattle.request_runs.specs.Staged.{staged}
@@ -45,6 +52,7 @@ use Rattle.board_read.specs.Refresh.{boardServed}
 use Rattle.handset.specs.Outcome.{answerAs}
 use Rattle.handset.specs.Kept.{cardBy, cardAfter}
 use Rattle.handset.specs.Told.{toldAs, toldAfter, listedAs, listedAfter}
+use Rattle.handset.specs.Message.{putAs, putAfter, toldBy, numbersTold}
 use Rattle.handset.specs.Checked.{checkedAs, checkedAfter}
 use Rattle.handset.specs.Board.{refreshedAs, boardRoom, boardMade, recordsBy, recordsAfter}
 use Rattle.handset.specs.Block.{unfitAfter, setAnswer, setAfter, placeBy, placeAfter}
@@ -105,6 +113,38 @@ board-left c arena code old h = by (boardMade c arena code old) h
     by Board h = absurd (h refl)
     by (NoBoard x) h = refl
     by (ByCard reply) h = refl
+
+-- how many bytes a message has
+pub put-left : (old : ℕ) (a : Put) → (putAs a ≡ 0 → ⊥) → putAfter old a ≡ old
+put-left old (Bytes n) h = absurd (h refl)
+put-left old (NotPut r) h = refl
+
+-- the output of a message
+answered-left : (a : Answer) (message out : List ℕ) → (putAs (putAnswered a message (length out)) ≡ 0 → ⊥) → outAnswered a message out ≡ out
+unfolding putOf messageAfter
+answered-left (Refused r) message out h = refl
+answered-left Accepted message out h = by (ltb (length out) (length message)) h
+  where
+    by : (t : Bool) → (putAs (cond t (NotPut ShortOutput) (Bytes (length message))) ≡ 0 → ⊥) → cond t out (put out 0 (length message) message) ≡ out
+    by true h = refl
+    by false h = absurd (h refl)
+
+pub code-list-left : (c : Card) (parent p : ℕ) (out : List ℕ) → (putAs (codeListPut c parent p (length out)) ≡ 0 → ⊥) → codeListOut c parent p out ≡ out
+unfolding codeListPut codeListOut
+code-list-left c parent p out h = answered-left (codeListOf c parent p .answer) (codeListBytes (codeListOf c parent p .list)) out h
+
+pub information-left : (c : Card) (arenaLen : ℕ) (asked out : List ℕ) → (putAs (blocksPut c arenaLen asked (length out)) ≡ 0 → ⊥) → blocksOut c arenaLen asked out ≡ out
+unfolding blocksPut blocksOut
+information-left c arenaLen asked out h = answered-left (blocksOf c arenaLen asked .answer) (informationBytes (blocksOf c arenaLen asked .told)) out h
+
+-- what a reader tells, beside its lists and in them
+pub read-left : {A : Type 0} (a : Answer) (old new : A) → (answerAs a ≡ 0 → ⊥) → toldBy a old new ≡ old
+read-left Accepted old new h = absurd (h refl)
+read-left (Refused r) old new h = refl
+
+pub numbers-left : (a : Answer) (old : List ℕ) (n : ℕ) (new : List ℕ) → (answerAs a ≡ 0 → ⊥) → numbersTold a old n new ≡ old
+numbers-left Accepted old n new h = absurd (h refl)
+numbers-left (Refused r) old n new h = put-zero old 0 new
 
 -- the output of a directory
 pub directory-left : (c : Card) (out : List ℕ) → (listedAs (directoryAnswer c (length out)) ≡ 0 → ⊥) → directoryOut c out ≡ out

@@ -1,6 +1,7 @@
 pub mod Outcome
 pub mod Kept
 pub mod Told
+pub mod Message
 pub mod Checked
 pub mod Reply
 pub mod Block

@@ -4,6 +4,8 @@ pub mod blocks;
 pub mod board;
 pub mod build;
 pub mod lists;
+pub mod messages;
 pub mod outcome;
 pub mod questions;
+pub mod readers;
 pub mod requests;

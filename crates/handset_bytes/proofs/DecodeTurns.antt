@@ -10,7 +10,8 @@ use lib.Seq.{drop-drop, take-all, take-suc-set}
 use borrow.Author.Tests.{eq-eqb, ne-eqb}
 use Rattle.card_nodes.specs.declared.node.Node.{Node}
 use Rattle.card_build.specs.declared.card.Card.{Card}
-use Rattle.handset_bytes.specs.Node.{halfAt, nodeIn, isRecord}
+use Rattle.byte_parts.specs.Half.{halfAt}
+use Rattle.handset_bytes.specs.Node.{nodeIn, isRecord}
 use Rattle.handset_bytes.specs.Card.{nodesIn, areRecords, isCard, noCard, decodedOf}
 use Rattle.handset_bytes.proofs.Long.{at, ownOf, twenty}
 

@@ -11,7 +11,8 @@ use Rattle.byte_parts.specs.Part.{put}
 use Rattle.byte_parts.proofs.Part.{length-put, put-lent}
 use Rattle.card_nodes.specs.declared.node.Node.{Node}
 use Rattle.card_build.specs.declared.card.Card.{Card}
-use Rattle.handset_bytes.specs.Node.{halfBytes, nodeBytes}
+use Rattle.byte_parts.specs.Half.{halfBytes}
+use Rattle.handset_bytes.specs.Node.{nodeBytes}
 use Rattle.handset_bytes.specs.Card.{headBytes, nodesBytes, cardBytes, cardPut}
 use Rattle.handset_bytes.proofs.Long.{node-long, at}
 

@@ -11,7 +11,8 @@ use Rattle.card_nodes.specs.declared.node.Entry.{Entry}
 use Rattle.card_nodes.specs.declared.node.Entry.the-variants.{Area, Service}
 use Rattle.card_nodes.specs.declared.node.Node.{Node}
 use Rattle.card_build.specs.Grow.{nodeAs}
-use Rattle.handset_bytes.specs.Node.{halfBytes, nodeBytes}
+use Rattle.byte_parts.specs.Half.{halfBytes}
+use Rattle.handset_bytes.specs.Node.{nodeBytes}
 
 -- a record has twenty bytes
 pub node-long : (n : Node) → length (nodeBytes n) ≡ 20

@@ -14,7 +14,8 @@ use Rattle.card_nodes.specs.declared.node.Entry.{Entry}
 use Rattle.card_nodes.specs.declared.node.Entry.the-variants.{Area, Service}
 use Rattle.card_nodes.specs.declared.node.Node.{Node}
 use Rattle.card_build.specs.Grow.{nodeAs}
-use Rattle.handset_bytes.specs.Node.{halfBytes, kindOf, limitBytes, entryBytes, nodeBytes}
+use Rattle.byte_parts.specs.Half.{halfBytes}
+use Rattle.handset_bytes.specs.Node.{kindOf, limitBytes, entryBytes, nodeBytes}
 use Rattle.handset_bytes.specs.Card.{headBytes}
 use Rattle.handset_bytes.proofs.Long.{node-long}
 

@@ -7,7 +7,8 @@ use lib.ListN.{length, take, drop, replicate}
 use Rattle.card_nodes.specs.declared.node.Node.{Node}
 use Rattle.card_nodes.specs.Node.{rootNode}
 use Rattle.card_build.specs.declared.card.Card.{Card}
-use Rattle.handset_bytes.specs.Node.{halfBytes, halfAt, nodeBytes, nodeIn, isRecord}
+use Rattle.byte_parts.specs.Half.{halfBytes, halfAt}
+use Rattle.handset_bytes.specs.Node.{nodeBytes, nodeIn, isRecord}
 
 abbrev pub cardSize : ℕ
 cardSize = 1288

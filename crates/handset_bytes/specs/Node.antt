@@ -3,25 +3,18 @@
 --   1 depth    2-3 code    4-5 version    6-7 an area's end, a service's start    8-9 a service's blocks
 --   10 generation    11 zero    12-15 upper    16-19 lower
 -- Bytes that a kind has no field for are zero.
-use Prim.Native.Nat.{ℕ, _+_, _*_, _/_, _%_}
+use Prim.Native.Nat.{ℕ}
 use mathlib.Core.List.{List, [], _∷_, _++_}
 use mathlib.Core.Bool.{Bool, false, cond, _&&_}
 use lib.Dec.{eqb, ltb}
 use lib.ListN.{getD, replicate}
+use Rattle.byte_parts.specs.Half.{halfBytes, halfAt}
 use Rattle.byte_parts.specs.Word.{wordAt, wordBytes, signedOf, wordOf}
 use Rattle.service_code.specs.declared.limit.Limit.{Limit}
 use Rattle.service_code.specs.declared.limit.Limit.the-variants.{Unlimited, Limited}
 use Rattle.card_nodes.specs.declared.node.Entry.{Entry}
 use Rattle.card_nodes.specs.declared.node.Entry.the-variants.{Area, Service}
 use Rattle.card_nodes.specs.declared.node.Node.{Node}
-
--- a number of 16 bits as two bytes
-unfoldable pub halfBytes : ℕ → List ℕ
-halfBytes v = (v % 256) ∷ (v / 256 % 256) ∷ []
-
--- the number that two bytes make
-unfoldable pub halfAt : List ℕ → ℕ → ℕ
-halfAt s at = getD s at 0 + 256 * getD s (at + 1) 0
 
 abbrev pub kindOf : Entry → ℕ
 kindOf (Area end) = 0

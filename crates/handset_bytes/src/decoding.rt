@@ -1,7 +1,7 @@
 // A card read from its bytes.
-use crate::half;
 use crate::layout;
 use crate::node;
+use byte_parts::half;
 use card_build::card::Card;
 use card_nodes::node::Node;
 ghost use mathlib.Core.Path.{_≡_};

@@ -1,7 +1,7 @@
 // A card written to its bytes.
-use crate::half;
 use crate::layout;
 use crate::node;
+use byte_parts::half;
 use card_build::card::Card;
 ghost use mathlib.Core.Path.{_≡_};
 ghost use Prim.Native.Nat.{_≤_};

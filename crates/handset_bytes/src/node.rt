@@ -1,5 +1,5 @@
 // A node and the twenty bytes of its record: what they read as, and how they are written.
-use crate::half;
+use byte_parts::half;
 use byte_parts::spans;
 use byte_parts::word;
 use card_nodes::node::Entry;

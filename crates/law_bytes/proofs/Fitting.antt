@@ -34,7 +34,9 @@ use Rattle.card_laws.specs.Built.{Built}
 use Rattle.card_laws.proofs.Built.{past-eight}
 use Rattle.card_laws.proofs.Places.{area-deep, service-known}
 use Rattle.card_laws.proofs.Laid.{sized}
-use Rattle.handset_bytes.specs.Node.{halfAt, nodeIn}
+use Rattle.byte_parts.specs.Half.{halfAt}
+use Rattle.byte_parts.proofs.Halves.{half-fits}
+use Rattle.handset_bytes.specs.Node.{nodeIn}
 use Rattle.handset_bytes.specs.Card.{nodesIn, cardBytes, cardIn, isCard, noCard, decodedOf}
 use Rattle.handset_bytes.specs.Fits.{LimitFits, EntryFits, NodeFits, Fits, Bytes}
 use Rattle.law_bytes.proofs.Bytes.{bytes-take, bytes-drop}
@@ -43,11 +45,6 @@ use Rattle.law_bytes.proofs.Round.{written-is, card-says}
 -- the root fits
 root-fits : NodeFits rootNode
 root-fits = record { depth = omega arith; code = omega arith; version = omega arith; entry = omega arith }
-
--- two bytes make a number of 16 bits
-half-fits : (s : List ℕ) (at : ℕ) → Bytes s → halfAt s at < 2 ^ 16
-unfolding halfAt
-half-fits s at b = omega (arith, b at, b (at + 1))
 
 -- a number of 32 bits, with a sign
 signed-fits : (v : ℕ) → v < 2 ^ 32 → mag (signedOf v) < 2 ^ 31
@@ -68,16 +65,16 @@ node-fits : (r : List ℕ) → Bytes r → NodeFits (nodeIn r)
 unfolding nodeIn
 node-fits r b = record {
   depth = b 1;
-  code = half-fits r 2 b;
-  version = half-fits r 4 b;
+  code = half-fits r 2 (b 2) (b 3);
+  version = half-fits r 4 (b 4) (b 5);
   entry = by (eqb (getD r 0 0) 0) (eqb (getD r 0 0) 2);
 }
   where
     by : (t u : Bool) → EntryFits (cond t (Area (halfAt r 6)) (Service (halfAt r 6) (halfAt r 8)
         (cond u (Limited (signedOf (wordAt r 12)) (signedOf (wordAt r 16)) (getD r 10 0)) Unlimited)))
-    by true u = half-fits r 6 b
-    by false true = (half-fits r 6 b, half-fits r 8 b, (bound-fits r 12 b, bound-fits r 16 b, b 10))
-    by false false = (half-fits r 6 b, half-fits r 8 b, tt)
+    by true u = half-fits r 6 (b 6) (b 7)
+    by false true = (half-fits r 6 (b 6) (b 7), half-fits r 8 (b 8) (b 9), (bound-fits r 12 b, bound-fits r 16 b, b 10))
+    by false false = (half-fits r 6 (b 6) (b 7), half-fits r 8 (b 8) (b 9), tt)
 
 nodes-fit : (n : ℕ) (s : List ℕ) → Bytes s → (i : ℕ) → NodeFits (getD (nodesIn n s) i rootNode)
 unfolding nodesIn
@@ -95,10 +92,10 @@ pub card-fits : (s : List ℕ) → Bytes s → Fits (cardIn s)
 card-fits s b = record {
   nodes = nodes-fit 64 (drop 8 s) (bytes-drop 8 s b);
   records = nodes-count 64 (drop 8 s);
-  count = half-fits s 0 b;
-  used = half-fits s 2 b;
-  system = half-fits s 4 b;
-  version = half-fits s 6 b;
+  count = half-fits s 0 (b 0) (b 1);
+  used = half-fits s 2 (b 2) (b 3);
+  system = half-fits s 4 (b 4) (b 5);
+  version = half-fits s 6 (b 6) (b 7);
 }
 
 -- a new card fits

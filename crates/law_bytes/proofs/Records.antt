@@ -13,27 +13,15 @@ use lib.Seq.{drop-cons, take-all}
 use borrow.Author.Tests.{lt-ltb, le-ltb, ltb-false, eqb-true, eqb-false}
 use Rattle.byte_parts.specs.Word.{wordAt, wordBytes, signedOf, wordOf}
 use Rattle.byte_parts.proofs.Laws.{word-fits}
+use Rattle.byte_parts.proofs.Halves.{digit, small, split, half-back, half-says}
 use Rattle.service_code.specs.declared.limit.Limit.the-variants.{Unlimited, Limited}
 use Rattle.card_nodes.specs.declared.node.Entry.{Entry}
 use Rattle.card_nodes.specs.declared.node.Entry.the-variants.{Area, Service}
 use Rattle.card_nodes.specs.declared.node.Node.{Node}
 use Rattle.card_build.specs.Grow.{nodeAs}
-use Rattle.handset_bytes.specs.Node.{halfBytes, halfAt, nodeBytes, nodeIn, isRecord}
+use Rattle.byte_parts.specs.Half.{halfBytes, halfAt}
+use Rattle.handset_bytes.specs.Node.{nodeBytes, nodeIn, isRecord}
 use Rattle.handset_bytes.specs.Fits.{EntryFits, NodeFits, Bytes}
-
--- a digit to the base of 256, and those above it
-digit : (a b : ℕ) → a < 256 → ((a + 256 * b) % 256 ≡ a) × ((a + 256 * b) / 256 ≡ b)
-digit a b h = (omega arith, omega arith)
-
-small : (a : ℕ) → a < 256 → a % 256 ≡ a
-small a h = omega arith
-
-split : (v : ℕ) → v ≡ v % 256 + 256 * (v / 256)
-split v = omega arith
-
--- two bytes of a number, put together again
-pub half-back : (v : ℕ) → v < 2 ^ 16 → v % 256 + 256 * (v / 256 % 256) ≡ v
-half-back v h = rw (small (v / 256) (omega arith)) (sym (split v))
 
 -- four
 word-back : (v : ℕ) → v < 2 ^ 32 →
@@ -92,13 +80,6 @@ pub spread-is : (n : ℕ) (s : List ℕ) (i : ℕ) → i + n ≤ length s → sp
 spread-is zero s i h = refl
 spread-is (suc n) s i h = rw (drop-cons s i 0 (omega arith)) (ap (λ (l : List ℕ). getD s i 0 ∷ l) (spread-is n s (suc i) (omega arith)))
 
--- a number of two bytes, as bytes
-pub half-says : (s : List ℕ) (at : ℕ) → Bytes s → halfBytes (halfAt s at) ≡ getD s at 0 ∷ getD s (at + 1) 0 ∷ []
-unfolding halfBytes halfAt
-half-says s at b =
-    let d = digit (getD s at 0) (getD s (at + 1) 0) (b at) in
-    rw (d .0, d .1, small (getD s (at + 1) 0) (b (at + 1)))
-
 -- a number with a sign has its bits
 signed-says : (v : ℕ) → v < 2 ^ 32 → wordOf (signedOf v) ≡ v
 unfolding signedOf wordOf
@@ -151,7 +132,7 @@ module _ (r : List ℕ) (b : Bytes r) (long : length r ≡ 20) where
       let p = zeros r 8 x in
       let q = zeros r 12 y in
       let o = zeros r 16 z in
-      rw (k, half-says r 2 b, half-says r 4 b, half-says r 6 b)
+      rw (k, half-says r 2 (b 2) (b 3), half-says r 4 (b 4) (b 5), half-says r 6 (b 6) (b 7))
       (rw (p .0, p .1, p .2, p .3, q .0, q .1, q .2, q .3, o .0, o .1, o .2, o .3))
 
   -- a service's
@@ -162,14 +143,14 @@ module _ (r : List ℕ) (b : Bytes r) (long : length r ≡ 20) where
       let o = zeros r 16 z in
       let low : getD r 10 0 ≡ 0 = omega arith in
       let high : getD r 11 0 ≡ 0 = omega arith in
-      rw (k, half-says r 2 b, half-says r 4 b, half-says r 6 b, half-says r 8 b)
+      rw (k, half-says r 2 (b 2) (b 3), half-says r 4 (b 4) (b 5), half-says r 6 (b 6) (b 7), half-says r 8 (b 8) (b 9))
       (rw (low, high, q .0, q .1, q .2, q .3, o .0, o .1, o .2, o .3))
 
   -- that of a service with a limit
   limited : getD r 0 0 ≡ 2 → getD r 11 0 ≡ 0 → nodeBytes (nodeIn r) ≡ spread 20 r 0
   unfolding nodeBytes nodeIn
   limited k x =
-      rw (k, half-says r 2 b, half-says r 4 b, half-says r 6 b, half-says r 8 b, bound-says r 12 b, bound-says r 16 b) (rw x)
+      rw (k, half-says r 2 (b 2) (b 3), half-says r 4 (b 4) (b 5), half-says r 6 (b 6) (b 7), half-says r 8 (b 8) (b 9), bound-says r 12 b, bound-says r 16 b) (rw x)
 
   -- a record's bytes are those of the node that they read as
   pub node-says : isRecord r ≡ true → nodeBytes (nodeIn r) ≡ r

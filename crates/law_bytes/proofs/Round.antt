@@ -12,12 +12,14 @@ use Rattle.card_nodes.specs.Node.{rootNode}
 use Rattle.card_sound.specs.Sound.{soundOf}
 use Rattle.card_build.specs.declared.card.Card.{Card}
 use Rattle.card_build.specs.Card.{isSound}
-use Rattle.handset_bytes.specs.Node.{halfBytes, halfAt, nodeBytes}
+use Rattle.byte_parts.specs.Half.{halfBytes, halfAt}
+use Rattle.handset_bytes.specs.Node.{nodeBytes}
 use Rattle.handset_bytes.specs.Card.{nodesBytes, cardBytes, nodesIn, areRecords, cardIn, isCard, decodedOf}
 use Rattle.handset_bytes.specs.Fits.{NodeFits, Fits, Bytes}
 use Rattle.law_bytes.proofs.Bytes.{bytes-take, bytes-drop}
 use Rattle.handset_bytes.proofs.Long.{node-long}
-use Rattle.law_bytes.proofs.Records.{half-back, node-record, node-back, spread, spread-is, half-says, node-says}
+use Rattle.law_bytes.proofs.Records.{node-record, node-back, spread, spread-is, node-says}
+use Rattle.byte_parts.proofs.Halves.{half-back, half-says}
 
 -- records are twenty bytes each
 pub nodes-long : (ns : List Node) → length (nodesBytes ns) ≡ 20 * length ns
@@ -87,7 +89,7 @@ card-says s b e =
     let long : length s ≡ 1288 = eqb-true _ _ (t .0) in
     let head : spread 8 s 0 ≡ take 8 s = spread-is 8 s 0 (omega arith) in
     let rest = nodes-say 64 (drop 8 s) (bytes-drop 8 s b) (simp length-drop (omega arith)) (t .1) in
-    rw (half-says s 0 b, half-says s 2 b, half-says s 4 b, half-says s 6 b, rest)
+    rw (half-says s 0 (b 0) (b 1), half-says s 2 (b 2) (b 3), half-says s 4 (b 4) (b 5), half-says s 6 (b 6) (b 7), rest)
     (ap (λ (l : List ℕ). l ++ drop 8 s) head ∙ take-append-drop 8 s)
 
 -- they are 1,288

@@ -22,6 +22,7 @@ use Rattle.card_nodes.proofs.node.start_of as card_nodes·start-of
 use Rattle.card_nodes.proofs.node.blocks_of as card_nodes·blocks-of
 use Rattle.card_admit.proofs.is_depth as card_admit·is-depth
 use Rattle.card_admit.proofs.area_under as card_admit·area-under
+use Rattle.card_admit.proofs.usable_blocks as card_admit·usable-blocks
 use Rattle.card_admit.proofs.placed_under as card_admit·placed-under
 use Rattle.card_build.proofs.fits.judge_area as card_build·judge-area
 use Rattle.card_build.proofs.fits.place_service as card_build·place-service
@@ -32,10 +33,15 @@ use Rattle.card_build.proofs.card.Card.set_limit as card_build·Card·set-limit
 use Rattle.card_build.proofs.card.Card.new as card_build·Card·new
 use Rattle.card_build.proofs.card.Card.is_sound as card_build·Card·is-sound
 use Rattle.card_questions.proofs.listing.directory as card_questions·directory
+use Rattle.card_questions.proofs.totals.block_total as card_questions·block-total
 use Rattle.card_questions.proofs.totals.block_count_for_node as card_questions·block-count-for-node
 use Rattle.card_questions.proofs.keys.node_key_version as card_questions·node-key-version
 use Rattle.card_questions.proofs.keys.area_list_well_formed as card_questions·area-list-well-formed
 use Rattle.card_questions.proofs.keys.service_list_well_formed as card_questions·service-list-well-formed
+use Rattle.card_lists.proofs.packet.code_list as card_lists·code-list
+use Rattle.card_lists.proofs.packet.put_code_list as card_lists·put-code-list
+use Rattle.card_lists.proofs.information.block_information as card_lists·block-information
+use Rattle.card_lists.proofs.information.put_block_information as card_lists·put-block-information
 
 module _ {M : Type 1} (𝓤 : URA M) (H : Heap 𝓤) (A : Atoms 𝓤) (mem : Memory → SProp 𝓤) (run : Routine → Fun 𝓤) where
   pub card_nodes·taken-once : OneAnswer 𝓤 card_nodes·taken.ended (card_nodes·taken.clauses 𝓤 H A mem run)
@@ -77,6 +83,9 @@ module _ {M : Type 1} (𝓤 : URA M) (H : Heap 𝓤) (A : Atoms 𝓤) (mem : Mem
   pub card_admit·area-under-once : OneAnswer 𝓤 card_admit·area-under.ended (card_admit·area-under.clauses 𝓤 H A mem run)
   card_admit·area-under-once κs a g r r′ ws ws′ = result 𝓤 refl
 
+  pub card_admit·usable-blocks-once : OneAnswer 𝓤 card_admit·usable-blocks.ended (card_admit·usable-blocks.clauses 𝓤 H A mem run)
+  card_admit·usable-blocks-once κs a g r r′ ws ws′ = result 𝓤 refl
+
   pub card_admit·placed-under-once : OneAnswer 𝓤 card_admit·placed-under.ended (card_admit·placed-under.clauses 𝓤 H A mem run)
   card_admit·placed-under-once κs a g r r′ ws ws′ = result 𝓤 refl
 
@@ -107,6 +116,9 @@ module _ {M : Type 1} (𝓤 : URA M) (H : Heap 𝓤) (A : Atoms 𝓤) (mem : Mem
   pub card_questions·directory-once : OneAnswer 𝓤 card_questions·directory.ended (card_questions·directory.clauses 𝓤 H A mem run)
   card_questions·directory-once κs a g r r′ ws ws′ = of-two 𝓤 (λ p p′ q q′. (once p q, λ i. (tt, (once p′ q′ i, tt))))
 
+  pub card_questions·block-total-once : OneAnswer 𝓤 card_questions·block-total.ended (card_questions·block-total.clauses 𝓤 H A mem run)
+  card_questions·block-total-once κs a g r r′ ws ws′ = result 𝓤 refl
+
   pub card_questions·block-count-for-node-once : OneAnswer 𝓤 card_questions·block-count-for-node.ended (card_questions·block-count-for-node.clauses 𝓤 H A mem run)
   card_questions·block-count-for-node-once κs a g r r′ ws ws′ = result 𝓤 refl
 
@@ -118,3 +130,15 @@ module _ {M : Type 1} (𝓤 : URA M) (H : Heap 𝓤) (A : Atoms 𝓤) (mem : Mem
 
   pub card_questions·service-list-well-formed-once : OneAnswer 𝓤 card_questions·service-list-well-formed.ended (card_questions·service-list-well-formed.clauses 𝓤 H A mem run)
   card_questions·service-list-well-formed-once κs a g r r′ ws ws′ = result 𝓤 refl
+
+  pub card_lists·code-list-once : OneAnswer 𝓤 card_lists·code-list.ended (card_lists·code-list.clauses 𝓤 H A mem run)
+  card_lists·code-list-once κs a g r r′ ws ws′ = result 𝓤 refl
+
+  pub card_lists·put-code-list-once : OneAnswer 𝓤 card_lists·put-code-list.ended (card_lists·put-code-list.clauses 𝓤 H A mem run)
+  card_lists·put-code-list-once κs a g r r′ ws ws′ = of-two 𝓤 (λ p p′ q q′. (once p q, λ i. (tt, (tt, (tt, (once p′ q′ i, tt))))))
+
+  pub card_lists·block-information-once : OneAnswer 𝓤 card_lists·block-information.ended (card_lists·block-information.clauses 𝓤 H A mem run)
+  card_lists·block-information-once κs a g r r′ ws ws′ = result 𝓤 refl
+
+  pub card_lists·put-block-information-once : OneAnswer 𝓤 card_lists·put-block-information.ended (card_lists·put-block-information.clauses 𝓤 H A mem run)
+  card_lists·put-block-information-once κs a g r r′ ws ws′ = of-two 𝓤 (λ p p′ q q′. (once p q, λ i. (tt, (tt, (tt, (once p′ q′ i, tt))))))

@@ -67,6 +67,16 @@ module _ {M : Type 1} (𝓤 : URA M) where
   of-five {d = d} {x} {y} {d′} {x′} {y′} {d″} {x″} {y″} {d‴} {x‴} {y‴} f =
       more (four (x ≡ d) (x′ ≡ d′) (x″ ≡ d″) (x‴ ≡ d‴)) (four (y ≡ d) (y′ ≡ d′) (y″ ≡ d″) (y‴ ≡ d‴)) (λ p q. of-four (f (once p q)))
 
+  -- of six
+  pub of-six
+      : {U W X X′ X″ X‴ χ : Type 0} {b t u : U} {c v w : W} {d x y : X} {d′ x′ y′ : X′} {d″ x″ y″ : X″} {d‴ x‴ y‴ : X‴}
+      → (t ≡ u → v ≡ w → x ≡ y → x′ ≡ y′ → x″ ≡ y″ → x‴ ≡ y‴ → χ)
+      → ent 𝓤 (sep 𝓤 (sep 𝓤 (fact 𝓤 (t ≡ b)) (sep 𝓤 (fact 𝓤 (v ≡ c)) (four (x ≡ d) (x′ ≡ d′) (x″ ≡ d″) (x‴ ≡ d‴)))) (sep 𝓤 (fact 𝓤 (u ≡ b)) (sep 𝓤 (fact 𝓤 (w ≡ c)) (four (y ≡ d) (y′ ≡ d′) (y″ ≡ d″) (y‴ ≡ d‴)))))
+      (fact 𝓤 χ)
+  of-six {c = c} {v} {w} {d} {x} {y} {d′} {x′} {y′} {d″} {x″} {y″} {d‴} {x‴} {y‴} f =
+      more (sep 𝓤 (fact 𝓤 (v ≡ c)) (four (x ≡ d) (x′ ≡ d′) (x″ ≡ d″) (x‴ ≡ d‴))) (sep 𝓤 (fact 𝓤 (w ≡ c)) (four (y ≡ d) (y′ ≡ d′) (y″ ≡ d″) (y‴ ≡ d‴)))
+      (λ p q. of-five (f (once p q)))
+
   -- nothing was lent, and the result is given by an equation
   pub result : {X W : Type 0} {d x y : X} {u v : W} → u ≡ v → ent 𝓤 (sep 𝓤 (fact 𝓤 (x ≡ d)) (fact 𝓤 (y ≡ d))) (fact 𝓤 ((x ≡ y) × (u ≡ v)))
   result e = of-one (λ p q. (once p q, e))

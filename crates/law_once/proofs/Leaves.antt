@@ -12,6 +12,8 @@ use Rattle.law_once.proofs.Law.{once, of-one, of-two, result}
 use Rattle.byte_parts.proofs.spans.copy as byte_parts·copy
 use Rattle.byte_parts.proofs.spans.zero as byte_parts·zero
 use Rattle.byte_parts.proofs.spans.same as byte_parts·same
+use Rattle.byte_parts.proofs.half.half as byte_parts·half
+use Rattle.byte_parts.proofs.half.put_half as byte_parts·put-half
 use Rattle.byte_parts.proofs.word.byte as byte_parts·byte
 use Rattle.byte_parts.proofs.word.word as byte_parts·word
 use Rattle.byte_parts.proofs.word.put_word as byte_parts·put-word
@@ -38,6 +40,13 @@ use Rattle.block_list.proofs.reader.Reader.new as block_list·Reader·new
 use Rattle.block_list.proofs.reader.Reader.next as block_list·Reader·next
 use Rattle.block_list.proofs.reader.Reader.is_finished as block_list·Reader·is-finished
 use Rattle.block_list.proofs.reader.list_ends as block_list·list-ends
+use Rattle.node_messages.proofs.code_list.CodeList.empty as node_messages·CodeList·empty
+use Rattle.node_messages.proofs.code_list.Listed.refused as node_messages·Listed·refused
+use Rattle.node_messages.proofs.code_list.put_code_list as node_messages·put-code-list
+use Rattle.node_messages.proofs.code_list.read_code_list as node_messages·read-code-list
+use Rattle.node_messages.proofs.information.Informed.refused as node_messages·Informed·refused
+use Rattle.node_messages.proofs.information.put_information as node_messages·put-information
+use Rattle.node_messages.proofs.information.read_information as node_messages·read-information
 use Rattle.rule_purse.proofs.fields.purse_write as rule_purse·purse-write
 use Rattle.rule_purse.proofs.bytes.apply_purse_write as rule_purse·apply-purse-write
 use Rattle.rule_cyclic.proofs.apply_cyclic_write as rule_cyclic·apply-cyclic-write
@@ -51,6 +60,12 @@ module _ {M : Type 1} (𝓤 : URA M) (H : Heap 𝓤) (A : Atoms 𝓤) (mem : Mem
 
   pub byte_parts·same-once : OneAnswer 𝓤 byte_parts·same.ended (byte_parts·same.clauses 𝓤 H A mem run)
   byte_parts·same-once κs a g r r′ ws ws′ = result 𝓤 refl
+
+  pub byte_parts·half-once : OneAnswer 𝓤 byte_parts·half.ended (byte_parts·half.clauses 𝓤 H A mem run)
+  byte_parts·half-once κs a g r r′ ws ws′ = result 𝓤 refl
+
+  pub byte_parts·put-half-once : OneAnswer 𝓤 byte_parts·put-half.ended (byte_parts·put-half.clauses 𝓤 H A mem run)
+  byte_parts·put-half-once κs a g r r′ ws ws′ = of-one 𝓤 (λ p q. (refl, λ i. (once p q i, (tt, (tt, tt)))))
 
   pub byte_parts·byte-once : OneAnswer 𝓤 byte_parts·byte.ended (byte_parts·byte.clauses 𝓤 H A mem run)
   byte_parts·byte-once κs a g r r′ ws ws′ = of-one 𝓤 (λ p q. (once (p .0) (q .0), refl))
@@ -129,6 +144,27 @@ module _ {M : Type 1} (𝓤 : URA M) (H : Heap 𝓤) (A : Atoms 𝓤) (mem : Mem
 
   pub block_list·list-ends-once : OneAnswer 𝓤 block_list·list-ends.ended (block_list·list-ends.clauses 𝓤 H A mem run)
   block_list·list-ends-once κs a g r r′ ws ws′ = result 𝓤 refl
+
+  pub node_messages·CodeList·empty-once : OneAnswer 𝓤 node_messages·CodeList·empty.ended (node_messages·CodeList·empty.clauses 𝓤 H A mem run)
+  node_messages·CodeList·empty-once κs a g r r′ ws ws′ = result 𝓤 refl
+
+  pub node_messages·Listed·refused-once : OneAnswer 𝓤 node_messages·Listed·refused.ended (node_messages·Listed·refused.clauses 𝓤 H A mem run)
+  node_messages·Listed·refused-once κs a g r r′ ws ws′ = result 𝓤 refl
+
+  pub node_messages·put-code-list-once : OneAnswer 𝓤 node_messages·put-code-list.ended (node_messages·put-code-list.clauses 𝓤 H A mem run)
+  node_messages·put-code-list-once κs a g r r′ ws ws′ = of-two 𝓤 (λ p p′ q q′. (once p q, λ i. (tt, (once p′ q′ i, tt))))
+
+  pub node_messages·read-code-list-once : OneAnswer 𝓤 node_messages·read-code-list.ended (node_messages·read-code-list.clauses 𝓤 H A mem run)
+  node_messages·read-code-list-once κs a g r r′ ws ws′ = result 𝓤 refl
+
+  pub node_messages·Informed·refused-once : OneAnswer 𝓤 node_messages·Informed·refused.ended (node_messages·Informed·refused.clauses 𝓤 H A mem run)
+  node_messages·Informed·refused-once κs a g r r′ ws ws′ = result 𝓤 refl
+
+  pub node_messages·put-information-once : OneAnswer 𝓤 node_messages·put-information.ended (node_messages·put-information.clauses 𝓤 H A mem run)
+  node_messages·put-information-once κs a g r r′ ws ws′ = of-two 𝓤 (λ p p′ q q′. (once p q, λ i. (tt, (once p′ q′ i, tt))))
+
+  pub node_messages·read-information-once : OneAnswer 𝓤 node_messages·read-information.ended (node_messages·read-information.clauses 𝓤 H A mem run)
+  node_messages·read-information-once κs a g r r′ ws ws′ = result 𝓤 refl
 
   pub rule_cyclic·apply-cyclic-write-once : OneAnswer 𝓤 rule_cyclic·apply-cyclic-write.ended (rule_cyclic·apply-cyclic-write.clauses 𝓤 H A mem run)
   rule_cyclic·apply-cyclic-write-once κs a g r r′ ws ws′ = of-two 𝓤 (λ p p′ q q′. (once p q, λ i. (once p′ q′ i, (tt, tt))))

@@ -5,5 +5,6 @@ pub mod Cards
 pub mod Requests
 pub mod Texts
 pub mod Lines
+pub mod Inspections
 pub mod Boards
 pub mod Library

@@ -8,7 +8,7 @@ use prog.Wp.{Heap}
 use ghost.Atoms.{Atoms}
 use contract.Monad.{Fun}
 use Rattle.law_once.specs.One.{OneAnswer}
-use Rattle.law_once.proofs.Law.{once, of-one, of-two, of-three, result}
+use Rattle.law_once.proofs.Law.{once, of-one, of-two, of-three, of-four, of-six, result}
 use Rattle.handset_bytes.proofs.decoding.decode as handset_bytes·decode
 use Rattle.handset_bytes.proofs.encoding.encode as handset_bytes·encode
 use Rattle.handset.proofs.outcome.refused as handset·refused
@@ -24,6 +24,10 @@ use Rattle.handset.proofs.lists.uluvoli_service_list as handset·uluvoli-servic
 use Rattle.handset.proofs.requests.uluvoli_read as handset·uluvoli-read
 use Rattle.handset.proofs.requests.uluvoli_write as handset·uluvoli-write
 use Rattle.handset.proofs.board.uluvoli_board as handset·uluvoli-board
+use Rattle.handset.proofs.messages.uluvoli_code_list as handset·uluvoli-code-list
+use Rattle.handset.proofs.messages.uluvoli_block_information as handset·uluvoli-block-information
+use Rattle.handset.proofs.readers.uluvoli_read_code_list as handset·uluvoli-read-code-list
+use Rattle.handset.proofs.readers.uluvoli_read_block_information as handset·uluvoli-read-block-information
 use Rattle.handset.proofs.blocks.uluvoli_set_block as handset·uluvoli-set-block
 use Rattle.handset.proofs.blocks.uluvoli_stored_block as handset·uluvoli-stored-block
 
@@ -72,6 +76,18 @@ module _ {M : Type 1} (𝓤 : URA M) (H : Heap 𝓤) (A : Atoms 𝓤) (mem : Mem
 
   pub handset·uluvoli-board-once : OneAnswer 𝓤 handset·uluvoli-board.ended (handset·uluvoli-board.clauses 𝓤 H A mem run)
   handset·uluvoli-board-once κs a g r r′ ws ws′ = of-two 𝓤 (λ p p′ q q′. (once p q, λ i. (tt, (tt, (tt, (once p′ q′ i, tt))))))
+
+  pub handset·uluvoli-code-list-once : OneAnswer 𝓤 handset·uluvoli-code-list.ended (handset·uluvoli-code-list.clauses 𝓤 H A mem run)
+  handset·uluvoli-code-list-once κs a g r r′ ws ws′ = of-three 𝓤 (λ p p′ p″ q q′ q″. (once p q, λ i. (tt, (tt, (tt, (once p′ q′ i, (once p″ q″ i, tt)))))))
+
+  pub handset·uluvoli-block-information-once : OneAnswer 𝓤 handset·uluvoli-block-information.ended (handset·uluvoli-block-information.clauses 𝓤 H A mem run)
+  handset·uluvoli-block-information-once κs a g r r′ ws ws′ = of-three 𝓤 (λ p p′ p″ q q′ q″. (once p q, λ i. (tt, (tt, (tt, (once p′ q′ i, (once p″ q″ i, tt)))))))
+
+  pub handset·uluvoli-read-code-list-once : OneAnswer 𝓤 handset·uluvoli-read-code-list.ended (handset·uluvoli-read-code-list.clauses 𝓤 H A mem run)
+  handset·uluvoli-read-code-list-once κs a g r r′ ws ws′ = of-six 𝓤 (λ e f g′ h k l. (e, λ i. (tt, (f i, (g′ i, (h i, (k i, (l i, tt))))))))
+
+  pub handset·uluvoli-read-block-information-once : OneAnswer 𝓤 handset·uluvoli-read-block-information.ended (handset·uluvoli-read-block-information.clauses 𝓤 H A mem run)
+  handset·uluvoli-read-block-information-once κs a g r r′ ws ws′ = of-four 𝓤 (λ e f g′ h. (e, λ i. (tt, (f i, (g′ i, (h i, tt))))))
 
   pub handset·uluvoli-set-block-once : OneAnswer 𝓤 handset·uluvoli-set-block.ended (handset·uluvoli-set-block.clauses 𝓤 H A mem run)
   handset·uluvoli-set-block-once κs a g r r′ ws ws′ = of-two 𝓤 (λ p p′ q q′. (once p q, λ i. (tt, (once p′ q′ i, (tt, (tt, (tt, tt)))))))

@@ -9,6 +9,10 @@ use ghost.Atoms.{Atoms}
 use contract.Monad.{Fun}
 use Rattle.law_once.specs.One.{OneAnswer}
 use Rattle.law_once.proofs.Law.{once, of-two, of-facts, of-four, result}
+use Rattle.line_image.proofs.line.code_at as line_image·code-at
+use Rattle.line_image.proofs.line.number_at as line_image·number-at
+use Rattle.line_image.proofs.line.is_image as line_image·is-image
+use Rattle.line_image.proofs.line.is_form as line_image·is-form
 use Rattle.line_image.proofs.line.read_line as line_image·read-line
 use Rattle.line_image.proofs.image.image_line as line_image·image-line
 use Rattle.line_request.proofs.is_letter as line_request·is-letter
@@ -23,12 +27,27 @@ use Rattle.line_serve.proofs.request_line as line_serve·request-line
 use Rattle.replay_state.proofs.start as replay_state·start
 use Rattle.replay_state.proofs.put_refusal as replay_state·put-refusal
 use Rattle.replay_state.proofs.finish as replay_state·finish
+use Rattle.replay_line.proofs.one_more as replay_line·one-more
+use Rattle.replay_line.proofs.take as replay_line·take
 use Rattle.replay_line.proofs.line as replay_line·line
+use Rattle.replay_shell.proofs.stage_in as replay_shell·stage-in
 use Rattle.text_feed.proofs.feed as text_feed·feed
 use Rattle.text_shell.proofs.start as text_shell·start
 use Rattle.text_shell.proofs.wrote as text_shell·wrote
 
 module _ {M : Type 1} (𝓤 : URA M) (H : Heap 𝓤) (A : Atoms 𝓤) (mem : Memory → SProp 𝓤) (run : Routine → Fun 𝓤) where
+  pub line_image·code-at-once : OneAnswer 𝓤 line_image·code-at.ended (line_image·code-at.clauses 𝓤 H A mem run)
+  line_image·code-at-once κs a g r r′ ws ws′ = result 𝓤 refl
+
+  pub line_image·number-at-once : OneAnswer 𝓤 line_image·number-at.ended (line_image·number-at.clauses 𝓤 H A mem run)
+  line_image·number-at-once κs a g r r′ ws ws′ = result 𝓤 refl
+
+  pub line_image·is-image-once : OneAnswer 𝓤 line_image·is-image.ended (line_image·is-image.clauses 𝓤 H A mem run)
+  line_image·is-image-once κs a g r r′ ws ws′ = result 𝓤 refl
+
+  pub line_image·is-form-once : OneAnswer 𝓤 line_image·is-form.ended (line_image·is-form.clauses 𝓤 H A mem run)
+  line_image·is-form-once κs a g r r′ ws ws′ = result 𝓤 refl
+
   pub line_image·read-line-once : OneAnswer 𝓤 line_image·read-line.ended (line_image·read-line.clauses 𝓤 H A mem run)
   line_image·read-line-once κs a g r r′ ws ws′ = result 𝓤 refl
 
@@ -72,6 +91,15 @@ module _ {M : Type 1} (𝓤 : URA M) (H : Heap 𝓤) (A : Atoms 𝓤) (mem : Mem
   pub replay_state·finish-once : OneAnswer 𝓤 replay_state·finish.ended (replay_state·finish.clauses 𝓤 H A mem run)
   replay_state·finish-once κs a g r r′ ws ws′ = of-two 𝓤 (λ p p′ q q′. (once (p .place) (q .place), λ i. (tt, (once (p .bytes) (q .bytes) i, (tt, tt)))))
 
+  pub replay_line·one-more-once : OneAnswer 𝓤 replay_line·one-more.ended (replay_line·one-more.clauses 𝓤 H A mem run)
+  replay_line·one-more-once κs a g r r′ ws ws′ = result 𝓤 refl
+
+  pub replay_line·take-once : OneAnswer 𝓤 replay_line·take.ended (replay_line·take.clauses 𝓤 H A mem run)
+  replay_line·take-once κs a g r r′ ws ws′ = of-facts 𝓤 (λ s p work bytes s′ q work′ bytes′. (
+    λ i. record { replay = once s s′ i .replay; at = once (p .0 .place) (q .0 .place) i },
+    λ i. (tt, (tt, (once s s′ i .arena, (once work work′ i, (once bytes bytes′ i, (tt, (once (p .0 .bytes) (q .0 .bytes) i, (tt, tt)))))))),
+  ))
+
   pub replay_line·line-once : OneAnswer 𝓤 replay_line·line.ended (replay_line·line.clauses 𝓤 H A mem run)
   replay_line·line-once κs a g r r′ ws ws′ = of-facts 𝓤 (λ s p work bytes s′ q work′ bytes′. (
     λ i. record { replay = once s s′ i .replay; at = once (p .0 .place) (q .0 .place) i },
@@ -86,3 +114,6 @@ module _ {M : Type 1} (𝓤 : URA M) (H : Heap 𝓤) (A : Atoms 𝓤) (mem : Mem
 
   pub text_shell·wrote-once : OneAnswer 𝓤 text_shell·wrote.ended (text_shell·wrote.clauses 𝓤 H A mem run)
   text_shell·wrote-once κs a g r r′ ws ws′ = result 𝓤 refl
+
+  pub replay_shell·stage-in-once : OneAnswer 𝓤 replay_shell·stage-in.ended (replay_shell·stage-in.clauses 𝓤 H A mem run)
+  replay_shell·stage-in-once κs a g r r′ ws ws′ = result 𝓤 refl

@@ -1,6 +1,6 @@
 -- What an image line says.
 use Prim.Native.Nat.{ℕ}
-use mathlib.Core.Bool.{Bool, cond, _&&_}
+use mathlib.Core.Bool.{Bool, cond, _&&_, _||_}
 use mathlib.Core.List.{List, [], _∷_}
 use lib.Dec.{ltb, eqb}
 use lib.IntN.{ℤ}
@@ -114,9 +114,17 @@ limWord = 108 ∷ 105 ∷ 109 ∷ []
 abbrev pub blkWord : List ℕ
 blkWord = 98 ∷ 108 ∷ 107 ∷ []
 
--- whether the first field is this word, and there are so many fields in all
+-- whether the first field is this word
+unfoldable pub named : List ℕ → List (List ℕ) → Bool
+named word fs = sameBytes (getD fs 0 []) word
+
+-- and there are so many fields in all
 unfoldable pub form : List ℕ → ℕ → List (List ℕ) → Bool
-form word n fs = sameBytes (getD fs 0 []) word && eqb (length fs) n
+form word n fs = named word fs && eqb (length fs) n
+
+-- whether the first field names a kind of image line, well formed or not
+unfoldable pub imageNamed : List (List ℕ) → Bool
+imageNamed fs = named cardWord fs || (named areaWord fs || (named svcWord fs || (named limWord fs || named blkWord fs)))
 
 -- line 1 must be `card`
 unfoldable pub firstLine : List (List ℕ) → Line

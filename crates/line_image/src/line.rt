@@ -10,7 +10,7 @@ use text_numbers::decimals::read_signed;
 use text_numbers::hex::is_hex_field;
 ghost use mathlib.Core.Path.{_≡_};
 ghost use Rattle.text_fields.specs.Field.{split};
-ghost use Rattle.line_image.specs.Line.{codeAt, numberAt, boundAt, hex32, form, cardLine, headingOf, areaLine, serviceLine, limitLine, blockLine, firstLine, laterLine, imageLine};
+ghost use Rattle.line_image.specs.Line.{codeAt, numberAt, boundAt, hex32, named, form, imageNamed, cardLine, headingOf, areaLine, serviceLine, limitLine, blockLine, firstLine, laterLine, imageLine};
 
 // What an image line says, or that it is malformed. A block's bytes stay in the line's last field.
 pub enum Line {
@@ -43,14 +43,14 @@ pub enum Line {
 }
 
 // Reads field k as a code or a version.
-fn code_at(line: &[u8], k: usize) -> Code
+pub fn code_at(line: &[u8], k: usize) -> Code
     ensures { λ r. ⌜ r ≡ codeAt (split 9 (now (line .entry))) k ⌝ }
 {
     read_hex16(text_fields::field(line, k, b'\t'))
 }
 
 // Reads field k as a decimal that is at most `most`.
-fn number_at(line: &[u8], k: usize, most: u32) -> Number
+pub fn number_at(line: &[u8], k: usize, most: u32) -> Number
     ensures { λ r. ⌜ r ≡ numberAt (split 9 (now (line .entry))) k most ⌝ }
 {
     read_dec(text_fields::field(line, k, b'\t'), most)
@@ -194,11 +194,37 @@ fn block_line(line: &[u8]) -> Line
     Line::Block { code, number }
 }
 
+// Whether the line's first field is this word.
+fn is_named(line: &[u8], word: &[u8]) -> bool
+    ensures { λ r. ⌜ r ≡ named (now (word .entry)) (split 9 (now (line .entry))) ⌝ }
+{
+    spans::same(text_fields::field(line, 0, b'\t'), word)
+}
+
+// Whether the line's first field names a kind of image line, well formed or not.
+pub fn is_image(line: &[u8]) -> bool
+    ensures { λ r. ⌜ r ≡ imageNamed (split 9 (now (line .entry))) ⌝ }
+{
+    if is_named(line, b"card") {
+        return true;
+    }
+    if is_named(line, b"area") {
+        return true;
+    }
+    if is_named(line, b"svc") {
+        return true;
+    }
+    if is_named(line, b"lim") {
+        return true;
+    }
+    is_named(line, b"blk")
+}
+
 // Whether the line's first field is this word, and it has so many fields in all.
-fn is_form(line: &[u8], word: &[u8], count: usize) -> bool
+pub fn is_form(line: &[u8], word: &[u8], count: usize) -> bool
     ensures { λ r. ⌜ r ≡ form (now (word .entry)) count (split 9 (now (line .entry))) ⌝ }
 {
-    if !spans::same(text_fields::field(line, 0, b'\t'), word) {
+    if !is_named(line, word) {
         return false;
     }
     text_fields::field_count(line, b'\t') == count

@@ -18,8 +18,9 @@ use Rattle.board_line.specs.Line.{boardLineText}
 use Rattle.replay_state.specs.declared.Phase.the-variants.{Image, Requests, Ended}
 use Rattle.replay_state.specs.declared.Replay.{Replay}
 use Rattle.replay_state.specs.Phases.{oneMore, refusalText}
+use Rattle.replay_line.specs.declared.Kind.{Kind}
 use Rattle.replay_line.specs.declared.Kind.the-variants as kinds
-use Rattle.replay_line.specs.Replay.{lentBytes, Held, held, kindOf, imageHeld, imageText, requestHeld, boardHeld, lineHeld, lineText, workHeld, bytesHeld}
+use Rattle.replay_line.specs.Replay.{lentBytes, Held, held, imageHeld, imageText, requestHeld, boardHeld, heldBy, textBy, workBy, bytesBy}
 
 module _ (p : Replay) (t : Imaged) {added : Added} {arena : List ℕ} {n : ℕ} (e : added ≡ t .added) (a : arena ≡ t .arena) (l : n ≡ oneMore (p .lines)) where
   -- what the image line was answered
@@ -54,42 +55,40 @@ pub board-held
     → held (record { card = p .card; phase = Requests; lines = p .lines; asked = n }) arena ≡ boardHeld (held p arena)
 board-held p arena e = rw e
 
-module _ (s : Held) (line : List ℕ) {r : Held} {out out′ : List ℕ} {at k : ℕ} where
+-- what is promised of a line, by what it is taken for
+abbrev Promised : Kind → Held → List ℕ → Held → List ℕ → List ℕ → ℕ → ℕ → List ℕ → List ℕ → List ℕ → List ℕ → Type 0
+Promised kind s line r out out′ at k work bytes work′ bytes′ =
+    (r ≡ heldBy kind s line) × ((Written out at (textBy kind s line) k out′ × (k ≤ at + mostPrinted))
+    × ((work′ ≡ workBy kind s work line) × (bytes′ ≡ bytesBy kind bytes line)))
+
+module _ (s : Held) (line work bytes : List ℕ) {kind : Kind} {r : Held} {out out′ : List ℕ} {at k : ℕ} where
   -- A line that is taken for an image line.
   pub image-taken
-      : {first : Bool} (work bytes : List ℕ) → kindOf (s .replay .phase) line ≡ kinds.Image first
+      : {first : Bool} → kind ≡ kinds.Image first
       → let x = imageStep first (s .replay .card) (s .arena) line in
       (r ≡ imageHeld (s .replay) x) × (Written out at (imageText (oneMore (s .replay .lines)) (x .added .answer)) k out′ × (k ≤ at + 48))
-      → (r ≡ lineHeld s line) × ((Written out at (lineText s line) k out′ × (k ≤ at + mostPrinted))
-      × ((work ≡ workHeld s work line) × (bytes ≡ bytesHeld s bytes line)))
-  unfolding lineHeld lineText workHeld bytesHeld
-  image-taken work bytes e w = rw e (w .0, ((w .1 .0, omega (arith, w .1 .1)), (refl, refl)))
+      → Promised kind s line r out out′ at k work bytes work bytes
+  image-taken e w = rw e (w .0, ((w .1 .0, omega (arith, w .1 .1)), (refl, refl)))
 
   -- For a request.
   pub request-taken
-      : (work bytes : List ℕ) {work′ bytes′ : List ℕ} → kindOf (s .replay .phase) line ≡ kinds.Request
+      : {work′ bytes′ : List ℕ} → kind ≡ kinds.Request
       → (r ≡ requestHeld s line)
       × ((Written out at (requestText (s .replay .card) (s .arena) lentBytes line (oneMore (s .replay .asked))) k out′ × (k ≤ at + mostPrinted))
       × ((work′ ≡ workAfter (s .replay .card) (s .arena) work line) × (bytes′ ≡ bytesAfter bytes line)))
-      → (r ≡ lineHeld s line) × ((Written out at (lineText s line) k out′ × (k ≤ at + mostPrinted))
-      × ((work′ ≡ workHeld s work line) × (bytes′ ≡ bytesHeld s bytes line)))
-  unfolding lineHeld lineText workHeld bytesHeld
-  request-taken work bytes e w = rw e w
+      → Promised kind s line r out out′ at k work bytes work′ bytes′
+  request-taken e w = rw e w
 
--- For a refresh.
-pub board-taken
-    : (s : Held) (line work bytes : List ℕ) {r : Held} {out out′ : List ℕ} {at k : ℕ} → kindOf (s .replay .phase) line ≡ kinds.Board
-    → (r ≡ boardHeld s)
-    × (Written out at (boardLineText (s .replay .card) (s .arena) line (oneMore (s .replay .asked))) k out′ × (k ≤ at + mostPrinted))
-    → (r ≡ lineHeld s line) × ((Written out at (lineText s line) k out′ × (k ≤ at + mostPrinted))
-    × ((work ≡ workHeld s work line) × (bytes ≡ bytesHeld s bytes line)))
-unfolding lineHeld lineText workHeld bytesHeld
-board-taken s line work bytes e w = rw e (w .0, (w .1, (refl, refl)))
+  -- For a refresh of the board.
+  pub board-taken
+      : kind ≡ kinds.Board
+      → (r ≡ boardHeld s)
+      × (Written out at (boardLineText (s .replay .card) (s .arena) line (oneMore (s .replay .asked))) k out′ × (k ≤ at + mostPrinted))
+      → Promised kind s line r out out′ at k work bytes work bytes
+  board-taken e w = rw e (w .0, (w .1, (refl, refl)))
 
 -- For nothing.
 pub nothing-taken
-    : (s : Held) (line work bytes out : List ℕ) (at : ℕ) → kindOf (s .replay .phase) line ≡ kinds.Nothing
-    → (s ≡ lineHeld s line) × ((Written out at (lineText s line) at out × (at ≤ at + mostPrinted))
-    × ((work ≡ workHeld s work line) × (bytes ≡ bytesHeld s bytes line)))
-unfolding lineHeld lineText workHeld bytesHeld
+    : (s : Held) (line work bytes out : List ℕ) (at : ℕ) {kind : Kind} → kind ≡ kinds.Nothing
+    → Promised kind s line s out out at at work bytes work bytes
 nothing-taken s line work bytes out at e = rw e (refl, ((written-none out at, omega arith), (refl, refl)))

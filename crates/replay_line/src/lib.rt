@@ -13,7 +13,7 @@ ghost use Rattle.line_serve.specs.Line.{workAfter, bytesAfter};
 ghost use Rattle.line_serve.specs.Text.{mostSpelled, mostPrinted, requestText};
 ghost use Rattle.board_line.specs.Line.{boardLineText};
 ghost use Rattle.replay_state.specs.Phases.{oneMore};
-ghost use Rattle.replay_line.specs.Replay.{lentBytes, held, kindOf, imageHeld, imageText, requestHeld, boardHeld, lineHeld, lineText, workHeld, bytesHeld};
+ghost use Rattle.replay_line.specs.Replay.{lentBytes, held, kindOf, imageHeld, imageText, requestHeld, boardHeld, heldBy, textBy, workBy, bytesBy, lineHeld, lineText, workHeld, bytesHeld};
 
 // What a line is taken for: an image line, the first or a later one; a request; a refresh of the lane board; or nothing, after the end of
 // the run.
@@ -31,7 +31,7 @@ pub struct Taken {
 }
 
 // One more; a count that 64 bits cannot hold stays.
-fn one_more(n: u64) -> u64
+pub fn one_more(n: u64) -> u64
     ensures { λ r. ⌜ r ≡ oneMore n ⌝ }
 {
     if n < u64::MAX { n + 1 } else { n }
@@ -149,6 +149,31 @@ fn kind_of(phase: Phase, line: &[u8]) -> Kind
     }
 }
 
+// Takes one line of a replay for what it is said to be, and puts what it prints into `out` from `at` on.
+pub fn take(
+    replay: Replay,
+    kind: Kind,
+    arena: &mut [u8],
+    work: &mut [u8],
+    bytes: &mut [u8],
+    line: &[u8],
+    out: &mut [u8],
+    at: usize,
+) -> Taken
+    requires { ⌜ (length (now work) ≡ lentBytes) × (mostSpelled ≤ length (now bytes)) × (at + mostPrinted ≤ length (now out)) ⌝ }
+    ensures { λ r. ⌜ held (r .replay) (now (arena .exit)) ≡ heldBy kind (held replay (now (arena .entry))) (now (line .entry)) ⌝ }
+    ensures { λ r. ⌜ Written (now (out .entry)) at (textBy kind (held replay (now (arena .entry))) (now (line .entry))) (r .at) (now (out .exit)) × (r .at ≤ at + mostPrinted) ⌝ }
+    ensures { λ _. ⌜ now (work .exit) ≡ workBy kind (held replay (now (arena .entry))) (now (work .entry)) (now (line .entry)) ⌝ }
+    ensures { λ _. ⌜ now (bytes .exit) ≡ bytesBy kind (now (bytes .entry)) (now (line .entry)) ⌝ }
+{
+    match kind {
+        Kind::Image(first) => image_line(replay, first, arena, line, out, at),
+        Kind::Request => request_line(replay, arena, work, bytes, line, out, at),
+        Kind::Board => refresh_line(replay, arena, line, out, at),
+        Kind::Nothing => Taken { replay, at },
+    }
+}
+
 // Takes one line of a replay, and puts what it prints into `out` from `at` on.
 pub fn line(
     replay: Replay,
@@ -166,10 +191,6 @@ pub fn line(
     ensures { λ _. ⌜ now (bytes .exit) ≡ bytesHeld (held replay (now (arena .entry))) (now (bytes .entry)) (now (line .entry)) ⌝ }
 {
     let phase = replay.phase;
-    match kind_of(phase, line) {
-        Kind::Image(first) => image_line(replay, first, arena, line, out, at),
-        Kind::Request => request_line(replay, arena, work, bytes, line, out, at),
-        Kind::Board => refresh_line(replay, arena, line, out, at),
-        Kind::Nothing => Taken { replay, at },
-    }
+    let kind = kind_of(phase, line);
+    take(replay, kind, arena, work, bytes, line, out, at)
 }

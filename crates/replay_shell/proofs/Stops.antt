@@ -10,7 +10,7 @@ use Rattle.replay_line.specs.Replay.{Held, replayMachine}
 use Rattle.replay_text.proofs.Dead.{replay-dead}
 use Rattle.replay_shell.specs.Stop.{stopsIn, stops}
 
-ended-of : (x : Phase) → stopsIn x ≡ true → x ≡ Ended
+pub ended-of : (x : Phase) → stopsIn x ≡ true → x ≡ Ended
 ended-of First e = absurd (omega (arith, ap {B = ℕ} (λ (b : Bool). cond b 1 0) e))
 ended-of Image e = absurd (omega (arith, ap {B = ℕ} (λ (b : Bool). cond b 1 0) e))
 ended-of Requests e = absurd (omega (arith, ap {B = ℕ} (λ (b : Bool). cond b 1 0) e))

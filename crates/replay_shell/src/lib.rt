@@ -23,7 +23,7 @@ struct Moved {
 }
 
 // The stage after a step: a refused image line ends the reading.
-fn stage_in(phase: Phase) -> u64
+pub fn stage_in(phase: Phase) -> u64
     ensures { λ r. ⌜ r ≡ cond (stopsIn phase) 4 0 ⌝ }
 {
     match phase {

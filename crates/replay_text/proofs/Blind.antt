@@ -33,7 +33,7 @@ onto-first : (x : ℕ) (fs : List (List ℕ)) → getD (onto x fs) 0 [] ≡ x �
 onto-first x [] = refl
 onto-first x (f ∷ fs) = refl
 
-first-cut : (n : ℕ) (s : List ℕ) → getD (split 9 (take n s)) 0 [] ≡ take n (getD (split 9 s) 0 [])
+pub first-cut : (n : ℕ) (s : List ℕ) → getD (split 9 (take n s)) 0 [] ≡ take n (getD (split 9 s) 0 [])
 unfolding split
 first-cut zero s = refl
 first-cut (suc n) [] = refl
@@ -52,11 +52,11 @@ letter-cut x f =
       | no h ↦ rw (take-all 32769 f (omega arith))
     ]
 
-request-blind : (l : List ℕ) → requestLine (take 32769 l) ≡ requestLine l
+pub request-blind : (l : List ℕ) → requestLine (take 32769 l) ≡ requestLine l
 unfolding requestLine isEither
 request-blind l = rw (first-cut 32769 l, letter-cut 82 (getD (split 9 l) 0 []), letter-cut 87 (getD (split 9 l) 0 []))
 
-board-blind : (l : List ℕ) → boardLine (take 32769 l) ≡ boardLine l
+pub board-blind : (l : List ℕ) → boardLine (take 32769 l) ≡ boardLine l
 unfolding boardLine
 board-blind l = rw (first-cut 32769 l, letter-cut 76 (getD (split 9 l) 0 []))
 
@@ -80,7 +80,7 @@ long-code : (l : List ℕ) → 32768 < length l → boardCode l ≡ codes.Bad
 unfolding boardCode
 long-code l h = rw (lt-ltb 32768 (length l) h)
 
-cut-long : (l : List ℕ) → 32768 < length l → 32768 < length (take 32769 l)
+pub cut-long : (l : List ℕ) → 32768 < length l → 32768 < length (take 32769 l)
 cut-long l h = simp length-take (omega arith)
 
 image-blind : (first : Bool) (card : Card) (arena l : List ℕ) → imageStep first card arena (take 32769 l) ≡ imageStep first card arena l
@@ -108,13 +108,13 @@ refresh-blind card arena l n =
     ]
 
 -- By what the line is taken for.
-held-blind : (k : Kind) (s : Held) (l : List ℕ) → heldBy k s (take 32769 l) ≡ heldBy k s l
+pub held-blind : (k : Kind) (s : Held) (l : List ℕ) → heldBy k s (take 32769 l) ≡ heldBy k s l
 held-blind (kinds.Image first) s l = rw (image-blind first (s .replay .card) (s .arena) l)
 held-blind kinds.Request s l = rw (served-blind (s .replay .card) (s .arena) 65536 l)
 held-blind kinds.Board s l = refl
 held-blind kinds.Nothing s l = refl
 
-text-blind : (k : Kind) (s : Held) (l : List ℕ) → textBy k s (take 32769 l) ≡ textBy k s l
+pub text-blind : (k : Kind) (s : Held) (l : List ℕ) → textBy k s (take 32769 l) ≡ textBy k s l
 unfolding requestText
 text-blind (kinds.Image first) s l = rw (image-blind first (s .replay .card) (s .arena) l)
 text-blind kinds.Request s l = rw (served-blind (s .replay .card) (s .arena) 65536 l)

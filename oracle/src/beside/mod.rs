@@ -6,6 +6,7 @@ mod process;
 pub mod shrink;
 
 use crate::files;
+use crate::filter::Filter;
 use crate::random::Random;
 use crate::texts::Text;
 use std::io::{self, Write};
@@ -23,10 +24,11 @@ pub const LIMIT: Duration = Duration::from_secs(120);
 /// The program is heard out for this many bytes more than are expected of it.
 const SURPLUS: usize = 100_000;
 
-/// The two programs that `RUN NAME` runs: `test_traces` prints for each file 0001.in, 0002.in, .. of the
-/// folder that it is run in a heading and what replay prints, `replay` takes one text on standard
+/// The two programs of a filter that `RUN NAME` runs: one prints for each file 0001.in, 0002.in, .. of the
+/// folder that it is run in a heading and what the filter prints, the other takes one text on standard
 /// input.
 pub struct Beside {
+    filter: &'static Filter,
     run: PathBuf,
     folder: PathBuf,
     limit: Duration,
@@ -48,24 +50,29 @@ pub fn heading(number: usize) -> String {
 }
 
 impl Beside {
-    /// The programs that this command runs by their names, each within the limit. Texts go into a
-    /// folder of their own.
-    pub fn new(run: &Path, limit: Duration) -> io::Result<Self> {
+    /// The programs of a filter that this command runs by their names, each within the limit. Texts go
+    /// into a folder of their own.
+    pub fn new(filter: &'static Filter, run: &Path, limit: Duration) -> io::Result<Self> {
         static MADE: AtomicUsize = AtomicUsize::new(0);
         let made = MADE.fetch_add(1, Ordering::Relaxed);
         let folder = format!("uluvoli-texts-{}-{made}", std::process::id());
         let folder = std::env::temp_dir().join(folder);
         std::fs::create_dir_all(&folder)?;
         let run = std::fs::canonicalize(run)?;
-        Ok(Beside { run, folder, limit })
+        Ok(Beside {
+            filter,
+            run,
+            folder,
+            limit,
+        })
     }
 
-    /// The first of these texts that `test_traces` answers otherwise than the oracle.
+    /// The first of these texts that the program for folders answers otherwise than the oracle.
     pub fn first_wrong(&self, texts: &[Text]) -> io::Result<Option<Wrong>> {
         let inputs = texts.iter().map(|text| text.input.as_slice());
         files::numbered(&self.folder, "in", inputs)?;
         let mut command = Command::new(&self.run);
-        command.arg("test_traces").current_dir(&self.folder);
+        command.arg(self.filter.stored).current_dir(&self.folder);
         let expected: usize = texts.iter().map(|text| text.output.len() + 8).sum();
         let ran = process::run(&mut command, Vec::new(), self.limit, expected + SURPLUS)?;
         Ok(match first_difference(&ran.printed, texts) {
@@ -82,12 +89,12 @@ impl Beside {
         })
     }
 
-    /// Whether `replay` answers this text, which comes in pieces, otherwise than the oracle.
+    /// Whether the filter answers this text, which comes in pieces, otherwise than the oracle.
     pub fn piped_wrong(&self, random: &mut Random, text: &Text) -> io::Result<Option<Wrong>> {
         let mut command = Command::new(&self.run);
         let most = text.output.len() + SURPLUS;
         let ran = process::run(
-            command.arg("replay"),
+            command.arg(self.filter.program),
             cuts::pieces(random, &text.input),
             self.limit,
             most,
@@ -100,28 +107,28 @@ impl Beside {
         }))
     }
 
-    /// Fails if `test_traces` answers one of these texts otherwise than the oracle, and says which, by
-    /// the smallest text that shows it.
+    /// Fails if the program for folders answers one of these texts otherwise than the oracle, and says
+    /// which, by the smallest text that shows it.
     pub fn agree(&self, texts: &[Text]) -> io::Result<()> {
         let Some(Wrong { at, .. }) = self.first_wrong(texts)? else {
             return Ok(());
         };
         let mut shows = |inputs: &[Vec<u8>]| {
-            let texts: Vec<Text> = inputs.iter().cloned().map(Text::of).collect();
+            let texts: Vec<Text> = inputs.iter().cloned().map(self.filter.text).collect();
             Ok(self.first_wrong(&texts)?.map(|wrong| wrong.at))
         };
         let smallest = shrink::smallest(texts[at].input.clone(), &mut shows)?;
-        let smallest = [Text::of(smallest)];
+        let smallest = [(self.filter.text)(smallest)];
         match self.first_wrong(&smallest)? {
-            Some(wrong) => self.tell("test_traces", &smallest[0], &wrong),
+            Some(wrong) => self.tell(self.filter.stored, &smallest[0], &wrong),
             None => Err(io::Error::other("a difference did not come again")),
         }
     }
 
-    /// Fails if `replay` answers this text, which comes in pieces, otherwise than the oracle.
+    /// Fails if the filter answers this text, which comes in pieces, otherwise than the oracle.
     pub fn agree_piped(&self, random: &mut Random, text: &Text) -> io::Result<()> {
         match self.piped_wrong(random, text)? {
-            Some(wrong) => self.tell("replay", text, &wrong),
+            Some(wrong) => self.tell(self.filter.program, text, &wrong),
             None => Ok(()),
         }
     }

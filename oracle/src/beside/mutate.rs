@@ -1,8 +1,10 @@
 //! Texts changed at random: bytes, fields and lines of them, and parts of other texts.
 
+use crate::filter::Filter;
+use crate::inspect::line::{NAMES, first};
 use crate::random::Random;
+use crate::texts::Text;
 use crate::texts::spoil::{DECIMALS, STRAY};
-use crate::texts::{Text, Texts};
 
 /// Lengths that lines are filled up to: about the greatest that a line may have, about those of
 /// buffers, and beyond.
@@ -24,16 +26,18 @@ const STOCK: usize = 1_000;
 /// and some of the changed ones are changed again.
 pub struct Stock {
     random: Random,
-    source: Texts,
+    filter: &'static Filter,
+    source: Box<dyn Iterator<Item = Text>>,
     texts: Vec<Vec<u8>>,
 }
 
 impl Stock {
-    /// The stock of this seed.
-    pub fn new(seed: u64) -> Self {
+    /// The stock of this seed, for a filter.
+    pub fn new(filter: &'static Filter, seed: u64) -> Self {
         let mut stock = Stock {
             random: Random::new(!seed),
-            source: Texts::new(seed),
+            filter,
+            source: (filter.texts)(seed),
             texts: Vec::new(),
         };
         stock.texts = (0..STOCK).map(|_| stock.drawn()).collect();
@@ -59,7 +63,7 @@ impl Iterator for Stock {
     fn next(&mut self) -> Option<Text> {
         let [text, other, place] = [(); 3].map(|_| self.random.below(STOCK));
         let changed = mutated(&mut self.random, &self.texts[text], &self.texts[other]);
-        let changed = Text::of(changed);
+        let changed = (self.filter.text)(changed);
         if self.random.once_in(20) {
             self.texts[place] = self.drawn();
         } else if self.random.once_in(20) && !changed.output.starts_with("image") {
@@ -84,9 +88,8 @@ fn mutated(random: &mut Random, text: &[u8], other: &[u8]) -> Vec<u8> {
             break;
         }
         // Most changes are meant for what follows the image: one in it mostly ends the run.
-        let is_request = |line: &Vec<u8>| matches!(line.first(), Some(b'R' | b'W' | b'L'));
-        let first = lines.iter().position(is_request).unwrap_or(0);
-        let spared = if random.once_in(6) { 0 } else { first };
+        let asks = lines.iter().position(|line| asks(line)).unwrap_or(0);
+        let spared = if random.once_in(6) { 0 } else { asks };
         let at = spared + random.below(lines.len() - spared);
         match random.below(3) {
             0 => bytes(random, &mut lines[at]),
@@ -95,6 +98,13 @@ fn mutated(random: &mut Random, text: &[u8], other: &[u8]) -> Vec<u8> {
         }
     }
     lines.concat()
+}
+
+/// Whether a line, with its LF, is a request or a question.
+fn asks(line: &[u8]) -> bool {
+    let line = line.strip_suffix(b"\n").unwrap_or(line);
+    let question = NAMES.iter().any(|name| name.as_bytes() == first(line));
+    question || matches!(line.first(), Some(b'R' | b'W' | b'L'))
 }
 
 /// Changes some bytes of a line.

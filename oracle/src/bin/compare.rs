@@ -1,5 +1,6 @@
 //! `compare N SEED RUN`: puts N texts of a seed to the program that `RUN test_traces` runs, and
-//! one in a hundred, in pieces on standard input, to `RUN replay`. Fails at the first that is answered otherwise
+//! one in a hundred, in pieces on standard input, to `RUN replay`; `compare --inspect N SEED RUN` texts with
+//! questions to `RUN test_inspect` and `RUN inspect`. Fails at the first that is answered otherwise
 //! than by the oracle, and prints the smallest text that shows it.
 
 use std::io::{self, Write};
@@ -7,24 +8,26 @@ use uluvoli_oracle::beside::{AT_ONCE, Beside, LIMIT};
 use uluvoli_oracle::counts::Counts;
 use uluvoli_oracle::program;
 use uluvoli_oracle::random::Random;
-use uluvoli_oracle::texts::{self, Text, Texts};
+use uluvoli_oracle::texts::Text;
 
-/// One text in this many is put to `replay` as well.
+/// One text in this many is put to the filter as well.
 const PIPED: usize = 100;
 
 /// Compares batch by batch.
 fn main() -> io::Result<()> {
-    let ([length, seed], run) = program::numbers("compare N SEED RUN")?;
-    let beside = Beside::new(run.as_ref(), LIMIT)?;
+    let (filter, words) = program::filter();
+    let ([length, seed], run) = program::numbers("compare [--inspect] N SEED RUN", &words)?;
+    let beside = Beside::new(filter, run.as_ref(), LIMIT)?;
     let mut random = Random::new(!seed);
     let mut counts = Counts::default();
-    let mut texts = Texts::new(seed).take(length as usize);
+    let mut texts = (filter.texts)(seed).take(length as usize);
     loop {
         let some: Vec<Text> = texts.by_ref().take(AT_ONCE).collect();
         if some.is_empty() {
             break;
         }
-        some.iter().for_each(|text| texts::count(&mut counts, text));
+        some.iter()
+            .for_each(|text| (filter.count)(&mut counts, text));
         beside.agree(&some)?;
         for text in some.iter().step_by(PIPED) {
             beside.agree_piped(&mut random, text)?;
@@ -33,5 +36,9 @@ fn main() -> io::Result<()> {
     }
     let mut out = io::stdout().lock();
     write!(out, "{counts}")?;
-    writeln!(out, "compare: {length} texts, answered as by the oracle")
+    let program = filter.program;
+    writeln!(
+        out,
+        "compare: {length} texts for {program}, answered as by the oracle"
+    )
 }

@@ -11,7 +11,8 @@ use uluvoli_oracle::resends::{self, HARM_ONCE_IN};
 
 /// Sends them, and prints what they met.
 fn main() -> io::Result<()> {
-    let ([writes, seed], _) = program::numbers("resends N SEED")?;
+    let words: Vec<String> = std::env::args().skip(1).collect();
+    let ([writes, seed], _) = program::numbers("resends N SEED", &words)?;
     let (mut random, mut counts) = (Random::new(seed), Counts::default());
     let harmed = resends::send(writes as usize, &mut random, resends::serve, &mut counts);
     print!("{counts}");

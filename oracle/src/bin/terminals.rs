@@ -11,7 +11,8 @@ use uluvoli_oracle::terminals::Pair;
 
 /// Draws the pairs, compares, and prints what they met.
 fn main() -> io::Result<()> {
-    let ([pairs, seed], _) = program::numbers("terminals N SEED")?;
+    let words: Vec<String> = std::env::args().skip(1).collect();
+    let ([pairs, seed], _) = program::numbers("terminals N SEED", &words)?;
     let mut random = Random::new(seed);
     let mut counts = Counts::default();
     for _ in 0..pairs {

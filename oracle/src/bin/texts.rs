@@ -2,16 +2,18 @@
 //! as DIR/stdout. `texts N SEED --counts` prints what they met, and fails if they did not meet all
 //! that replay can say; `texts N SEED` prints for each text a line `text NUMBER BYTES BYTES`, then
 //! its bytes, then those printed for it; `--small` in place of `N SEED` is the list that is stored.
+//! `texts --inspect ..` does all this for `inspect` and `test_inspect`.
 
 use std::io::{self, Write};
 use uluvoli_oracle::beside::heading;
+use uluvoli_oracle::files;
 use uluvoli_oracle::program::{self, Wanted};
-use uluvoli_oracle::{files, texts};
 
 /// Does what the words ask for.
 fn main() -> io::Result<()> {
-    let words = program::words("texts", texts::SMALL)?;
-    let (texts, counts) = texts::all(words.length, words.seed);
+    let (filter, words) = program::filter();
+    let words = program::words("texts [--inspect]", filter.small, &words)?;
+    let (texts, counts) = (filter.all)(words.length, words.seed);
     let mut out = io::BufWriter::new(io::stdout().lock());
     match words.wanted {
         Wanted::Print => {
@@ -35,7 +37,7 @@ fn main() -> io::Result<()> {
         Wanted::Counts => {
             write!(out, "{counts}")?;
             out.flush()?;
-            let unmet = texts::unmet(&counts);
+            let unmet = (filter.unmet)(&counts);
             if !unmet.is_empty() {
                 return Err(io::Error::other(format!("not met: {}", unmet.join(", "))));
             }

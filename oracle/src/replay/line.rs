@@ -37,7 +37,7 @@ pub fn is_request(line: &[u8]) -> bool {
 }
 
 /// The fields of a line, none if it is too long.
-fn fields(line: &[u8]) -> Option<Vec<&[u8]>> {
+pub fn fields(line: &[u8]) -> Option<Vec<&[u8]>> {
     (line.len() <= MOST_BYTES).then(|| line.split(|&byte| byte == b'\t').collect())
 }
 

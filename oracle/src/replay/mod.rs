@@ -1,6 +1,6 @@
 //! A whole text, an image and then requests, and the lines that are printed for it.
 
-mod fields;
+pub mod fields;
 pub mod line;
 
 use crate::board::{self, LANES};
@@ -32,10 +32,10 @@ pub fn watched(text: &[u8], watch: impl FnMut(&Card, &[u8])) -> String {
 }
 
 /// A line with its number, from 1.
-type Numbered<'a> = (usize, &'a [u8]);
+pub type Numbered<'a> = (usize, &'a [u8]);
 
 /// The lines of a text without their LF. The LF that ends the text starts no further line.
-fn lines(text: &[u8]) -> impl Iterator<Item = Numbered<'_>> {
+pub fn lines(text: &[u8]) -> impl Iterator<Item = Numbered<'_>> {
     let whole = text.strip_suffix(b"\n").unwrap_or(text);
     let lines = whole.split(|&byte| byte == b'\n');
     // An empty text has no line at all; a single LF has one, which is empty.
@@ -49,18 +49,23 @@ fn image<'a, L>(lines: &mut std::iter::Peekable<L>) -> Result<Card, (usize, Refu
 where
     L: Iterator<Item = Numbered<'a>>,
 {
-    let mut card = match lines.next().map(|(_, line)| line::image(line)) {
-        Some(Some(Image::Card { system, version })) => Card::new(system, version),
-        _ => return Err((1, refusal::IMAGE_LINE)),
-    };
+    let mut card = start(lines.next()).ok_or((1, refusal::IMAGE_LINE))?;
     while let Some((number, line)) = lines.next_if(|(_, line)| !line::is_request(line)) {
         take(&mut card, line).map_err(|refusal| (number, refusal))?;
     }
     Ok(card)
 }
 
+/// The card that the first line makes, if there is one and it is a `card` line.
+pub fn start(first: Option<Numbered>) -> Option<Card> {
+    match line::image(first?.1)? {
+        Image::Card { system, version } => Some(Card::new(system, version)),
+        _ => None,
+    }
+}
+
 /// Carries out one line of an image, the first one excepted.
-fn take(card: &mut Card, line: &[u8]) -> Result<(), Refusal> {
+pub fn take(card: &mut Card, line: &[u8]) -> Result<(), Refusal> {
     match line::image(line) {
         Some(Image::Add(addition)) => card.add(ARENA, addition),
         Some(Image::Block {
@@ -82,15 +87,18 @@ fn requests<'a>(
     let mut out = String::new();
     for (ordinal, line) in (1..).zip(lines) {
         watch(&card, line);
-        out += &match answer(&mut card, ordinal, line) {
-            Ok(lines) => lines,
-            Err(refusal) => format!("{ordinal}\t!\t{refusal}\t-\t-\t-\n"),
-        };
+        out += &request(&mut card, ordinal, line);
     }
     out
 }
 
-/// What is printed for a line after the image; 6 if it is no request or a malformed one.
+/// What is printed for a line after the image.
+pub fn request(card: &mut Card, ordinal: usize, line: &[u8]) -> String {
+    answer(card, ordinal, line)
+        .unwrap_or_else(|refusal| format!("{ordinal}\t!\t{refusal}\t-\t-\t-\n"))
+}
+
+/// The lines that a line after the image is told, or its refusal; 6 if it is no request or a malformed one.
 fn answer(card: &mut Card, ordinal: usize, line: &[u8]) -> Result<String, Refusal> {
     match line::asked(line).ok_or(refusal::REQUEST_LINE)? {
         Asked::Request(request) => {

@@ -9,20 +9,20 @@ use crate::tree::Addition;
 /// The fields of a line.
 pub struct Line(pub Vec<Vec<u8>>);
 
-/// The line whose fields are parted by blanks here.
-fn line(fields: String) -> Line {
-    Line(fields.split(' ').map(|field| field.into()).collect())
-}
-
 impl Line {
+    /// The line whose fields are parted by blanks here.
+    pub fn of(fields: String) -> Self {
+        Line(fields.split(' ').map(|field| field.into()).collect())
+    }
+
     /// The line that starts an image.
     pub fn card(system: u16, version: u16) -> Self {
-        line(format!("card {system:04X} {version:04X}"))
+        Line::of(format!("card {system:04X} {version:04X}"))
     }
 
     /// The line of an addition.
     pub fn addition(addition: Addition) -> Self {
-        line(match addition {
+        Line::of(match addition {
             Addition::Area {
                 depth,
                 code,
@@ -44,7 +44,7 @@ impl Line {
 
     /// The line that sets a block.
     pub fn block((code, number, block): (u16, u32, Block)) -> Self {
-        line(format!("blk {code:04X} {number} {}", hex(&block)))
+        Line::of(format!("blk {code:04X} {number} {}", hex(&block)))
     }
 
     /// The line of a request.
@@ -60,12 +60,12 @@ impl Line {
         if request.write {
             fields += &format!(" {}", hex(&request.data));
         }
-        line(fields)
+        Line::of(fields)
     }
 
     /// The line of a refresh.
     pub fn board(code: u16) -> Self {
-        line(format!("L {code:04X}"))
+        Line::of(format!("L {code:04X}"))
     }
 
     /// The line with its LF. In one line of three, hex letters are small or of both cases.

@@ -24,8 +24,8 @@ const NAMES: [&str; 14] = [
     "", "-", "Card", "CARD", "card ", " card", "cards", "car", "r", "RW", "R ", " W", "R\r", "W\0",
 ];
 
-/// What no field of this form may be: c a code, d a decimal, s a signed one, g a generation, b a
-/// block, k the kind of a request, n codes, h bytes.
+/// What no field of this form may be: c a code, d a decimal, s a signed one, g a generation, r a room, a an
+/// arena, b a block, k the kind of a request, n codes, h bytes.
 fn wrong(form: char) -> &'static [&'static str] {
     match form {
         'c' => &[
@@ -62,6 +62,18 @@ fn wrong(form: char) -> &'static [&'static str] {
             "18446744073709551617",
         ],
         'g' => &["", "-", "00", "-1", "256", "257", "4294967297"],
+        'r' => &[
+            "",
+            "-",
+            "00",
+            "-1",
+            "+1",
+            "1 ",
+            "4097",
+            "65536",
+            "4294967297",
+        ],
+        'a' => &["", "-", "00", "-1", "+1", "1 ", "65537", "4294967296"],
         'b' => &[
             "",
             "-",
@@ -82,8 +94,8 @@ fn wrong(form: char) -> &'static [&'static str] {
     }
 }
 
-/// The malformed lines that are made of a good one.
-fn spoilt((line, forms): (&str, &str)) -> Vec<String> {
+/// The malformed lines that are made of a good one; where it has one field alone, the line itself too.
+pub fn spoilt((line, forms): (&str, &str)) -> Vec<String> {
     let fields: Vec<&str> = line.split('|').collect();
     let mut lines = Vec::new();
     for (at, form) in (1..).zip(forms.chars()) {

@@ -6,7 +6,7 @@ mod edges;
 mod image;
 pub mod line;
 mod long;
-mod malformed;
+pub mod malformed;
 mod resent;
 pub mod served;
 pub mod spoil;
@@ -30,12 +30,12 @@ const BEFORE_BOARDS: usize = 255;
 /// How many of the texts with boards that every seed has are drawn; the others have names.
 const DRAWN_BOARDS: u64 = 30;
 
-/// A text, with the name of its kind, what is printed for it, and what its refreshes meet.
+/// A text, with the name of its kind, what is printed for it, and what it meets: here its refreshes.
 pub struct Text {
     pub kind: &'static str,
     pub input: Vec<u8>,
     pub output: String,
-    pub met: Vec<&'static str>,
+    pub met: Vec<String>,
 }
 
 impl Text {
@@ -52,7 +52,7 @@ impl Text {
             kind,
             input,
             output,
-            met: met.names,
+            met: met.names.iter().map(ToString::to_string).collect(),
         }
     }
 }

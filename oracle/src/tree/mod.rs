@@ -301,6 +301,25 @@ impl Card {
         Ok(pairs.flatten().collect())
     }
 
+    /// The children of the first area of this code in their order; none if no area has it. The Rust
+    /// finds the area and walks it. It hides which steps of that walk are the area's own children: they
+    /// are the nodes that were given to it when the tree was built.
+    pub fn children(&self, code: u16) -> Option<Vec<DirectoryEntry>> {
+        let walk = doors::walk_of(&self.rust, code)?;
+        let first = |node: &Node| node.code == code && matches!(node.entry, Entry::Area { .. });
+        let at = self.nodes.iter().position(first);
+        let at = at.expect("the Rust has no area that no record made");
+        let mut next = 1;
+        let children = rust::children(&self.nodes[at..at + walk.len()]).map(|part| {
+            let child = walk[next];
+            next += part.len();
+            child
+        });
+        let children = children.collect();
+        assert_eq!(next, walk.len(), "the Rust's walk has the records below");
+        Some(children)
+    }
+
     /// The block total of a node, 0 if unknown.
     pub fn total(&self, code: u16) -> u16 {
         doors::block_total(&self.rust, code)

@@ -35,7 +35,7 @@ pub fn build(
 }
 
 /// The children of the first record, each followed by all that is below it.
-fn children(nodes: &[Node]) -> impl Iterator<Item = &[Node]> {
+pub fn children(nodes: &[Node]) -> impl Iterator<Item = &[Node]> {
     let depth = nodes[0].depth + 1;
     nodes[1..].chunk_by(move |_, next| next.depth > depth)
 }

@@ -1,66 +1,23 @@
 -- `replay_line::line` meets its contract, by what the line is taken for. Assumes nothing.
 use borrow.Author.Needs.{needs}
-use native.Mathlib.Omega.{arith}
-use mathlib.Core.Path.{_≡_, sym, _∙_}
-use denote.Ref.{now}
-use Rattle.replay_line.specs.declared.Kind.{Kind}
-use Rattle.replay_line.specs.Replay.{held, kindOf}
-use Rattle.replay_line.proofs.Takes.{image-taken, request-taken, board-taken, nothing-taken}
+use Rattle.replay_line.specs.Replay.{lineHeld, lineText, workHeld, bytesHeld}
 use Rattle.replay_line.proofs.line.Statement.{statement}
 use Rattle.replay_line.proofs.line.Tie as tie
 
--- what the line was found to be taken for
-found : (k : tie.After-kind-of) {t : Kind} → k .kind-of .result ≡ t → let a = k .before .before .before .before .before .before .args in kindOf (a .replay .phase) (now (a .line)) ≡ t
-found k e = sym (k .kind-of .ensures) ∙ e
-
 returns : tie.Need-returns
+unfolding lineHeld lineText workHeld bytesHeld
 returns c =
-    let i = c .before .before .before .before in
-    let k = i .before .before .before .before .before .before in
-    let a = k .before .before .before .before .before .before .args in
-    image-taken (held (a .replay) (now (a .arena))) (now (a .line)) (now (a .work)) (now (a .bytes)) (found k (i .before .before .before .before .first .given .1)) (i .image-line .ensures)
-
-returns-2 : tie.Need-returns-2
-returns-2 c =
-    let i = c .before .before .before .before .before .before .before .before in
-    let k = i .before .before .before .before .before .before .before in
-    let a = k .before .before .before .before .before .before .args in
-    request-taken (held (a .replay) (now (a .arena))) (now (a .line)) (now (a .work)) (now (a .bytes)) (found k (i .before .before .before .before .before .enum-told .given .1)) (i .request-line .ensures)
-
-returns-3 : tie.Need-returns-3
-returns-3 c =
-    let i = c .before .before in
-    let k = i .before .before .before .before .before in
-    let a = k .before .before .before .before .before .before .args in
-    board-taken (held (a .replay) (now (a .arena))) (now (a .line)) (now (a .work)) (now (a .bytes)) (found k (i .before .before .before .enum-told2 .given .1)) (i .refresh-line .ensures)
-
-returns-4 : tie.Need-returns-4
-returns-4 c =
-    let k = c .before .before in
-    let a = k .before .before .before .before .before .before .args in
-    nothing-taken (held (a .replay) (now (a .arena))) (now (a .line)) (now (a .work)) (now (a .bytes)) (now (a .out)) (a .at) (found k (c .enum-told3 .given .1))
+    let k = c .before .before .before .before .before .before .before .before in
+    rw (k .before .before .before .before .before .kind-of .ensures) at (k .take .ensures)
 
 pub line-spec : {M : Type 1} → statement M
 line-spec =
     tie.close
     (tie.spec
     (λ c κs. search needs)
-    (λ c. search needs)
-    (λ c κs. search needs)
-    (λ c. search needs)
-    (λ c κs. search needs)
-    (λ c. search needs)
     (λ c κs. search needs)
     (λ c. search needs)
     (λ c. search needs)
     (λ c. search needs)
-    returns
     (λ c. search needs)
-    (λ c. search needs)
-    (λ c. search needs)
-    (λ c. search needs)
-    returns-2
-    (λ c. search needs)
-    (λ c. search needs)
-    returns-3
-    returns-4)
+    returns)

@@ -2,7 +2,7 @@
 //! of the Rust and hands its answer back. No rule of the card is decided here.
 
 use super::blocks::{CyclicWrite, PurseOperation, apply_cyclic_write, apply_purse_write};
-use super::{EmulatedSystem, LimitPurseProperty};
+use super::{DirectoryEntry, EmulatedSystem, LimitPurseProperty};
 use crate::felica_standard::{BLOCK_SIZE, BlockListElement, ServiceCode};
 
 /// One stored block.
@@ -90,6 +90,15 @@ pub fn set_block(system: &EmulatedSystem, code: u16, number: usize, block: Block
         }
         None => false,
     }
+}
+
+/// `find_area` and `append_directory_entries`: the first area of this code and all that is below it, as
+/// the directory walks it; none if there is none.
+pub fn walk_of(system: &EmulatedSystem, code: u16) -> Option<Vec<DirectoryEntry>> {
+    let area = system.root_area().find_area(code)?;
+    let mut entries = Vec::new();
+    area.append_directory_entries(&mut entries);
+    Some(entries)
 }
 
 /// `block_count_for_node`: the block total of a service or an area, 0 if unknown.

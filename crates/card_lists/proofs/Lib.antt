@@ -1,0 +1,11 @@
+-- The children of an area, as directory and totals have them.
+pub mod ChildLaws
+-- Packets one after the other, their flag and their end.
+pub mod Among
+pub mod Packets
+-- How a packet is gathered.
+mod Gathering
+mod Told
+-- What a card answers.
+pub mod Answered
+pub mod Back

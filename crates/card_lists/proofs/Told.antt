@@ -1,0 +1,154 @@
+-- The answers of the functions, over the records of a card.
+use mathlib.Core.Path.{_≡_, refl, sym, _∙_, ap}
+use mathlib.Core.Bool.{Bool, true, false, cond}
+use mathlib.Core.List.{List, [], _∷_, map}
+use Prim.Native.Nat.{ℕ, zero, suc, _+_, _-_, _*_, _/_, _≤_, _<_, min}
+use native.Mathlib.Nat.{zero-add}
+use native.Mathlib.Omega.{arith}
+use lib.Dec.{ltb, leb}
+use lib.ListN.{length, take, drop, getD, set, replicate, length-map}
+use borrow.Author.Tests.{lt-ltb, le-ltb}
+use Rattle.answers.specs.declared.refusal.Answer.{Answer}
+use Rattle.answers.specs.declared.refusal.Answer.the-variants.{Done, Refused}
+use Rattle.answers.specs.declared.refusal.Refusal.{Refusal}
+use Rattle.answers.specs.declared.refusal.Refusal.the-variants.{NotBuilt, ShortArena, TooManyNodes, ParentNoArea, PacketPastEnd}
+use Rattle.byte_parts.specs.Part.{put, padded}
+use Rattle.node_messages.specs.declared.code_list.Listed.{Listed}
+use Rattle.node_messages.specs.declared.information.Informed.{Informed}
+use Rattle.byte_parts.proofs.Part.{put-zero}
+use Rattle.byte_parts.proofs.Put.{put-next}
+use Rattle.node_messages.specs.declared.message.Put.{Put}
+use Rattle.node_messages.specs.declared.message.Put.the-variants.{Refused as NotPut}
+use Rattle.node_messages.specs.Message.{putOf, outputAfter}
+use Rattle.node_messages.specs.CodeList.{listRefused, codeListBytes}
+use Rattle.node_messages.specs.Information.{informationTold, informationRefused, informationBytes}
+use Rattle.node_messages.proofs.NumberLaws.{put-padded}
+use Rattle.card_nodes.specs.declared.node.Node.{Node}
+use Rattle.card_nodes.specs.declared.find.Found.{Found}
+use Rattle.card_nodes.specs.declared.find.Found.the-variants.{At, Nothing}
+use Rattle.card_nodes.specs.Node.{rootNode}
+use Rattle.card_nodes.specs.Find.{isAreaOf, areaOf}
+use Rattle.card_nodes.proofs.Records.{Records, found-taken, found-node}
+use Rattle.card_admit.specs.Admit.{usable}
+use Rattle.card_questions.specs.Total.{totalOf}
+use Rattle.card_build.specs.declared.card.Card.{Card}
+use Rattle.card_build.specs.Card.{nodesOf, isSound}
+use Rattle.card_lists.specs.declared.gather.Gathered.{Gathered}
+use Rattle.card_lists.specs.Children.{areaNamed, childrenAt}
+use Rattle.card_lists.specs.Gather.{nothingGathered, gatheredFrom}
+use Rattle.card_lists.specs.Packet.{pastEnd, moreAfter, listMore, packetTold, listFound, codeListOf, codeListPut, codeListOut}
+use Rattle.card_lists.specs.Information.{freeFor, informationOf, blocksOf, blocksPut, blocksOut}
+use Rattle.card_lists.proofs.ChildLaws.{named}
+use Rattle.card_lists.proofs.Gathering.{stateOf, gathered-all}
+
+module _ {nodes : List Node} {count : ℕ} (r : Records nodes count) (parent : ℕ) {f : Found} {at : ℕ} (told : f ≡ areaNamed (take count nodes) parent) (e : f ≡ At at) where
+  -- the area is one of the records
+  pub area-index : at < min count 64
+  area-index = found-taken r (isAreaOf parent) refl (named (take count nodes) parent (sym told ∙ e))
+
+  -- and the record there is the node
+  pub area-node : (z : Node) → getD (take count nodes) at rootNode ≡ getD nodes at z
+  area-node z = found-node r (isAreaOf parent) refl (named (take count nodes) parent (sym told ∙ e)) z
+
+  module _ (p : ℕ) {g : Gathered} (w : g ≡ gatheredFrom (getD nodes at rootNode .depth) (16 * p) nothingGathered (drop (at + 1) (take count nodes))) where
+    -- what is gathered, of the children of the area
+    state : g ≡ stateOf (16 * p) (childrenAt (take count nodes) at)
+    state = w ∙ rw (area-node rootNode) (gathered-all (getD nodes at rootNode .depth) (16 * p) (drop (at + 1) (take count nodes)))
+
+    -- 45
+    pub past-told : {b : Bool} → b ≡ pastEnd p (g .children) → b ≡ true → listRefused PacketPastEnd ≡ listFound (take count nodes) p (areaNamed (take count nodes) parent)
+    unfolding packetTold
+    past-told x y =
+        let n : pastEnd p (length (childrenAt (take count nodes) at)) ≡ true = ap (λ (s : Gathered). pastEnd p (s .children)) (sym state) ∙ sym x ∙ y in
+        rw (sym told ∙ e, n)
+
+    -- the packet
+    pub packet-told : {b : Bool} → b ≡ pastEnd p (g .children) → b ≡ false →
+        listMore (g .list) (ltb (16 * p + 16) (g .children)) ≡ listFound (take count nodes) p (areaNamed (take count nodes) parent)
+    unfolding packetTold moreAfter
+    packet-told x y =
+        let n : pastEnd p (length (childrenAt (take count nodes) at)) ≡ false = ap (λ (s : Gathered). pastEnd p (s .children)) (sym state) ∙ sym x ∙ y in
+        rw (sym told ∙ e, n) (ap (λ (s : Gathered). listMore (s .list) (ltb (16 * p + 16) (s .children))) state)
+
+-- 44
+pub no-area : (ns : List Node) (p : ℕ) {f : Found} → f ≡ Nothing → listRefused ParentNoArea ≡ listFound ns p f
+no-area ns p e = rw e
+
+-- what a function gives of a list is read there
+map-read : (f : ℕ → ℕ) (l : List ℕ) (i : ℕ) → i < length l → getD (map f l) i 0 ≡ f (getD l i 0)
+map-read f [] i h = absurd (omega arith)
+map-read f (x ∷ l) zero h = refl
+map-read f (x ∷ l) (suc i) h = map-read f l i (omega arith)
+
+-- block information, where 8, 7 and 46 are not given
+module _ (c : Card) (arenaLen : ℕ) (asked : List ℕ) where
+  pub info-unsound : isSound c ≡ false → informationRefused NotBuilt ≡ blocksOf c arenaLen asked
+  unfolding blocksOf
+  info-unsound s = rw s
+
+  module _ (s : isSound c ≡ true) where
+    pub info-short : arenaLen / 16 < c .used → informationRefused ShortArena ≡ blocksOf c arenaLen asked
+    unfolding blocksOf
+    info-short h = rw (s, lt-ltb arenaLen (16 * c .used) (omega arith))
+
+    module _ (h : c .used ≤ arenaLen / 16) where
+      pub info-many : 32 < length asked → informationRefused TooManyNodes ≡ blocksOf c arenaLen asked
+      unfolding blocksOf
+      info-many k = rw (s, le-ltb arenaLen (16 * c .used) (omega arith), lt-ltb 32 (length asked) k)
+
+      pub info-told : {u : ℕ} {x : Informed} → length asked ≤ 32 → u ≡ usable arenaLen - c .used → x ≡ informationOf (nodesOf c) u asked → x ≡ blocksOf c arenaLen asked
+      unfolding blocksOf
+      info-told k e q = q ∙ rw (s, le-ltb arenaLen (16 * c .used) (omega arith), le-ltb 32 (length asked) k, e)
+
+-- the counts of the first i nodes, in front of zeros
+abbrev pub counted : (ℕ → ℕ) → List ℕ → ℕ → List ℕ
+counted f asked i = put (replicate 32 0) 0 i (map f asked)
+
+module _ (f : ℕ → ℕ) (asked : List ℕ) where
+  -- none yet
+  pub none-counted : replicate 32 0 ≡ counted f asked 0
+  none-counted = sym (put-zero (replicate 32 0) 0 (map f asked))
+
+  -- one more
+  pub one-counted : {i x : ℕ} {cells : List ℕ} → i < length asked → cells ≡ counted f asked i → x ≡ f (getD asked i 0) → set cells i x ≡ counted f asked (i + 1)
+  one-counted {i = i} {x = x} h q e =
+      let k : i < length (map f asked) = simp length-map h in
+      rw q (rw (zero-add i) at (put-next (replicate 32 0) 0 (map f asked) i x k (e ∙ sym (map-read f asked i h))))
+
+  -- all of them
+  all-counted : {i : ℕ} → length asked ≤ 32 → i ≡ length asked → counted f asked i ≡ padded 32 (map f asked)
+  all-counted h e = rw e (put-padded 32 (length asked) (map f asked) (length-map asked f) h)
+
+-- both counts of all nodes
+pub info-all : (ns : List Node) (unused : ℕ) (asked : List ℕ) {i : ℕ} {assigned free : List ℕ} → length asked ≤ 32 → i ≡ length asked →
+    assigned ≡ counted (totalOf ns) asked i → free ≡ counted (freeFor ns unused) asked i →
+    informationTold (record { count = length asked; assigned = assigned; free = free }) ≡ informationOf ns unused asked
+info-all ns unused asked h e a f =
+    rw (a, f, all-counted (totalOf ns) asked h e, all-counted (freeFor ns unused) asked h e)
+
+-- an answer as bytes: a refusal, or what the writer makes of the message
+module _ (c : Card) (parent p : ℕ) (out : List ℕ) {x : Listed} (e : x ≡ codeListOf c parent p) where
+  answer-list : {a : Answer} → x .answer ≡ a → codeListOf c parent p .answer ≡ a
+  answer-list q = ap (λ (l : Listed). l .answer) (sym e) ∙ q
+
+  pub list-refused : {r : Refusal} → x .answer ≡ Refused r → (NotPut r ≡ codeListPut c parent p (length out)) × (out ≡ codeListOut c parent p out)
+  unfolding codeListPut codeListOut
+  list-refused q = (rw (answer-list q), rw (answer-list q))
+
+  pub list-written : {said : Put} {after : List ℕ} → x .answer ≡ Done → said ≡ putOf (codeListBytes (x .list)) (length out) → after ≡ outputAfter (codeListBytes (x .list)) out →
+      (said ≡ codeListPut c parent p (length out)) × (after ≡ codeListOut c parent p out)
+  unfolding codeListPut codeListOut
+  list-written q s a = (s ∙ rw (answer-list q, e), a ∙ rw (answer-list q, e))
+
+module _ (c : Card) (arenaLen : ℕ) (asked out : List ℕ) {x : Informed} (e : x ≡ blocksOf c arenaLen asked) where
+  answer-blocks : {a : Answer} → x .answer ≡ a → blocksOf c arenaLen asked .answer ≡ a
+  answer-blocks q = ap (λ (l : Informed). l .answer) (sym e) ∙ q
+
+  pub blocks-refused : {r : Refusal} → x .answer ≡ Refused r → (NotPut r ≡ blocksPut c arenaLen asked (length out)) × (out ≡ blocksOut c arenaLen asked out)
+  unfolding blocksPut blocksOut
+  blocks-refused q = (rw (answer-blocks q), rw (answer-blocks q))
+
+  pub blocks-written : {said : Put} {after : List ℕ} → x .answer ≡ Done → said ≡ putOf (informationBytes (x .told)) (length out) → after ≡ outputAfter (informationBytes (x .told)) out →
+      (said ≡ blocksPut c arenaLen asked (length out)) × (after ≡ blocksOut c arenaLen asked out)
+  unfolding blocksPut blocksOut
+  blocks-written q s a = (s ∙ rw (answer-blocks q, e), a ∙ rw (answer-blocks q, e))

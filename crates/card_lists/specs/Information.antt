@@ -1,0 +1,51 @@
+-- The blocks of nodes, and what a card answers.
+use Prim.Native.Nat.{ℕ, _-_, _*_}
+use mathlib.Core.List.{List, map}
+use mathlib.Core.Bool.{cond, not}
+use lib.Dec.{ltb}
+use lib.ListN.{length}
+use Rattle.answers.specs.declared.refusal.Refusal.the-variants.{NotBuilt, ShortArena, TooManyNodes}
+use Rattle.byte_parts.specs.Part.{padded}
+use Rattle.node_messages.specs.declared.information.Informed.{Informed}
+use Rattle.node_messages.specs.declared.message.Put.{Put}
+use Rattle.node_messages.specs.Information.{mostNodes, informationTold, informationRefused, informationBytes}
+use Rattle.card_nodes.specs.declared.node.Node.{Node}
+use Rattle.card_nodes.specs.declared.find.Found.{Found}
+use Rattle.card_nodes.specs.declared.find.Found.the-variants.{At, Nothing}
+use Rattle.card_admit.specs.Admit.{usable}
+use Rattle.card_questions.specs.Total.{totalOf}
+use Rattle.card_build.specs.declared.card.Card.{Card}
+use Rattle.card_build.specs.Card.{nodesOf, isSound}
+use Rattle.card_lists.specs.Children.{areaNamed}
+use Rattle.card_lists.specs.Packet.{putAnswered, outAnswered}
+
+-- free are the unused blocks for an area, and none for any other node
+abbrev pub freeBy : ℕ → Found → ℕ
+freeBy unused (At i) = unused
+freeBy unused Nothing = 0
+
+abbrev pub freeFor : List Node → ℕ → ℕ → ℕ
+freeFor ns unused code = freeBy unused (areaNamed ns code)
+
+-- for each node asked, in their order: assigned is its block total
+abbrev pub informationOf : List Node → ℕ → List ℕ → Informed
+informationOf ns unused asked = informationTold (record {
+  count = length asked;
+  assigned = padded 32 (map (totalOf ns) asked);
+  free = padded 32 (map (freeFor ns unused) asked);
+})
+
+-- what a card answers: 8, then 7 and 46
+unfoldable pub blocksOf : Card → ℕ → List ℕ → Informed
+blocksOf c arenaLen asked =
+    cond (not (isSound c)) (informationRefused NotBuilt)
+    (cond (ltb arenaLen (16 * c .used)) (informationRefused ShortArena)
+    (cond (ltb mostNodes (length asked)) (informationRefused TooManyNodes)
+    (informationOf (nodesOf c) (usable arenaLen - c .used) asked)))
+
+-- as bytes: 5 comes last
+unfoldable pub blocksPut : Card → ℕ → List ℕ → ℕ → Put
+blocksPut c arenaLen asked room = putAnswered (blocksOf c arenaLen asked .answer) (informationBytes (blocksOf c arenaLen asked .told)) room
+
+unfoldable pub blocksOut : Card → ℕ → List ℕ → List ℕ → List ℕ
+blocksOut c arenaLen asked out = outAnswered (blocksOf c arenaLen asked .answer) (informationBytes (blocksOf c arenaLen asked .told)) out

@@ -1,0 +1,5 @@
+pub mod Children
+pub mod Gather
+pub mod Packet
+pub mod Information
+pub mod Coded

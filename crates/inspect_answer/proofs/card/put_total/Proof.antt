@@ -1,0 +1,39 @@
+-- `card::put_total` meets its contract: the number, or the refusal. Assumes nothing.
+use borrow.Author.Needs.{needs}
+use native.Mathlib.Omega.{arith}
+use mathlib.Core.Path.{_≡_, sym, _∙_}
+use Rattle.answers.specs.declared.refusal.Told.{Told}
+use Rattle.card_questions.specs.Total.{totalAnswer}
+use Rattle.inspect_answer.proofs.card.put_total.Statement.{statement}
+use Rattle.inspect_answer.proofs.card.put_total.Tie as tie
+
+-- what the card was found to tell
+found : (k : tie.After-block-count-for-node) {x : Told} → k .block-count-for-node .result ≡ x → let a = k .before .before .args in totalAnswer (a .card) (a .code) ≡ x
+found k e = sym (k .block-count-for-node .ensures) ∙ e
+
+returns : tie.Need-returns
+returns c =
+    let p = c .before .before in
+    let g = p .before .before .before in
+    rw (found (g .before .before) (g .blocks2 .given .1)) (p .put-number .ensures .0, omega (arith, p .put-number .ensures .1))
+
+returns-2 : tie.Need-returns-2
+returns-2 c =
+    let p = c .before .before in
+    let g = p .before .before .before in
+    rw (found (g .before .before) (g .refusal .given .1)) (p .put-refusal .ensures .0, omega (arith, p .put-refusal .ensures .1))
+
+pub put-total-spec : {M : Type 1} → statement M
+put-total-spec =
+    tie.close
+    (tie.spec
+    (λ c κs. search needs)
+    (λ c. search needs)
+    (λ c. search needs)
+    (λ c κs. search needs)
+    (λ c. search needs)
+    (λ c κs. search needs)
+    (λ c. search needs)
+    returns
+    (λ c. search needs)
+    returns-2)

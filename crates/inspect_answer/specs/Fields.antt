@@ -1,0 +1,65 @@
+-- The fields that answer a question to a card, after its name: parted by tabs (9) and ended by LF (10).
+use Prim.Native.Nat.{ℕ}
+use mathlib.Core.List.{List, [], _∷_}
+use Rattle.answers.specs.declared.refusal.Told.{Told}
+use Rattle.answers.specs.declared.refusal.Told.the-variants as tolds
+use Rattle.text_numbers.specs.Decimal.{decText}
+use Rattle.text_numbers.specs.Hex.{hexText}
+use Rattle.node_messages.specs.declared.message.Put.{Put}
+use Rattle.node_messages.specs.declared.message.Put.the-variants as puts
+use Rattle.node_messages.specs.CodeList.{codeListBytes}
+use Rattle.node_messages.specs.Information.{informationBytes}
+use Rattle.card_build.specs.declared.card.Card.{Card}
+use Rattle.card_build.specs.Card.{nodesOf}
+use Rattle.card_questions.specs.declared.keys.Checked.{Checked}
+use Rattle.card_questions.specs.declared.keys.Checked.the-variants as checks
+use Rattle.card_questions.specs.declared.listing.Listing.{Listing}
+use Rattle.card_questions.specs.declared.listing.Listing.the-variants as listings
+use Rattle.card_questions.specs.Directory.{directoryOf, directoryAnswer}
+use Rattle.card_lists.specs.Packet.{codeListOf, codeListPut}
+use Rattle.card_lists.specs.Information.{blocksOf, blocksPut}
+use Rattle.request_block.specs.Block.{storedBlock}
+use Rattle.line_answer.specs.Answer.{closed}
+use Rattle.inspect_fields.specs.Fields.{fourDigits, refusalFields}
+
+-- `list`, `info`: the message's bytes, where the writer wrote them
+abbrev pub putFields : List ℕ → Put → List ℕ
+putFields message (puts.Bytes n) = closed 10 (hexText message)
+putFields message (puts.Refused refusal) = refusalFields refusal
+
+unfoldable pub listFields : Card → ℕ → ℕ → ℕ → List ℕ
+listFields c parent p room = putFields (codeListBytes (codeListOf c parent p .list)) (codeListPut c parent p room)
+
+unfoldable pub infoFields : Card → ℕ → List ℕ → ℕ → List ℕ
+infoFields c arenaLen asked room = putFields (informationBytes (blocksOf c arenaLen asked .told)) (blocksPut c arenaLen asked room)
+
+-- `total`: a decimal; `ver`: four digits
+abbrev pub totalFields : Told → List ℕ
+totalFields (tolds.Number n) = closed 10 (decText n)
+totalFields (tolds.Refused refusal) = refusalFields refusal
+
+abbrev pub versionFields : Told → List ℕ
+versionFields (tolds.Number n) = closed 10 (fourDigits (n ∷ []))
+versionFields (tolds.Refused refusal) = refusalFields refusal
+
+-- `dir`: pairs, where an output of so many numbers has room for one of each node
+abbrev pub listingFields : List ℕ → Listing → List ℕ
+listingFields pairs (listings.Listed n) = closed 10 (fourDigits pairs)
+listingFields pairs (listings.Refused refusal) = refusalFields refusal
+
+unfoldable pub directoryFields : Card → ℕ → List ℕ
+directoryFields c numbers = listingFields (directoryOf (nodesOf c)) (directoryAnswer c numbers)
+
+-- `areas`, `svcs`: `yes` or `no`
+abbrev pub checkedFields : Checked → List ℕ
+checkedFields checks.WellFormed = closed 10 (121 ∷ 101 ∷ 115 ∷ [])
+checkedFields checks.Malformed = closed 10 (110 ∷ 111 ∷ [])
+checkedFields (checks.Refused refusal) = refusalFields refusal
+
+-- `block`: the stored block, `-` if there is none
+abbrev pub blockFields : Card → List ℕ → ℕ → ℕ → List ℕ
+blockFields c a code number = closed 10 (hexText (storedBlock c a code number))
+
+-- `used`: the blocks in use
+abbrev pub usedFields : Card → List ℕ
+usedFields c = closed 10 (decText (c .used))

@@ -1,0 +1,105 @@
+// What a question prints: its name and the fields of its answer, or that it is unknown.
+mod card;
+mod message;
+
+use card_build::card::Card;
+use inspect_ask::Asked;
+use inspect_fields::attribute;
+use inspect_fields::put::least;
+use inspect_fields::put::put_word;
+use inspect_fields::read;
+ghost use mathlib.Core.Path.{_≡_};
+ghost use Prim.Native.Nat.{_+_, _≤_};
+ghost use lib.ListN.{length};
+ghost use Rattle.byte_parts.specs.Sizes.{mostPrinted};
+ghost use Rattle.text_stream.specs.Stream.{Written};
+ghost use Rattle.line_answer.specs.Answer.{closed};
+ghost use Rattle.inspect_ask.specs.declared.Question.the-variants.{Of};
+ghost use Rattle.inspect_ask.specs.Question.{mostRoom, questionOf};
+ghost use Rattle.inspect_fields.specs.Fields.{mostFields};
+ghost use Rattle.inspect_answer.specs.Answer.{nameOf, fieldsOf, answerText, unknownText};
+
+// Puts the name of a question and a tab into `out` from `at` on, and answers the place after them.
+fn put_name(asked: Asked, out: &mut [u8], at: usize) -> usize
+    requires { ⌜ at + 9 ≤ length (now out) ⌝ }
+    ensures { λ r. ⌜ Written (now (out .entry)) at (closed 9 (nameOf asked)) r (now (out .exit)) ⌝ }
+    ensures { λ r. ⌜ r ≤ at + 9 ⌝ }
+{
+    match asked {
+        Asked::List {
+            parent: _,
+            packet: _,
+        } => put_word(b"list", b'\t', out, at),
+        Asked::Info => put_word(b"info", b'\t', out, at),
+        Asked::ReadList => put_word(b"readlist", b'\t', out, at),
+        Asked::ReadInfo => put_word(b"readinfo", b'\t', out, at),
+        Asked::Total(_) => put_word(b"total", b'\t', out, at),
+        Asked::Version(_) => put_word(b"ver", b'\t', out, at),
+        Asked::Directory => put_word(b"dir", b'\t', out, at),
+        Asked::Areas => put_word(b"areas", b'\t', out, at),
+        Asked::Services => put_word(b"svcs", b'\t', out, at),
+        Asked::Block { code: _, number: _ } => put_word(b"block", b'\t', out, at),
+        Asked::Used => put_word(b"used", b'\t', out, at),
+        Asked::Attribute(_) => put_word(b"attr", b'\t', out, at),
+    }
+}
+
+// Puts the fields that answer a question into `out` from `at` on, and answers the place after them.
+fn put_fields(
+    asked: Asked,
+    card: Card,
+    arena: &[u8],
+    room: usize,
+    line: &[u8],
+    out: &mut [u8],
+    at: usize,
+) -> usize
+    requires { ⌜ (questionOf (now line) ≡ Of asked) × (room ≤ mostRoom) × (at + mostFields ≤ length (now out)) ⌝ }
+    ensures { λ r. ⌜ Written (now (out .entry)) at (fieldsOf card (now (arena .entry)) room (now (line .entry)) asked) r (now (out .exit)) ⌝ }
+    ensures { λ r. ⌜ r ≤ at + mostFields ⌝ }
+{
+    match asked {
+        Asked::List { parent, packet } => message::put_list(card, parent, packet, room, out, at),
+        Asked::Info => message::put_info(card, arena, room, line, out, at),
+        Asked::ReadList => read::put_read_list(line, out, at),
+        Asked::ReadInfo => read::put_read_info(line, out, at),
+        Asked::Total(code) => card::put_total(card, code, out, at),
+        Asked::Version(code) => card::put_version(card, code, out, at),
+        Asked::Directory => card::put_directory(card, room, out, at),
+        Asked::Areas => card::put_areas(card, line, out, at),
+        Asked::Services => card::put_services(card, line, out, at),
+        Asked::Block { code, number } => card::put_block(card, arena, code, number, out, at),
+        Asked::Used => card::put_used(card, out, at),
+        Asked::Attribute(code) => attribute::put_attribute(code, out, at),
+    }
+}
+
+// Puts the line that answers a question into `out` from `at` on, and answers the place after it. It is lent the first `lent` bytes of the
+// arena, and the first `room` of an output of 4,096.
+pub fn put_answer(
+    asked: Asked,
+    card: Card,
+    arena: &[u8],
+    lent: usize,
+    room: usize,
+    line: &[u8],
+    out: &mut [u8],
+    at: usize,
+) -> usize
+    requires { ⌜ (questionOf (now line) ≡ Of asked) × (at + mostPrinted ≤ length (now out)) ⌝ }
+    ensures { λ r. ⌜ Written (now (out .entry)) at (answerText card (now (arena .entry)) lent room (now (line .entry)) asked) r (now (out .exit)) × (r ≤ at + mostPrinted) ⌝ }
+{
+    let next = put_name(asked, out, at);
+    let n = least(lent, arena.len());
+    let most = least(room, 4096);
+    put_fields(asked, card, &arena[0..n], most, line, out, next)
+}
+
+// Puts the line of an unknown question, `?` and its line number, into `out` from `at` on, and answers the place after it.
+pub fn put_unknown(number: u64, out: &mut [u8], at: usize) -> usize
+    requires { ⌜ at + 23 ≤ length (now out) ⌝ }
+    ensures { λ r. ⌜ Written (now (out .entry)) at (unknownText number) r (now (out .exit)) × (r ≤ at + 23) ⌝ }
+{
+    let next = put_word(b"?", b'\t', out, at);
+    line_answer::put_number(number, b'\n', out, next)
+}

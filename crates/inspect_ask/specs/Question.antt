@@ -1,0 +1,143 @@
+-- What a question line asks, by its name and its fields; exactly so many, and no more than 32,768 bytes in all.
+use Prim.Native.Nat.{ℕ}
+use mathlib.Core.Bool.{cond}
+use mathlib.Core.List.{List, [], _∷_}
+use lib.Dec.{ltb}
+use lib.ListN.{length, getD}
+use Rattle.text_fields.specs.Field.{split}
+use Rattle.text_numbers.specs.declared.codes.Code.{Code}
+use Rattle.text_numbers.specs.declared.codes.Code.the-variants as codes
+use Rattle.text_numbers.specs.declared.decimals.Number.{Number}
+use Rattle.text_numbers.specs.declared.decimals.Number.the-variants as numbers
+use Rattle.text_numbers.specs.Hex.{hexField}
+use Rattle.text_numbers.specs.Codes.{codesField}
+use Rattle.line_image.specs.Line.{codeAt, numberAt, form}
+use Rattle.inspect_ask.specs.declared.Asked.{Asked}
+use Rattle.inspect_ask.specs.declared.Asked.the-variants as asks
+use Rattle.inspect_ask.specs.declared.Question.{Question}
+use Rattle.inspect_ask.specs.declared.Question.the-variants.{Unknown, Of, Room, Arena}
+
+-- the names of the questions, as bytes
+abbrev pub listName : List ℕ
+listName = 108 ∷ 105 ∷ 115 ∷ 116 ∷ []
+
+abbrev pub infoName : List ℕ
+infoName = 105 ∷ 110 ∷ 102 ∷ 111 ∷ []
+
+abbrev pub readlistName : List ℕ
+readlistName = 114 ∷ 101 ∷ 97 ∷ 100 ∷ 108 ∷ 105 ∷ 115 ∷ 116 ∷ []
+
+abbrev pub readinfoName : List ℕ
+readinfoName = 114 ∷ 101 ∷ 97 ∷ 100 ∷ 105 ∷ 110 ∷ 102 ∷ 111 ∷ []
+
+abbrev pub totalName : List ℕ
+totalName = 116 ∷ 111 ∷ 116 ∷ 97 ∷ 108 ∷ []
+
+abbrev pub verName : List ℕ
+verName = 118 ∷ 101 ∷ 114 ∷ []
+
+abbrev pub dirName : List ℕ
+dirName = 100 ∷ 105 ∷ 114 ∷ []
+
+abbrev pub areasName : List ℕ
+areasName = 97 ∷ 114 ∷ 101 ∷ 97 ∷ 115 ∷ []
+
+abbrev pub svcsName : List ℕ
+svcsName = 115 ∷ 118 ∷ 99 ∷ 115 ∷ []
+
+abbrev pub blockName : List ℕ
+blockName = 98 ∷ 108 ∷ 111 ∷ 99 ∷ 107 ∷ []
+
+abbrev pub usedName : List ℕ
+usedName = 117 ∷ 115 ∷ 101 ∷ 100 ∷ []
+
+abbrev pub attrName : List ℕ
+attrName = 97 ∷ 116 ∷ 116 ∷ 114 ∷ []
+
+abbrev pub roomName : List ℕ
+roomName = 114 ∷ 111 ∷ 111 ∷ 109 ∷ []
+
+abbrev pub arenaName : List ℕ
+arenaName = 97 ∷ 114 ∷ 101 ∷ 110 ∷ 97 ∷ []
+
+-- the most that `room` and `arena` may lend
+abbrev pub mostRoom : ℕ
+mostRoom = 4096
+
+abbrev pub mostArena : ℕ
+mostArena = 65536
+
+-- a question goes on with what a field says; a malformed field makes it unknown
+abbrev pub withCode : Code → (ℕ → Question) → Question
+withCode (codes.Is n) more = more n
+withCode codes.Bad more = Unknown
+
+abbrev pub withNumber : Number → (ℕ → Question) → Question
+withNumber (numbers.Is n) more = more n
+withNumber numbers.Bad more = Unknown
+
+-- `list` parent packet, of 32 bits
+unfoldable pub listLine : List (List ℕ) → Question
+listLine fs =
+    withCode (codeAt fs 1) (λ parent.
+    withNumber (numberAt fs 2 4294967295) (λ packet.
+    Of (asks.List parent packet)))
+
+-- `block` code number, of 32 bits
+unfoldable pub blockLine : List (List ℕ) → Question
+blockLine fs =
+    withCode (codeAt fs 1) (λ code.
+    withNumber (numberAt fs 2 4294967295) (λ number.
+    Of (asks.Block code number)))
+
+-- `total`, `ver`, `attr` code
+unfoldable pub totalLine : List (List ℕ) → Question
+totalLine fs = withCode (codeAt fs 1) (λ code. Of (asks.Total code))
+
+unfoldable pub versionLine : List (List ℕ) → Question
+versionLine fs = withCode (codeAt fs 1) (λ code. Of (asks.Version code))
+
+unfoldable pub attributeLine : List (List ℕ) → Question
+attributeLine fs = withCode (codeAt fs 1) (λ code. Of (asks.Attribute code))
+
+-- codes joined, or bytes in hex, in field 1
+unfoldable pub codesLine : Asked → List (List ℕ) → Question
+codesLine asked fs = cond (codesField (getD fs 1 [])) (Of asked) Unknown
+
+unfoldable pub bytesLine : Asked → List (List ℕ) → Question
+bytesLine asked fs = cond (hexField (getD fs 1 [])) (Of asked) Unknown
+
+-- `room` and `arena` length
+unfoldable pub roomLine : List (List ℕ) → Question
+roomLine fs = withNumber (numberAt fs 1 mostRoom) Room
+
+unfoldable pub arenaLine : List (List ℕ) → Question
+arenaLine fs = withNumber (numberAt fs 1 mostArena) Arena
+
+-- each name with its number of fields; what has none of them is unknown
+unfoldable pub lentAsked : List (List ℕ) → Question
+lentAsked fs =
+    cond (form roomName 2 fs) (roomLine fs)
+    (cond (form arenaName 2 fs) (arenaLine fs) Unknown)
+
+unfoldable pub cardAsked : List (List ℕ) → Question
+cardAsked fs =
+    cond (form totalName 2 fs) (totalLine fs)
+    (cond (form verName 2 fs) (versionLine fs)
+    (cond (form dirName 1 fs) (Of asks.Directory)
+    (cond (form areasName 2 fs) (codesLine asks.Areas fs)
+    (cond (form svcsName 2 fs) (codesLine asks.Services fs)
+    (cond (form blockName 3 fs) (blockLine fs)
+    (cond (form usedName 1 fs) (Of asks.Used)
+    (cond (form attrName 2 fs) (attributeLine fs) (lentAsked fs))))))))
+
+unfoldable pub messageAsked : List (List ℕ) → Question
+messageAsked fs =
+    cond (form listName 3 fs) (listLine fs)
+    (cond (form infoName 2 fs) (codesLine asks.Info fs)
+    (cond (form readlistName 2 fs) (bytesLine asks.ReadList fs)
+    (cond (form readinfoName 2 fs) (bytesLine asks.ReadInfo fs) (cardAsked fs))))
+
+-- a line of at most 32,768 bytes, its fields parted by tabs (9)
+unfoldable pub questionOf : List ℕ → Question
+questionOf line = cond (ltb 32768 (length line)) Unknown (messageAsked (split 9 line))

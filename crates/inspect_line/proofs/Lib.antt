@@ -1,0 +1,2 @@
+-- What a line comes to, by what it is taken for.
+mod Looks

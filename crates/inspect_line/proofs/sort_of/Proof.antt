@@ -1,0 +1,36 @@
+-- `inspect_line::sort_of` meets its contract, by the phase. Assumes nothing.
+use borrow.Author.Needs.{needs}
+use Rattle.inspect_line.specs.Inspect.{sortOf}
+use Rattle.inspect_line.proofs.sort_of.Statement.{statement}
+use Rattle.inspect_line.proofs.sort_of.Tie as tie
+
+returns : tie.Need-returns
+unfolding sortOf
+returns c = rw (c .enum-told .given .1)
+
+returns-2 : tie.Need-returns-2
+unfolding sortOf
+returns-2 c = rw (c .before .enum-told2 .given .1) (c .later-sort .ensures)
+
+returns-3 : tie.Need-returns-3
+unfolding sortOf
+returns-3 c = rw (c .before .enum-told3 .given .1) (c .later-sort2 .ensures)
+
+returns-4 : tie.Need-returns-4
+unfolding sortOf
+returns-4 c = rw (c .enum-told4 .given .1)
+
+pub sort-of-spec : {M : Type 1} → statement M
+sort-of-spec =
+    tie.close
+    (tie.spec
+    (λ c. search needs)
+    (λ c. search needs)
+    (λ c κs. search needs)
+    (λ c. search needs)
+    (λ c κs. search needs)
+    (λ c. search needs)
+    returns
+    returns-2
+    returns-3
+    returns-4)

@@ -1,0 +1,23 @@
+-- `inspect_shell::inspect` meets its contract: the arena that it lends is zero. Assumes nothing.
+use borrow.Author.Needs.{needs}
+use Rattle.inspect_shell.proofs.inspect.Statement.{statement}
+use Rattle.inspect_shell.proofs.inspect.Tie as tie
+
+run-requires : tie.Need-run-requires
+run-requires c κs = search needs
+
+returns : tie.Need-returns
+returns c = c .before .before .before .before .before .before .run .ensures
+
+pub inspect-spec : {M : Type 1} → statement M
+inspect-spec =
+    tie.close
+    (tie.spec
+    (λ c. search needs)
+    (λ c. search needs)
+    (λ c. search needs)
+    (λ c. search needs)
+    (λ c. search needs)
+    (λ c. search needs)
+    run-requires
+    returns)

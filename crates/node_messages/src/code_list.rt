@@ -1,0 +1,126 @@
+// The code list message (`RequestCodeListResult` of the Rust): one packet of an area's children.
+use crate::message::Put;
+use crate::numbers;
+use answers::refusal::Answer;
+use answers::refusal::Refusal;
+ghost use mathlib.Core.Path.{_≡_};
+ghost use lib.ListN.{length};
+ghost use Rattle.node_messages.specs.Message.{putOf, outputAfter};
+ghost use Rattle.node_messages.specs.CodeList.{emptyList, listRefused, flagOf, codeListBytes, isCodeList, readCodeList};
+
+// Whether more packets follow; how many areas this one has, with code and end of each; how many services, with their codes. Entries
+// past their count are 0.
+pub struct CodeList {
+    pub more: bool,
+    pub areas: usize,
+    pub ranges: [u16; 32],
+    pub services: usize,
+    pub codes: [u16; 16],
+}
+
+// A code list, or why there is none; the list is then the empty one.
+pub struct Listed {
+    pub list: CodeList,
+    pub answer: Answer,
+}
+
+impl CodeList {
+    // The list of no entries, the last one.
+    pub fn empty() -> Self
+        ensures { λ r. ⌜ r ≡ emptyList ⌝ }
+    {
+        CodeList {
+            more: false,
+            areas: 0,
+            ranges: [0u16; 32],
+            services: 0,
+            codes: [0u16; 16],
+        }
+    }
+}
+
+impl Listed {
+    // No list, and why.
+    pub fn refused(refusal: Refusal) -> Self
+        ensures { λ r. ⌜ r ≡ listRefused refusal ⌝ }
+    {
+        Listed {
+            list: CodeList::empty(),
+            answer: Answer::Refused(refusal),
+        }
+    }
+}
+
+// A flag as its byte.
+fn flag(more: bool) -> u8
+    ensures { λ r. ⌜ r ≡ flagOf more ⌝ }
+{
+    if more { 1 } else { 0 }
+}
+
+// Writes a code list: flag, area count, code and end of each, service count, codes. A list that counts more than sixteen entries is
+// cut to them. The output beyond the message stays as it was.
+pub fn put_code_list(list: CodeList, out: &mut [u8]) -> Put
+    ensures { λ r. ⌜ r ≡ putOf (codeListBytes list) (length (now (out .entry))) ⌝ }
+    ensures { λ _. ⌜ now (out .exit) ≡ outputAfter (codeListBytes list) (now (out .entry)) ⌝ }
+{
+    let areas = numbers::at_most(list.areas, 16);
+    let services = numbers::at_most(list.services, 16 - areas);
+    let size = 3 + 4 * areas + 2 * services;
+    // refusal 5
+    if out.len() < size {
+        return Put::Refused(Refusal::ShortOutput);
+    }
+    out[0] = flag(list.more);
+    out[1] = areas as u8;
+    let ranges = list.ranges;
+    numbers::put_numbers(out, 2, &ranges[0..2 * areas]);
+    let at = 2 + 4 * areas;
+    out[at] = services as u8;
+    let codes = list.codes;
+    numbers::put_numbers(out, at + 1, &codes[0..services]);
+    Put::Bytes(size)
+}
+
+// Whether bytes are a code list: flag 0 or 1, at most sixteen entries, and no byte too few or left over.
+fn is_code_list(bytes: &[u8]) -> bool
+    ensures { λ r. ⌜ r ≡ isCodeList (now (bytes .entry)) ⌝ }
+{
+    let first = numbers::byte_at(bytes, 0);
+    let areas = numbers::byte_at(bytes, 1);
+    let services = numbers::byte_at(bytes, 2 + 4 * areas);
+    if 1 < first {
+        return false;
+    }
+    if 16 < areas + services {
+        return false;
+    }
+    bytes.len() == 3 + 4 * areas + 2 * services
+}
+
+// Reads a code list, or refuses with 47. Its codes are not judged.
+pub fn read_code_list(bytes: &[u8]) -> Listed
+    ensures { λ r. ⌜ r ≡ readCodeList (now (bytes .entry)) ⌝ }
+{
+    // refusal 47
+    if !is_code_list(bytes) {
+        return Listed::refused(Refusal::NotAMessage);
+    }
+    let first = numbers::byte_at(bytes, 0);
+    let areas = numbers::byte_at(bytes, 1);
+    let services = numbers::byte_at(bytes, 2 + 4 * areas);
+    let mut ranges = [0u16; 32];
+    numbers::read_numbers(bytes, 2, 2 * areas, &mut ranges[0..32]);
+    let mut codes = [0u16; 16];
+    numbers::read_numbers(bytes, 3 + 4 * areas, services, &mut codes[0..16]);
+    Listed {
+        list: CodeList {
+            more: first == 1,
+            areas,
+            ranges,
+            services,
+            codes,
+        },
+        answer: Answer::Done,
+    }
+}
