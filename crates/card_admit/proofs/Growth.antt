@@ -7,9 +7,9 @@ use Prim.Native.Nat.{ℕ, _+_, _≤_, _<_}
 use native.Mathlib.Omega.{arith}
 use lib.Dec.{leb, ltb}
 use lib.ListN.{length, getD}
-use borrow.Author.Tests.{leb-true, leb-false, ltb-false, le-ltb, le-leb}
+use borrow.Author.Tests.{leb-true, ltb-false, le-ltb, le-leb}
 use Rattle.answers.specs.declared.refusal.Refusal.{Refusal}
-use Rattle.answers.specs.declared.refusal.Refusal.the-variants.{TableFull, NoRoom, OverlapKindMismatch}
+use Rattle.answers.specs.declared.refusal.Refusal.the-variants.{NoRoom, OverlapKindMismatch}
 use Rattle.card_nodes.specs.declared.node.Node.{Node}
 use Rattle.card_nodes.specs.declared.find.Found.{Found}
 use Rattle.card_nodes.specs.declared.find.Found.the-variants.{At, Nothing}
@@ -20,7 +20,7 @@ use Rattle.card_admit.specs.declared.Placed.the-variants.{Store, Refused
 use Rattle.card_nodes.specs.Node.{rootNode, startOf, blocksOf}
 use Rattle.card_nodes.specs.Find.{sharedOf, parentOf}
 use Rattle.card_nodes.proofs.Searches.{Below, below-cond, parent-below}
-use Rattle.card_admit.specs.Admit.{isDepth, parentAt, areaFound, areaJudged, serviceUnder, sameKind, joinedTo, usable, newStore, storeOf, ifDone, serviceFound, placedOf}
+use Rattle.card_admit.specs.Admit.{isDepth, parentAt, serviceUnder, sameKind, joinedTo, usable, newStore, storeOf, ifDone, serviceFound, placedOf}
 
 -- a depth that a node other than the root may have
 pub record Deep (depth : ℕ) : Type 0 where
@@ -58,19 +58,8 @@ pub usable-most : (arenaLen : ℕ) → usable arenaLen ≤ 4096
 unfolding usable
 usable-most arenaLen = omega arith
 
--- an accepted area finds a record free
-pub area-room : (ns : List Node) (depth code end : ℕ) → areaJudged ns depth code end ≡ Done → length ns < 64
-unfolding areaJudged
-area-room ns depth code end e =
-    leb-false 64 (length ns) (not-full (leb 64 (length ns)) (areaFound ns code end (parentAt ns depth)) e)
-  where
-    not-full : (b : Bool) (x : Answer) → cond b (Refused TableFull) x ≡ Done → b ≡ false
-    not-full true x k = absurd (let z : _≡_ {A = ℕ} 0 1 = cc in (omega arith))
-    not-full false x k = refl
-
--- a service may come there: a record is free, and all that is left to say is which store it gets
+-- a service may come there: all that is left to say is which store it gets
 pub record Allowed (ns : List Node) (depth code : ℕ) : Type 0 where
-  pub room : length ns < 64
   pub gets : (used arenaLen blocks : ℕ) →
       placedOf ns used arenaLen depth code blocks ≡ storeOf ns used arenaLen code blocks (sharedOf ns code)
 
@@ -98,23 +87,22 @@ no-store e = absurd (let z : _≡_ {A = ℕ} 0 1 = cc in (omega arith))
 module _ (ns : List Node) (depth code : ℕ) {s b u : ℕ} where
   -- a parent under which it may come
   under : {p : ℕ} (store : Placed) (a : Answer) → serviceUnder (getD ns p rootNode) code ≡ a →
-      leb 64 (length ns) ≡ false → parentAt ns depth ≡ At p → ifDone a store ≡ Store s b u → Allowed ns depth code
+      parentAt ns depth ≡ At p → ifDone a store ≡ Store s b u → Allowed ns depth code
   unfolding placedOf
-  under store Done k h f e = record { room = leb-false 64 (length ns) h; gets = λ used arenaLen blocks. rw (h, f, k) }
-  under store (Refused r) k h f e = no-store e
+  under store Done k f e = record { gets = λ used arenaLen blocks. rw (f, k) }
+  under store (Refused r) k f e = no-store e
 
-  -- a free record and a parent
-  found : (used arenaLen blocks : ℕ) (full : Bool) (f : Found) → leb 64 (length ns) ≡ full → parentAt ns depth ≡ f →
-      cond full (NotPlaced TableFull) (serviceFound ns used arenaLen code blocks f) ≡ Store s b u → Allowed ns depth code
-  found used arenaLen blocks true f h k e = no-store e
-  found used arenaLen blocks false Nothing h k e = no-store e
-  found used arenaLen blocks false (At p) h k e =
-      under (storeOf ns used arenaLen code blocks (sharedOf ns code)) (serviceUnder (getD ns p rootNode) code) refl h k e
+  -- a parent
+  found : (used arenaLen blocks : ℕ) (f : Found) → parentAt ns depth ≡ f →
+      serviceFound ns used arenaLen code blocks f ≡ Store s b u → Allowed ns depth code
+  found used arenaLen blocks Nothing k e = no-store e
+  found used arenaLen blocks (At p) k e =
+      under (storeOf ns used arenaLen code blocks (sharedOf ns code)) (serviceUnder (getD ns p rootNode) code) refl k e
 
   -- a service that got a store may come there
   pub allowed : (used arenaLen blocks : ℕ) → placedOf ns used arenaLen depth code blocks ≡ Store s b u → Allowed ns depth code
   unfolding placedOf
-  allowed used arenaLen blocks e = found used arenaLen blocks (leb 64 (length ns)) (parentAt ns depth) refl refl e
+  allowed used arenaLen blocks e = found used arenaLen blocks (parentAt ns depth) refl e
 
   -- a store to join, of one kind
   join : (used j : ℕ) (k : Bool) → sharedOf ns code ≡ At j → sameKind (getD ns j rootNode .code) code ≡ k →

@@ -3,8 +3,8 @@ use Prim.Native.Nat.{ℕ, _+_, _/_, _%_, min}
 use mathlib.Core.List.{List}
 use mathlib.Core.Bool.{Bool, true, false, cond, not, _&&_}
 use lib.Dec.{eqb, ltb, leb}
-use lib.ListN.{length, getD}
-use Rattle.answers.specs.declared.refusal.Refusal.the-variants.{InvalidAreaRange, InvalidRootAreaRange, NodeCodeOutOfRange, InvalidAreaAttribute, ChildAreaForbidden, UndefinedServiceAttribute, ServiceOutOfRange, AreaOutOfRange, OverlapKindMismatch, TableFull, NoParent, NoRoom}
+use lib.ListN.{getD}
+use Rattle.answers.specs.declared.refusal.Refusal.the-variants.{InvalidAreaRange, InvalidRootAreaRange, NodeCodeOutOfRange, InvalidAreaAttribute, ChildAreaForbidden, UndefinedServiceAttribute, ServiceOutOfRange, AreaOutOfRange, OverlapKindMismatch, NoParent, NoRoom}
 use Rattle.service_code.specs.declared.code.ServiceKind.the-variants.{Random, Cyclic, Purse}
 use Rattle.service_code.specs.declared.code.Decoded.{Decoded}
 use Rattle.service_code.specs.declared.code.Decoded.the-variants.{Defined, Undefined}
@@ -56,9 +56,9 @@ abbrev pub areaFound : List Node → ℕ → ℕ → Found → Answer
 areaFound ns code end Nothing = Refused NoParent
 areaFound ns code end (At p) = areaUnder (getD ns p rootNode) code end
 
--- 20, 21, then those of an area
+-- an area after the nodes that are there
 unfoldable pub areaJudged : List Node → ℕ → ℕ → ℕ → Answer
-areaJudged ns depth code end = cond (leb 64 (length ns)) (Refused TableFull) (areaFound ns code end (parentAt ns depth))
+areaJudged ns depth code end = areaFound ns code end (parentAt ns depth)
 
 abbrev pub isUndefined : Decoded → Bool
 isUndefined Undefined = true
@@ -130,7 +130,6 @@ serviceFound ns used arenaLen code blocks Nothing = NotPlaced NoParent
 serviceFound ns used arenaLen code blocks (At p) =
     placedUnder (getD ns p rootNode) (firstIn ns (sharedOf ns code)) used arenaLen code blocks
 
--- 20, 21, then those of a service
+-- a service after them
 unfoldable pub placedOf : List Node → ℕ → ℕ → ℕ → ℕ → ℕ → Placed
-placedOf ns used arenaLen depth code blocks =
-    cond (leb 64 (length ns)) (NotPlaced TableFull) (serviceFound ns used arenaLen code blocks (parentAt ns depth))
+placedOf ns used arenaLen depth code blocks = serviceFound ns used arenaLen code blocks (parentAt ns depth)

@@ -6,9 +6,9 @@ use Prim.Native.Nat.{ℕ, _-_, _*_, _/_, _≤_, _<_}
 use native.Mathlib.Omega.{arith}
 use lib.IntN.{ℤ}
 use lib.ListN.{replicate, set}
-use borrow.Author.Tests.{lt-ltb, le-ltb}
+use borrow.Author.Tests.{lt-ltb, le-ltb, lt-leb, le-leb}
 use Rattle.answers.specs.declared.refusal.Refusal.{Refusal}
-use Rattle.answers.specs.declared.refusal.Refusal.the-variants.{NotBuilt, ShortArena, NotAService}
+use Rattle.answers.specs.declared.refusal.Refusal.the-variants.{TableFull, NotBuilt, ShortArena, NotAService}
 use Rattle.service_code.specs.declared.limit.Limit.{Limit}
 use Rattle.service_code.specs.declared.limit.Limit.the-variants.{Unlimited, Limited}
 use Rattle.byte_parts.specs.Part.{put}
@@ -30,17 +30,22 @@ module _ (c : Card) (depth code end version : ℕ) where
   unfolding areaAdded
   area-unsound h = rw h
 
-  -- a refusal of the judge's
-  pub area-refused : {r : Refusal} → isSound c ≡ true → areaJudged (nodesOf c) depth code end ≡ Refused r →
+  -- then 20
+  pub area-full : isSound c ≡ true → 64 ≤ c .count → refused c TableFull ≡ areaAdded c depth code end version
+  unfolding areaAdded addArea
+  area-full h f = rw (h, le-leb 64 (c .count) f)
+
+  -- then those of the judge
+  pub area-refused : {r : Refusal} → isSound c ≡ true → c .count < 64 → areaJudged (nodesOf c) depth code end ≡ Refused r →
       refused c r ≡ areaAdded c depth code end version
   unfolding areaAdded addArea
-  area-refused h e = rw (h, e)
+  area-refused h f e = rw (h, lt-leb 64 (c .count) f, e)
 
   -- the area comes next, and no block more is in use
-  pub area-done : isSound c ≡ true → areaJudged (nodesOf c) depth code end ≡ Done →
+  pub area-done : isSound c ≡ true → c .count < 64 → areaJudged (nodesOf c) depth code end ≡ Done →
       accepted (grown c (nodeAs depth code version (Area end)) (c .used)) ≡ areaAdded c depth code end version
   unfolding areaAdded addArea
-  area-done h e = rw (h, e)
+  area-done h f e = rw (h, lt-leb 64 (c .count) f, e)
 
 module _ (c : Card) (arenaLen depth code blocks version : ℕ) where
   -- refusal 8
@@ -53,18 +58,24 @@ module _ (c : Card) (arenaLen depth code blocks version : ℕ) where
   unfolding serviceAdded addService
   service-short h k = rw (h, lt-ltb arenaLen (16 * c .used) (omega arith))
 
+  -- then 20
+  pub service-full : isSound c ≡ true → c .used ≤ arenaLen / 16 → 64 ≤ c .count →
+      refused c TableFull ≡ serviceAdded c arenaLen depth code blocks version
+  unfolding serviceAdded addService
+  service-full h k f = rw (h, le-ltb arenaLen (16 * c .used) (omega arith), le-leb 64 (c .count) f)
+
   -- then those of the placing
-  pub service-refused : {r : Refusal} → isSound c ≡ true → c .used ≤ arenaLen / 16 →
+  pub service-refused : {r : Refusal} → isSound c ≡ true → c .used ≤ arenaLen / 16 → c .count < 64 →
       placedOf (nodesOf c) (c .used) arenaLen depth code blocks ≡ NotPlaced r → refused c r ≡ serviceAdded c arenaLen depth code blocks version
   unfolding serviceAdded addService
-  service-refused h k e = rw (h, le-ltb arenaLen (16 * c .used) (omega arith), e)
+  service-refused h k f e = rw (h, le-ltb arenaLen (16 * c .used) (omega arith), lt-leb 64 (c .count) f, e)
 
   -- the service comes next, with the store that it was given
-  pub service-stored : {s b u : ℕ} → isSound c ≡ true → c .used ≤ arenaLen / 16 →
+  pub service-stored : {s b u : ℕ} → isSound c ≡ true → c .used ≤ arenaLen / 16 → c .count < 64 →
       placedOf (nodesOf c) (c .used) arenaLen depth code blocks ≡ Store s b u →
       accepted (grown c (nodeAs depth code version (Service s b Unlimited)) u) ≡ serviceAdded c arenaLen depth code blocks version
   unfolding serviceAdded addService
-  service-stored h k e = rw (h, le-ltb arenaLen (16 * c .used) (omega arith), e)
+  service-stored h k f e = rw (h, le-ltb arenaLen (16 * c .used) (omega arith), lt-leb 64 (c .count) f, e)
 
 module _ (c : Card) (arena : List ℕ) {x a : Added} (e : x ≡ a) where
   -- the blocks in use before an addition and after it say what becomes of the arena
@@ -98,7 +109,6 @@ module _ (c : Card) (upper lower : ℤ) (generation : ℕ) where
         count = c .count;
         used = c .used;
         system = c .system;
-        version = c .version;
       })
       ≡ limitAdded c upper lower generation
   unfolding limitAdded setLimit

@@ -8,12 +8,17 @@ use Rattle.card_nodes.specs.declared.node.Node.{Node}
 use Rattle.answers.specs.declared.refusal.Answer.the-variants.{Done, Refused}
 use Rattle.card_nodes.specs.Node.{rootNode}
 use Rattle.card_sound.specs.Sound.{soundOf}
+use Rattle.card_build.specs.declared.card.System.{System}
 use Rattle.card_build.specs.declared.card.Card.{Card}
 use Rattle.card_build.specs.declared.card.Added.{Added}
 
+-- a system's code and key version
+abbrev pub systemOf : ℕ → ℕ → System
+systemOf code version = record { code = code; version = version }
+
 -- the root alone; unused records read the same
-abbrev pub newCard : ℕ → ℕ → Card
-newCard system version = record { nodes = replicate 64 rootNode; count = 1; used = 0; system = system; version = version }
+abbrev pub newCard : System → Card
+newCard system = record { nodes = replicate 64 rootNode; count = 1; used = 0; system = system }
 
 -- the nodes of the card's system, in tree order
 abbrev pub nodesOf : Card → List Node
@@ -25,7 +30,7 @@ isSound c = soundOf (c .nodes) (c .count) (c .used)
 
 -- the card with one record more
 abbrev pub grown : Card → Node → ℕ → Card
-grown c n used = record { nodes = set (c .nodes) (c .count) n; count = c .count + 1; used = used; system = c .system; version = c .version }
+grown c n used = record { nodes = set (c .nodes) (c .count) n; count = c .count + 1; used = used; system = c .system }
 
 abbrev pub accepted : Card → Added
 accepted c = record { card = c; answer = Done }

@@ -1,10 +1,10 @@
 -- The additions and the limit, on a card that is sound.
 use Prim.Native.Nat.{ℕ, _+_, _-_, _*_}
 use mathlib.Core.Bool.{cond}
-use lib.Dec.{ltb}
+use lib.Dec.{ltb, leb}
 use lib.IntN.{ℤ}
 use lib.ListN.{getD, set}
-use Rattle.answers.specs.declared.refusal.Refusal.the-variants.{ShortArena, NotAService}
+use Rattle.answers.specs.declared.refusal.Refusal.the-variants.{TableFull, ShortArena, NotAService}
 use Rattle.service_code.specs.declared.limit.Limit.{Limit}
 use Rattle.service_code.specs.declared.limit.Limit.the-variants.{Unlimited, Limited}
 use Rattle.card_nodes.specs.declared.node.Entry.{Entry}
@@ -29,20 +29,23 @@ abbrev pub areaBy : Card → Node → Answer → Added
 areaBy c n (Refused r) = refused c r
 areaBy c n Done = accepted (grown c n (c .used))
 
--- 20, 21, then those of an area
+-- 20: no record of the card is free; then those of the judging
 unfoldable pub addArea : Card → ℕ → ℕ → ℕ → ℕ → Added
-addArea c depth code end version = areaBy c (nodeAs depth code version (Area end)) (areaJudged (nodesOf c) depth code end)
+addArea c depth code end version =
+    cond (leb 64 (c .count)) (refused c TableFull)
+    (areaBy c (nodeAs depth code version (Area end)) (areaJudged (nodesOf c) depth code end))
 
 -- and so does a refused service, by 19 too
 abbrev pub serviceBy : Card → ℕ → ℕ → ℕ → Placed → Added
 serviceBy c depth code version (NotPlaced r) = refused c r
 serviceBy c depth code version (Store s b used) = accepted (grown c (nodeAs depth code version (Service s b Unlimited)) used)
 
--- 7 ahead of the others, for an arena of `arenaLen` bytes
+-- 7 ahead of the others, for an arena of `arenaLen` bytes; then 20, then those of the placing
 unfoldable pub addService : Card → ℕ → ℕ → ℕ → ℕ → ℕ → Added
 addService c arenaLen depth code blocks version =
     cond (ltb arenaLen (16 * c .used)) (refused c ShortArena)
-    (serviceBy c depth code version (placedOf (nodesOf c) (c .used) arenaLen depth code blocks))
+    (cond (leb 64 (c .count)) (refused c TableFull)
+    (serviceBy c depth code version (placedOf (nodesOf c) (c .used) arenaLen depth code blocks)))
 
 -- the node added last
 abbrev pub lastOf : Card → Node
@@ -56,7 +59,6 @@ limitBy c l (Service s b old) = accepted (record {
   count = c .count;
   used = c .used;
   system = c .system;
-  version = c .version;
 })
 
 -- a limit goes to the node added last and replaces an earlier one; any two bounds are accepted

@@ -52,6 +52,10 @@ impl Card {
         let nodes = self.nodes;
         let count = self.count;
         let used = self.used;
+        // 20
+        if 64 <= count {
+            return refuse(self, Refusal::TableFull);
+        }
         match fits::judge_area(nodes, count, depth, code, end) {
             Answer::Refused(refusal) => refuse(self, refusal),
             Answer::Done => self.grow(
@@ -83,6 +87,7 @@ impl Card {
         let count = self.count;
         let used = self.used;
         let short = arena.len() / 16 < used;
+        let full = 64 <= count;
         // 8
         if !sound {
             return refuse(self, Refusal::NotBuilt);
@@ -90,6 +95,10 @@ impl Card {
         // 7
         if short {
             return refuse(self, Refusal::ShortArena);
+        }
+        // 20
+        if full {
+            return refuse(self, Refusal::TableFull);
         }
         match fits::place_service(nodes, count, used, arena.len(), depth, code, blocks) {
             Placed::Refused(refusal) => refuse(self, refusal),

@@ -4,13 +4,18 @@ use card_nodes::node::Node;
 ghost use mathlib.Core.Path.{_≡_};
 ghost use Rattle.card_build.specs.Card.{newCard, isSound};
 
+// The system of a card: its code and its key version.
+pub struct System {
+    pub code: u16,
+    pub version: u16,
+}
+
 // A card: 64 records of which `count` are taken, root first, and how many blocks of the arena are in use.
 pub struct Card {
     pub nodes: [Node; 64],
     pub count: usize,
     pub used: usize,
-    pub system: u16,
-    pub version: u16,
+    pub system: System,
 }
 
 // A card handed back, and how the call on it ended.
@@ -21,8 +26,8 @@ pub struct Added {
 
 impl Card {
     // A card of a system with nothing but its root.
-    pub fn new(system: u16, version: u16) -> Self
-        ensures { λ r. ⌜ r ≡ newCard system version ⌝ }
+    pub fn new(system: System) -> Self
+        ensures { λ r. ⌜ r ≡ newCard system ⌝ }
     {
         let root = Node::root();
         Self {
@@ -30,7 +35,6 @@ impl Card {
             count: 1,
             used: 0,
             system,
-            version,
         }
     }
 

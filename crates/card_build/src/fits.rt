@@ -1,4 +1,4 @@
-// What may follow the nodes that are there: a new node's parent, and its refusals from 20 on.
+// What may follow the nodes that are there: a new node's parent, and its refusals from 21 on.
 use answers::refusal::Answer;
 use answers::refusal::Refusal;
 use card_admit::First;
@@ -9,9 +9,7 @@ use card_nodes::find::Found;
 use card_nodes::node::Entry;
 use card_nodes::node::Node;
 ghost use mathlib.Core.Path.{_≡_};
-ghost use mathlib.Core.Bool.{cond};
 ghost use lib.ListN.{take};
-ghost use Rattle.answers.specs.declared.refusal.Refusal.the-variants.{TableFull, NoParent};
 ghost use Rattle.card_nodes.specs.Find.{sharedOf, parentOf, openAt};
 ghost use Rattle.card_admit.specs.Admit.{parentAt, areaJudged, firstIn, placedOf};
 
@@ -60,30 +58,14 @@ fn parent_at(nodes: [Node; 64], count: usize, depth: u32) -> Found
     find_parent(nodes, count, depth as u8)
 }
 
-// The refusal of a node without a parent: 20 where the table is full, and else 21.
-fn parentless(full: bool) -> Refusal
-    ensures { λ r. ⌜ r ≡ cond full TableFull NoParent ⌝ }
-{
-    if full {
-        Refusal::TableFull
-    } else {
-        Refusal::NoParent
-    }
-}
-
 // The refusal of an area from `code` to `end` at `depth` after `count` nodes, or none.
 pub fn judge_area(nodes: [Node; 64], count: usize, depth: u32, code: u16, end: u16) -> Answer
     ensures { λ r. ⌜ r ≡ areaJudged (take count nodes) depth code end ⌝ }
 {
-    let full = 64 <= count;
-    // 20, then 21
+    // 21
     let Found::At(p) = parent_at(nodes, count, depth) else {
-        return Answer::Refused(parentless(full));
+        return Answer::Refused(Refusal::NoParent);
     };
-    // 20
-    if full {
-        return Answer::Refused(Refusal::TableFull);
-    }
     let above = nodes[p];
     card_admit::area_under(above, code, end)
 }
@@ -113,15 +95,10 @@ pub fn place_service(
 ) -> Placed
     ensures { λ r. ⌜ r ≡ placedOf (take count nodes) used «arena_len» depth code blocks ⌝ }
 {
-    let full = 64 <= count;
-    // 20, then 21
+    // 21
     let Found::At(p) = parent_at(nodes, count, depth) else {
-        return Placed::Refused(parentless(full));
+        return Placed::Refused(Refusal::NoParent);
     };
-    // 20
-    if full {
-        return Placed::Refused(Refusal::TableFull);
-    }
     let above = nodes[p];
     card_admit::placed_under(
         above,

@@ -15,7 +15,7 @@ use Rattle.card_nodes.specs.Node.{rootNode}
 use Rattle.card_sound.specs.declared.Step.{Step}
 use Rattle.card_sound.specs.declared.Step.the-variants.{Goes, Stops}
 use Rattle.card_sound.specs.Sound.{rootEnd, isRoot, allRoots, stepsFrom, stepsOf, endsAt, soundOf}
-use Rattle.card_laws.proofs.Made.{Made, made-few, steps-made, made-gone}
+use Rattle.card_laws.proofs.Made.{Made, steps-made, made-gone}
 use Rattle.card_laws.proofs.Cards.{records}
 
 -- unused records
@@ -34,11 +34,11 @@ sound-yes ms used h e =
     simp (some, few, drop-append-seam, roots, take-append-seam, e, eq-eqb used used refl)
 
 -- it says yes of the nodes that were made
-pub made-sound : {ns : List Node} {used : ℕ} → Made ns used → soundOf (records ns) (length ns) used ≡ true
-made-sound {used = used} m =
+pub made-sound : {ns : List Node} {used : ℕ} → Made ns used → length ns ≤ 64 → soundOf (records ns) (length ns) used ≡ true
+made-sound {used = used} m h =
     let g = made-gone m in
     subst (λ (l : List Node). soundOf (records l) (length l) used ≡ true) (sym (g .rooted))
-    (sound-yes (g .rest) used (rw (g .rooted) at (made-few m)) (g .goes))
+    (sound-yes (g .rest) used (rw (g .rooted) at h) (g .goes))
 
 -- what is left where a test went on
 yes-then : (a : Bool) {x : Bool} → cond (not a) false x ≡ true → (a ≡ true) × (x ≡ true)
@@ -82,7 +82,7 @@ all-roots (n ∷ ns) h =
 
 -- the nodes of 64 records of which it says yes were made
 pub sound-made : (nodes : List Node) (count used : ℕ) → length nodes ≡ 64 → soundOf nodes count used ≡ true →
-    (ns : List Node) × Made ns used × (nodes ≡ records ns) × (count ≡ length ns)
+    (ns : List Node) × Made ns used × (nodes ≡ records ns) × (count ≡ length ns) × (length ns ≤ 64)
 unfolding soundOf stepsOf
 sound-made [] count used h e = absurd (omega arith)
 sound-made (x ∷ xs) zero used h e = absurd (false≢true e)
@@ -100,4 +100,5 @@ sound-made (x ∷ xs) (suc k) used h e =
       steps-made (take k xs) Made.root (rw r at (ends (stepsFrom (x ∷ []) 0 (take k xs)) used (rest .1))),
       rw (r, count) (ap (λ l. rootNode ∷ l) (sym (take-append-drop k xs) ∙ ap (λ l. take k xs ++ l) unused)),
       rw count,
+      omega (arith, small, count),
     )

@@ -85,8 +85,8 @@ kept-limit ns depth code version s b old new =
     }
 
 follows-kept : {c c′ : Card} → Follows c c′ → Kept (nodesOf c) (nodesOf c′)
-follows-kept (Follows.added system key used ns n m) = simp take-append-seam (kept-added ns n)
-follows-kept (Follows.limited system key ns depth code version s b old new m) =
+follows-kept (Follows.added system used ns n m h) = simp take-append-seam (kept-added ns n)
+follows-kept (Follows.limited system ns depth code version s b old new m h) =
     simp take-append-seam (kept-limit ns depth code version s b old new)
 
 module _ {c c′ : Card} (b : Built c) where

@@ -26,7 +26,7 @@ use Rattle.card_build.specs.declared.card.Card.{Card}
 use Rattle.card_build.specs.Card.{nodesOf}
 use Rattle.card_build.specs.Grow.{nodeAs}
 use Rattle.card_laws.specs.Built.{Built}
-use Rattle.card_laws.proofs.Made.{Made, made-few, made-used}
+use Rattle.card_laws.proofs.Made.{Made, made-used}
 use Rattle.card_laws.proofs.Built.{Carded, carded, built-carded}
 use Rattle.card_laws.proofs.Places.{Known, area-deep, service-known, same-kind}
 
@@ -274,18 +274,16 @@ pub record Sized (c : Card) : Type 0 where
   pub most : c .used ≤ 4096
 
 carded-sized : {c : Card} → Carded c → Sized c
-carded-sized (carded system key {ns = ns} m) =
-    let few = made-few m in
-    record {
-      some = made-laid m .some;
-      few = few;
-      long = simp (length-append, length-replicate) (omega arith);
-      nodes = rw take-append-seam;
-      most = made-used m;
-    }
+carded-sized (carded system {ns = ns} m few) = record {
+  some = made-laid m .some;
+  few = few;
+  long = simp (length-append, length-replicate) (omega arith);
+  nodes = rw take-append-seam;
+  most = made-used m;
+}
 
 carded-laid : {c : Card} → Carded c → Laid (nodesOf c) (c .used)
-carded-laid (carded system key m) = rw take-append-seam (made-laid m)
+carded-laid (carded system m h) = rw take-append-seam (made-laid m)
 
 module _ {c : Card} (b : Built c) where
   -- the sizes of a card that is produced

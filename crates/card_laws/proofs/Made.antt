@@ -5,7 +5,6 @@ use mathlib.Core.List.{List, [], _∷_, _++_, append-nil}
 use Prim.Native.Nat.{ℕ, _≤_}
 use native.Mathlib.Omega.{arith}
 use lib.Dec.{eqb}
-use lib.ListN.{length, length-append}
 use lib.Seq.{append-snoc}
 use borrow.Author.Tests.{eq-eqb, eqb-true}
 use Rattle.service_code.specs.declared.limit.Limit.{Limit}
@@ -18,7 +17,7 @@ use Rattle.card_admit.specs.declared.Placed.{Placed}
 use Rattle.card_admit.specs.declared.Placed.the-variants.{Store, Refused as NotPlaced}
 use Rattle.card_nodes.specs.Node.{rootNode}
 use Rattle.card_admit.specs.Admit.{areaJudged, placedOf}
-use Rattle.card_admit.proofs.Growth.{area-room, allowed, used-most}
+use Rattle.card_admit.proofs.Growth.{used-most}
 use Rattle.card_sound.specs.declared.Step.{Step}
 use Rattle.card_sound.specs.declared.Step.the-variants.{Goes, Stops}
 use Rattle.card_sound.specs.Sound.{areaStep, serviceStep, stepBy, stepOf, thenStep, stepsFrom}
@@ -31,13 +30,6 @@ pub data Made : List Node → ℕ → Type 0 where
       Made (ns ++ (nodeAs depth code version (Area end) ∷ [])) used
   service : {ns : List Node} {used s b u : ℕ} (depth code version : ℕ) (limit : Limit) → Made ns used →
       placedOf ns used 65536 depth code b ≡ Store s b u → Made (ns ++ (nodeAs depth code version (Service s b limit) ∷ [])) u
-
--- at most 64 nodes
-pub made-few : {ns : List Node} {used : ℕ} → Made ns used → length ns ≤ 64
-made-few Made.root = omega arith
-made-few (Made.area {ns = ns} depth code end version m e) = simp length-append (omega (arith, area-room ns depth code end e))
-made-few (Made.service {ns = ns} {used = used} {b = b} depth code version l m e) =
-    simp length-append (omega (arith, allowed ns depth code used 65536 b e .room))
 
 -- at most 4,096 blocks in use
 pub made-used : {ns : List Node} {used : ℕ} → Made ns used → used ≤ 4096

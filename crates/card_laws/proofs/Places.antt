@@ -4,10 +4,10 @@ use mathlib.Core.Bool.{Bool, true, false, cond}
 use mathlib.Core.List.{List}
 use Prim.Native.Nat.{ℕ}
 use native.Mathlib.Omega.{arith}
-use lib.Dec.{eqb, ltb, leb}
-use lib.ListN.{length, getD}
+use lib.Dec.{eqb, ltb}
+use lib.ListN.{getD}
 use borrow.Author.Tests.{eqb-true}
-use Rattle.answers.specs.declared.refusal.Refusal.the-variants.{NodeCodeOutOfRange, UndefinedServiceAttribute, TableFull}
+use Rattle.answers.specs.declared.refusal.Refusal.the-variants.{NodeCodeOutOfRange, UndefinedServiceAttribute}
 use Rattle.service_code.specs.declared.code.ServiceAttribute.{ServiceAttribute}
 use Rattle.service_code.specs.declared.code.ServiceKind.the-variants.{Random, Cyclic, Purse}
 use Rattle.service_code.specs.declared.code.Decoded.{Decoded}
@@ -21,7 +21,7 @@ use Rattle.card_nodes.specs.declared.find.Found.the-variants.{At, Nothing}
 use Rattle.answers.specs.declared.refusal.Answer.{Answer}
 use Rattle.answers.specs.declared.refusal.Answer.the-variants.{Done, Refused}
 use Rattle.card_admit.specs.declared.Placed.{Placed}
-use Rattle.card_admit.specs.declared.Placed.the-variants.{Store, Refused as NotPlaced}
+use Rattle.card_admit.specs.declared.Placed.the-variants.{Store}
 use Rattle.card_nodes.specs.Node.{rootNode}
 use Rattle.card_admit.proofs.Growth.{Deep, parent-deep}
 use Rattle.card_admit.specs.Admit.{parentAt, areaFound, areaJudged, isUndefined, serviceUnder, kindNumber, sameKind, ifDone, serviceFound, placedOf}
@@ -29,12 +29,11 @@ use Rattle.card_admit.specs.Admit.{parentAt, areaFound, areaJudged, isUndefined
 -- an area that is accepted
 pub area-deep : (ns : List Node) (depth code end : ℕ) → areaJudged ns depth code end ≡ Done → Deep depth
 unfolding areaJudged
-area-deep ns depth code end e = under (leb 64 (length ns)) (parentAt ns depth) refl e
+area-deep ns depth code end e = under (parentAt ns depth) refl e
   where
-    under : (full : Bool) (f : Found) → parentAt ns depth ≡ f → cond full (Refused TableFull) (areaFound ns code end f) ≡ Done → Deep depth
-    under true f q k = absurd (let z : _≡_ {A = ℕ} 0 1 = cc in (omega arith))
-    under false Nothing q k = absurd (let z : _≡_ {A = ℕ} 0 1 = cc in (omega arith))
-    under false (At p) q k = parent-deep ns depth q
+    under : (f : Found) → parentAt ns depth ≡ f → areaFound ns code end f ≡ Done → Deep depth
+    under Nothing q k = absurd (let z : _≡_ {A = ℕ} 0 1 = cc in (omega arith))
+    under (At p) q k = parent-deep ns depth q
 
 -- an attribute that is defined
 abbrev pub Known : ℕ → Type 0
@@ -54,17 +53,15 @@ under-known above code e = known _ (ltb 0xfffe code) (attributeOf code) refl e
 pub service-known : (ns : List Node) (used arenaLen depth code blocks : ℕ) {s b u : ℕ} → placedOf ns used arenaLen depth code blocks ≡ Store s b u →
     Deep depth × Known code
 unfolding placedOf
-service-known ns used arenaLen depth code blocks {s = s} {b = b} {u = u} e = under (leb 64 (length ns)) (parentAt ns depth) refl e
+service-known ns used arenaLen depth code blocks {s = s} {b = b} {u = u} e = under (parentAt ns depth) refl e
   where
     done : (p : Placed) (a : Answer) → ifDone a p ≡ Store s b u → a ≡ Done
     done p Done k = refl
     done p (Refused r) k = absurd (let z : _≡_ {A = ℕ} 0 1 = cc in (omega arith))
 
-    under : (full : Bool) (f : Found) → parentAt ns depth ≡ f →
-        cond full (NotPlaced TableFull) (serviceFound ns used arenaLen code blocks f) ≡ Store s b u → Deep depth × Known code
-    under true f q k = absurd (let z : _≡_ {A = ℕ} 0 1 = cc in (omega arith))
-    under false Nothing q k = absurd (let z : _≡_ {A = ℕ} 0 1 = cc in (omega arith))
-    under false (At p) q k =
+    under : (f : Found) → parentAt ns depth ≡ f → serviceFound ns used arenaLen code blocks f ≡ Store s b u → Deep depth × Known code
+    under Nothing q k = absurd (let z : _≡_ {A = ℕ} 0 1 = cc in (omega arith))
+    under (At p) q k =
         let above = getD ns p rootNode in
         (parent-deep ns depth q, under-known above code (done _ (serviceUnder above code) k))
 

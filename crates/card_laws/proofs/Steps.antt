@@ -97,24 +97,21 @@ parent-last ns depth {p = p} e =
 -- an area that is accepted
 area-last : (ns : List Node) (depth code end : ℕ) → areaJudged ns depth code end ≡ Done → depth ≤ deepestLast 0 ns
 unfolding areaJudged
-area-last ns depth code end e = under (leb 64 (length ns)) (parentAt ns depth) refl e
+area-last ns depth code end e = under (parentAt ns depth) refl e
   where
-    under : (full : Bool) (f : Found) → parentAt ns depth ≡ f → cond full (Refused TableFull) (areaFound ns code end f) ≡ Done → depth ≤ deepestLast 0 ns
-    under true f q k = absurd (let z : _≡_ {A = ℕ} 0 1 = cc in (omega arith))
-    under false Nothing q k = absurd (let z : _≡_ {A = ℕ} 0 1 = cc in (omega arith))
-    under false (At p) q k = parent-last ns depth q
+    under : (f : Found) → parentAt ns depth ≡ f → areaFound ns code end f ≡ Done → depth ≤ deepestLast 0 ns
+    under Nothing q k = absurd (let z : _≡_ {A = ℕ} 0 1 = cc in (omega arith))
+    under (At p) q k = parent-last ns depth q
 
 -- a service that got a store
 service-last : (ns : List Node) (used arenaLen depth code blocks : ℕ) {s b u : ℕ} → placedOf ns used arenaLen depth code blocks ≡ Store s b u →
     depth ≤ deepestLast 0 ns
 unfolding placedOf
-service-last ns used arenaLen depth code blocks {s = s} {b = b} {u = u} e = under (leb 64 (length ns)) (parentAt ns depth) refl e
+service-last ns used arenaLen depth code blocks {s = s} {b = b} {u = u} e = under (parentAt ns depth) refl e
   where
-    under : (full : Bool) (f : Found) → parentAt ns depth ≡ f →
-        cond full (NotPlaced TableFull) (serviceFound ns used arenaLen code blocks f) ≡ Store s b u → depth ≤ deepestLast 0 ns
-    under true f q k = absurd (let z : _≡_ {A = ℕ} 0 1 = cc in (omega arith))
-    under false Nothing q k = absurd (let z : _≡_ {A = ℕ} 0 1 = cc in (omega arith))
-    under false (At p) q k = parent-last ns depth q
+    under : (f : Found) → parentAt ns depth ≡ f → serviceFound ns used arenaLen code blocks f ≡ Store s b u → depth ≤ deepestLast 0 ns
+    under Nothing q k = absurd (let z : _≡_ {A = ℕ} 0 1 = cc in (omega arith))
+    under (At p) q k = parent-last ns depth q
 
 made-steps : {ns : List Node} {used : ℕ} → Made ns used → Steps 0 ns
 made-steps Made.root = (omega arith, tt)
@@ -124,7 +121,7 @@ made-steps (Made.service {ns = ns} {used = used} {s = s} {b = b} depth code vers
     steps-more 0 ns (nodeAs depth code version (Service s b limit)) (made-steps m) (service-last ns used 65536 depth code b e)
 
 carded-steps : {c : Card} → Carded c → Steps 0 (nodesOf c)
-carded-steps (carded system key m) = rw take-append-seam (made-steps m)
+carded-steps (carded system m few) = rw take-append-seam (made-steps m)
 
 -- the nodes of a card that is produced
 pub steps : {c : Card} → Built c → Steps 0 (nodesOf c)

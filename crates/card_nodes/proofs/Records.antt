@@ -1,12 +1,10 @@
 -- Of 64 records the first `count` are the nodes: what the code reads there is what the definitions find.
 use mathlib.Core.Path.{_≡_, sym, _∙_}
-use mathlib.Core.Bool.{Bool, true, false}
+use mathlib.Core.Bool.{Bool}
 use mathlib.Core.List.{List}
-use Prim.Native.Nat.{ℕ, _+_, _≤_, _<_, min}
+use Prim.Native.Nat.{ℕ, _+_, _<_, min}
 use native.Mathlib.Omega.{arith}
-use lib.Dec.{leb}
 use lib.ListN.{length, take, getD, length-take}
-use borrow.Author.Tests.{le-leb, lt-leb}
 use Rattle.card_nodes.specs.declared.node.Node.{Node}
 use Rattle.card_nodes.specs.declared.find.Found.{Found}
 use Rattle.card_nodes.specs.declared.find.Found.the-variants.{At}
@@ -20,14 +18,6 @@ pub record Records (nodes : List Node) (count : ℕ) : Type 0 where
   pub all : length nodes ≡ 64
 
 module _ {nodes : List Node} {count : ℕ} (r : Records nodes count) where
-  -- the table is full
-  pub full : 64 ≤ count → leb 64 (length (take count nodes)) ≡ true
-  full h = le-leb 64 (length (take count nodes)) (simp length-take (omega arith))
-
-  -- a record is left
-  pub free : count < 64 → leb 64 (length (take count nodes)) ≡ false
-  free h = lt-leb 64 (length (take count nodes)) (simp length-take (omega arith))
-
   module _ {f : Found} {p : ℕ} (b : Below f (0 + length (take count nodes))) (e : f ≡ At p) where
     -- an index that was found among the nodes is one of the 64
     pub indexed : p < 64

@@ -89,7 +89,7 @@ serviceListOf ns cs = allKnown ns cs && (inOrder ns cs && anyKeyed ns cs)
 
 -- what a card answers, refusal 8 first
 unfoldable pub versionAnswer : Card → ℕ → Told
-versionAnswer c code = cond (not (isSound c)) (NotTold NotBuilt) (Number (versionOf (nodesOf c) (c .version) code))
+versionAnswer c code = cond (not (isSound c)) (NotTold NotBuilt) (Number (versionOf (nodesOf c) (c .system .version) code))
 
 abbrev pub checkedBy : Bool → Checked
 checkedBy true = WellFormed

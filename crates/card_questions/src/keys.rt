@@ -145,7 +145,7 @@ pub fn node_key_version(card: Card, code: u16) -> Told
         return Told::Refused(Refusal::NotBuilt);
     }
     let nodes = card.nodes;
-    Told::Number(key_version(nodes, card.count, card.version, code))
+    Told::Number(key_version(nodes, card.count, card.system.version, code))
 }
 
 // What is said of a list that is well formed, or is not.

@@ -6,7 +6,6 @@ use Prim.Native.Nat.{ℕ, _+_, _≤_, _<_}
 use native.Mathlib.Omega.{arith}
 use lib.ListN.{length, take, drop, getD}
 use lib.Seq.{take-all, take-take, take-suc}
-use borrow.Author.Tests.{lt-leb}
 use Rattle.card_nodes.specs.declared.node.Entry.{Entry}
 use Rattle.card_nodes.specs.declared.node.Entry.the-variants.{Area, Service}
 use Rattle.card_nodes.specs.declared.node.Node.{Node}
@@ -37,15 +36,15 @@ module _ {nodes : List Node} {whole : Bool} {i : ℕ} (z : Node) (left : Unused 
   unfolding allRoots
   more e = turn left z (λ i. allRoots) h (λ rest. rw e)
 
-module _ (before : List Node) (used : ℕ) (n : Node) (few : length before < 64) where
+module _ (before : List Node) (used : ℕ) (n : Node) where
   -- a record that has no parent stops
   pub orphan : parentAt before (n .depth) ≡ Nothing → stepOf before used n ≡ Stops
   unfolding stepOf areaJudged placedOf
   orphan k = by-entry (n .entry)
     where
       by-entry : (e : Entry) → stepBy before used n e ≡ Stops
-      by-entry (Area e) = rw (lt-leb 64 (length before) few, k)
-      by-entry (Service s b l) = rw (lt-leb 64 (length before) few, k)
+      by-entry (Area e) = rw k
+      by-entry (Service s b l) = rw k
 
   -- any other steps as it does under its parent
   pub under : {p : ℕ} → parentAt before (n .depth) ≡ At p →
@@ -55,8 +54,8 @@ module _ (before : List Node) (used : ℕ) (n : Node) (few : length before < 64)
     where
       by-entry : (e : Entry) →
           stepUnder (getD before p rootNode) (firstIn before (sharedOf before (n .code))) used (n .code) e ≡ stepBy before used n e
-      by-entry (Area e) = rw (lt-leb 64 (length before) few, k)
-      by-entry (Service s b l) = rw (lt-leb 64 (length before) few, k)
+      by-entry (Area e) = rw k
+      by-entry (Service s b l) = rw k
 
 -- the records of a count are stepped through, of which those from i on are left
 abbrev pub Stepped : List Node → ℕ → ℕ → ℕ → Type 0

@@ -142,7 +142,7 @@ module _
     -- a record that may not come there ends the walk
     pub closed : isOpen (getD nodes i z .depth) deepest ≡ false → Stops ≡ stepsOf (take count nodes)
     closed e =
-        stops used z (w .left) h (orphan (take i nodes) used (getD nodes i z) (omega (arith, size)) (w .above .says (getD nodes i z .depth) ∙ rw e))
+        stops used z (w .left) h (orphan (take i nodes) used (getD nodes i z) (w .above .says (getD nodes i z .depth) ∙ rw e))
 
     module _ (e : isOpen (getD nodes i z .depth) deepest ≡ true) where
       -- its parent is the one that is kept
@@ -162,7 +162,7 @@ module _
       steps y f k =
           k
           ∙ rw (f, sym (read nodes i (getD parents (getD nodes i z .depth) 0) rootNode y before))
-          (under (take i nodes) used (getD nodes i z) (omega (arith, size)) parent)
+          (under (take i nodes) used (getD nodes i z) parent)
 
       -- and the walk goes on with it among the records passed
       pub next : {m v deep u : ℕ} {first : First} → m ≡ numberOf (getD nodes i z .code) → m < 1024 →

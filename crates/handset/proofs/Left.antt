@@ -5,11 +5,11 @@ use mathlib.Core.Bool.{Bool, true, false, not, cond}
 use mathlib.Core.List.{List, []}
 use Prim.Native.Nat.{ℕ, _-_, _*_}
 use native.Mathlib.Omega.{arith}
-use lib.Dec.{eqb, ltb}
+use lib.Dec.{eqb, ltb, leb}
 use lib.ListN.{length, take, replicate}
 use lib.Seq.{sets}
 use Rattle.answers.specs.declared.refusal.Refusal.{Refusal}
-use Rattle.answers.specs.declared.refusal.Refusal.the-variants.{ShortArena, NotBuilt, ShortOutput}
+use Rattle.answers.specs.declared.refusal.Refusal.the-variants.{TableFull, ShortArena, NotBuilt, ShortOutput}
 use Rattle.answers.specs.declared.refusal.Answer.{Answer}
 use Rattle.answers.specs.declared.refusal.Answer.the-variants.{Done as Accepted, Refused}
 use Rattle.answers.specs.declared.refusal.Told.{Told}
@@ -163,18 +163,18 @@ pub store-left : (c : Card) (arena : List ℕ) (depth code blocks version : ℕ)
     arenaAdded c (serviceAdded c (length arena) depth code blocks version) arena ≡ arena
 unfolding serviceAdded addService arenaAdded
 store-left c arena depth code blocks version h =
-    by (not (isSound c)) (ltb (length arena) (16 * c .used)) (placedOf (nodesOf c) (c .used) (length arena) depth code blocks) h
+    by (not (isSound c)) (ltb (length arena) (16 * c .used)) (leb 64 (c .count)) (placedOf (nodesOf c) (c .used) (length arena) depth code blocks) h
   where
     kept : (a : Added) → a .card ≡ c → put arena (16 * c .used) (16 * (a .card .used - c .used)) (replicate (16 * (a .card .used - c .used)) 0) ≡ arena
     kept a e = let z : 16 * (a .card .used - c .used) ≡ 0 = rw e (omega arith) in rw z (put-zero arena (16 * c .used) [])
 
-    by : (s t : Bool) (p : Placed) →
-        (answerAs (cond s (refused c NotBuilt) (cond t (refused c ShortArena) (serviceBy c depth code version p)) .answer) ≡ 0 → ⊥) →
-        arenaAdded c (cond s (refused c NotBuilt) (cond t (refused c ShortArena) (serviceBy c depth code version p))) arena ≡ arena
-    by true t p h = kept (refused c NotBuilt) refl
-    by false true p h = kept (refused c ShortArena) refl
-    by false false (NotPlaced r) h = kept (refused c r) refl
-    by false false (Store s b u) h = absurd (h refl)
+    by : (s t f : Bool) (p : Placed) → let x = cond t (refused c ShortArena) (cond f (refused c TableFull) (serviceBy c depth code version p)) in
+        (answerAs (cond s (refused c NotBuilt) x .answer) ≡ 0 → ⊥) → arenaAdded c (cond s (refused c NotBuilt) x) arena ≡ arena
+    by true t f p h = kept (refused c NotBuilt) refl
+    by false true f p h = kept (refused c ShortArena) refl
+    by false false true p h = kept (refused c TableFull) refl
+    by false false false (NotPlaced r) h = kept (refused c r) refl
+    by false false false (Store s b u) h = absurd (h refl)
 
 -- how many status pairs a reply has
 abbrev pairs : Reply → ℕ

@@ -4,6 +4,7 @@ use answers::refusal::Answer;
 use answers::refusal::Refusal;
 use card_build::card::Added;
 use card_build::card::Card;
+use card_build::card::System;
 use handset_bytes::decoding;
 use handset_bytes::encoding;
 use handset_bytes::layout;
@@ -12,9 +13,10 @@ ghost use mathlib.Core.Bool.{cond};
 ghost use lib.Dec.{eqb};
 ghost use lib.ListN.{length};
 ghost use Rattle.answers.specs.declared.refusal.Refusal.the-variants.{NotBuilt};
-ghost use Rattle.card_build.specs.Card.{newCard};
+ghost use Rattle.card_build.specs.Card.{systemOf, newCard};
 ghost use Rattle.card_build.specs.Build.{areaAdded, serviceAdded, arenaAdded, limitAdded};
-ghost use Rattle.handset_bytes.specs.Card.{cardSize, cardPut, decodedOf};
+ghost use Rattle.handset_bytes.specs.Layout.{cardSize};
+ghost use Rattle.handset_bytes.specs.Card.{cardPut, decodedOf};
 ghost use Rattle.handset.specs.Outcome.{refusedAs, answerAs};
 ghost use Rattle.handset.specs.Kept.{cardAfter};
 
@@ -22,12 +24,16 @@ ghost use Rattle.handset.specs.Kept.{cardAfter};
 #[no_mangle]
 pub extern "C" fn uluvoli_new(card: &mut [u8], system: u16, version: u16) -> u32
     ensures { λ r. ⌜ r ≡ cond (eqb (length (now (card .entry))) cardSize) 0 (refusedAs NotBuilt) ⌝ }
-    ensures { λ _. ⌜ now (card .exit) ≡ cardPut (newCard system version) (now (card .entry)) ⌝ }
+    ensures { λ _. ⌜ now (card .exit) ≡ cardPut (newCard (systemOf system version)) (now (card .entry)) ⌝ }
 {
     if card.len() != layout::SIZE {
         return outcome::refused(Refusal::NotBuilt);
     }
-    encoding::encode(Card::new(system, version), card);
+    let own = System {
+        code: system,
+        version,
+    };
+    encoding::encode(Card::new(own), card);
     0
 }
 

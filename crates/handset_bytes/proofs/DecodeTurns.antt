@@ -11,43 +11,45 @@ use borrow.Author.Tests.{eq-eqb, ne-eqb}
 use Rattle.card_nodes.specs.declared.node.Node.{Node}
 use Rattle.card_build.specs.declared.card.Card.{Card}
 use Rattle.byte_parts.specs.Half.{halfAt}
+use Rattle.card_build.specs.Card.{systemOf}
+use Rattle.handset_bytes.specs.Layout.{headSize, recordSize, cardSize}
 use Rattle.handset_bytes.specs.Node.{nodeIn, isRecord}
 use Rattle.handset_bytes.specs.Card.{nodesIn, areRecords, isCard, noCard, decodedOf}
-use Rattle.handset_bytes.proofs.Long.{at, ownOf, twenty}
+use Rattle.handset_bytes.proofs.Long.{at, ownOf, one-long}
 
 -- after i records that were read: what is left decides the rest
 pub record Reading (s : List ℕ) (nodes : List Node) (i : ℕ) : Type 0 where
   pub most : i ≤ 64
-  pub size : length s ≡ 1288
+  pub size : length s ≡ cardSize
   pub long : length nodes ≡ 64
-  pub whole : areRecords 64 (drop 8 s) ≡ areRecords (64 - i) (drop (at i) s)
-  pub same : nodesIn 64 (drop 8 s) ≡ take i nodes ++ nodesIn (64 - i) (drop (at i) s)
+  pub whole : areRecords 64 (drop headSize s) ≡ areRecords (64 - i) (drop (at i) s)
+  pub same : nodesIn 64 (drop headSize s) ≡ take i nodes ++ nodesIn (64 - i) (drop (at i) s)
 
 -- before the first
-pub begun : (s : List ℕ) (nodes : List Node) → length s ≡ 1288 → length nodes ≡ 64 → Reading s nodes 0
+pub begun : (s : List ℕ) (nodes : List Node) → length s ≡ cardSize → length nodes ≡ 64 → Reading s nodes 0
 begun s nodes h k = record { most = omega arith; size = h; long = k; whole = refl; same = refl }
 
 -- bytes of another length
-pub misfit : (s : List ℕ) → (length s ≡ 1288 → ⊥) → decodedOf s ≡ noCard
+pub misfit : (s : List ℕ) → (length s ≡ cardSize → ⊥) → decodedOf s ≡ noCard
 unfolding decodedOf isCard
-misfit s h = rw (ne-eqb (length s) 1288 h)
+misfit s h = rw (ne-eqb (length s) cardSize h)
 
 module _ {s : List ℕ} {nodes : List Node} {i : ℕ} (k : Reading s nodes i) where
   module _ (h : i < 64) where
-    own : take 20 (drop (at i) s) ≡ ownOf s i
-    own = rw (twenty s i)
+    own : take recordSize (drop (at i) s) ≡ ownOf s i
+    own = rw (one-long s i)
 
     -- of the records left it is the first
     left : 64 - i ≡ suc (64 - (i + 1))
     left = omega arith
 
-    next : drop 20 (drop (at i) s) ≡ drop (at (i + 1)) s
-    next = let a : at i + 20 ≡ at (i + 1) = omega arith in drop-drop 20 (at i) s ∙ rw a
+    next : drop recordSize (drop (at i) s) ≡ drop (at (i + 1)) s
+    next = let a : at i + recordSize ≡ at (i + 1) = omega arith in drop-drop recordSize (at i) s ∙ rw a
 
     -- it is no record
     pub bad : isRecord (ownOf s i) ≡ false → decodedOf s ≡ noCard
     unfolding decodedOf isCard areRecords
-    bad r = rw (eq-eqb (length s) 1288 (k .size), k .whole, left, own, r)
+    bad r = rw (eq-eqb (length s) cardSize (k .size), k .whole, left, own, r)
 
     -- it is one, and read
     pub turn : {n : Node} → isRecord (ownOf s i) ≡ true → n ≡ nodeIn (ownOf s i) → Reading s (set nodes i n) (i + 1)
@@ -57,7 +59,7 @@ module _ {s : List ℕ} {nodes : List Node} {i : ℕ} (k : Reading s nodes i) wh
         let rest = nodesIn (64 - (i + 1)) (drop (at (i + 1)) s) in
         let front : take i nodes ++ (n ∷ []) ≡ take (i + 1) (set nodes i n) = rw add-one (sym (take-suc-set nodes i n inside)) in
         let whole = rw (left, own, r, next) at (k .whole) in
-        let same : nodesIn 64 (drop 8 s) ≡ take i nodes ++ (n ∷ rest) = k .same ∙ rw (left, own, ← m, next) in
+        let same : nodesIn 64 (drop headSize s) ≡ take i nodes ++ (n ∷ rest) = k .same ∙ rw (left, own, ← m, next) in
         record {
           most = omega arith;
           size = k .size;
@@ -68,11 +70,11 @@ module _ {s : List ℕ} {nodes : List Node} {i : ℕ} (k : Reading s nodes i) wh
 
   -- all were read
   pub read-all : {a b c d : ℕ} → 64 ≤ i → a ≡ halfAt s 0 → b ≡ halfAt s 2 → c ≡ halfAt s 4 → d ≡ halfAt s 6 →
-      _≡_ {A = Card} (record { nodes = nodes; count = a; used = b; system = c; version = d }) (decodedOf s)
+      _≡_ {A = Card} (record { nodes = nodes; count = a; used = b; system = systemOf c d }) (decodedOf s)
   unfolding decodedOf isCard areRecords nodesIn
   read-all h x y z w =
       let none : 64 - i ≡ 0 = omega arith in
-      let ok : areRecords 64 (drop 8 s) ≡ true = k .whole ∙ rw none in
-      let same : nodesIn 64 (drop 8 s) ≡ nodes =
+      let ok : areRecords 64 (drop headSize s) ≡ true = k .whole ∙ rw none in
+      let same : nodesIn 64 (drop headSize s) ≡ nodes =
       k .same ∙ rw none (append-nil (take i nodes) ∙ take-all i nodes (omega (arith, k .long))) in
-      rw (eq-eqb (length s) 1288 (k .size), ok, same, x, y, z, w)
+      rw (eq-eqb (length s) cardSize (k .size), ok, same, x, y, z, w)

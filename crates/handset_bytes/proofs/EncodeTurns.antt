@@ -12,6 +12,7 @@ use Rattle.byte_parts.proofs.Part.{length-put, put-lent}
 use Rattle.card_nodes.specs.declared.node.Node.{Node}
 use Rattle.card_build.specs.declared.card.Card.{Card}
 use Rattle.byte_parts.specs.Half.{halfBytes}
+use Rattle.handset_bytes.specs.Layout.{headSize, recordSize, cardSize}
 use Rattle.handset_bytes.specs.Node.{nodeBytes}
 use Rattle.handset_bytes.specs.Card.{headBytes, nodesBytes, cardBytes, cardPut}
 use Rattle.handset_bytes.proofs.Long.{node-long, at}
@@ -25,48 +26,48 @@ nodes-more (m ∷ ns) n = ap (λ (l : List ℕ). nodeBytes m ++ l) (nodes-more n
 -- after i records that were written: they and the header stand in front
 pub record Writing (old : List ℕ) (nodes : List Node) (s : List ℕ) (i : ℕ) : Type 0 where
   pub most : i ≤ 64
-  pub long : length s ≡ 1288
-  pub same : take (at i) s ≡ take 8 old ++ nodesBytes (take i nodes)
+  pub long : length s ≡ cardSize
+  pub same : take (at i) s ≡ take headSize old ++ nodesBytes (take i nodes)
 
 -- before the first
-pub started : (s : List ℕ) (nodes : List Node) → length s ≡ 1288 → Writing s nodes s 0
+pub started : (s : List ℕ) (nodes : List Node) → length s ≡ cardSize → Writing s nodes s 0
 unfolding nodesBytes
-started s nodes h = record { most = omega arith; long = h; same = sym (append-nil (take 8 s)) }
+started s nodes h = record { most = omega arith; long = h; same = sym (append-nil (take headSize s)) }
 
 module _ {old : List ℕ} {nodes : List Node} {s : List ℕ} {i : ℕ} (k : Writing old nodes s i) where
   -- one more, to the bytes that were lent
   pub wrote : (z : Node) (own : List ℕ) → i < 64 → length nodes ≡ 64 → own ≡ nodeBytes (getD nodes i z) →
-      Writing old nodes (take (at i) s ++ (own ++ drop (at i + 20 - at i) (drop (at i) s))) (i + 1)
+      Writing old nodes (take (at i) s ++ (own ++ drop (at i + recordSize - at i) (drop (at i) s))) (i + 1)
   wrote z own h l e =
       let n = getD nodes i z in
       let front = take (at i) s in
-      let rest = drop (at i + 20 - at i) (drop (at i) s) in
-      let twenty : length own ≡ 20 = rw e (node-long n) in
+      let rest = drop (at i + recordSize - at i) (drop (at i) s) in
+      let twenty : length own ≡ recordSize = rw e (node-long n) in
       let before : length front ≡ at i = length-take-le (at i) s (omega (arith, k .long)) in
       let so : length (front ++ own) ≡ at (i + 1) = simp length-append (omega arith) in
       let taken : take i nodes ++ (n ∷ []) ≡ take (i + 1) nodes = rw add-one (sym (take-suc nodes i z (omega arith))) in
       let bytes : nodesBytes (take i nodes) ++ own ≡ nodesBytes (take (i + 1) nodes) = rw (e, ← nodes-more (take i nodes) n, taken) in
       record {
         most = omega arith;
-        long = ap length (put-lent s (at i) 20 own (omega (arith, k .long)) twenty) ∙ length-put s (at i) 20 own ∙ k .long;
+        long = ap length (put-lent s (at i) recordSize own (omega (arith, k .long)) twenty) ∙ length-put s (at i) recordSize own ∙ k .long;
         same =
             ap (take (at (i + 1))) (sym (append-assoc front own rest)) ∙ take-at (front ++ own) rest (at (i + 1)) so
-            ∙ (rw (k .same) (append-assoc (take 8 old) (nodesBytes (take i nodes)) own) ∙ ap (λ (l : List ℕ). take 8 old ++ l) bytes);
+            ∙ (rw (k .same) (append-assoc (take headSize old) (nodesBytes (take i nodes)) own) ∙ ap (λ (l : List ℕ). take headSize old ++ l) bytes);
       }
 
   -- all were written
-  pub written : (first : List ℕ) (c : Card) → 64 ≤ i → length first ≡ 1288 → length (c .nodes) ≡ 64 → nodes ≡ c .nodes →
-      old ≡ put first 0 8 (headBytes (c .count) (c .used) (c .system) (c .version)) → s ≡ cardPut c first
+  pub written : (first : List ℕ) (c : Card) → 64 ≤ i → length first ≡ cardSize → length (c .nodes) ≡ 64 → nodes ≡ c .nodes →
+      old ≡ put first 0 headSize (headBytes (c .count) (c .used) (c .system)) → s ≡ cardPut c first
   unfolding put halfBytes cardPut cardBytes
   written first c h l m e o =
       let i64 : i ≡ 64 = omega (arith, k .most) in
-      let vs = headBytes (c .count) (c .used) (c .system) (c .version) in
-      let head : take 8 old ≡ vs = rw (o, sets-eq vs first 0 (omega arith)) (take-at vs (drop 8 first) 8 refl) in
+      let vs = headBytes (c .count) (c .used) (c .system) in
+      let head : take headSize old ≡ vs = rw (o, sets-eq vs first 0 (omega arith)) (take-at vs (drop headSize first) headSize refl) in
       let nodes64 : take i nodes ≡ c .nodes = rw (e, i64) (take-all 64 (c .nodes) (omega arith)) in
       let all : take (at i) s ≡ s = take-all (at i) s (omega (arith, k .long)) in
-      rw (eq-eqb (length first) 1288 l) (sym all ∙ k .same ∙ rw (head, nodes64))
+      rw (eq-eqb (length first) cardSize l) (sym all ∙ k .same ∙ rw (head, nodes64))
 
 -- bytes of another length stay
-pub stays : (c : Card) (s : List ℕ) → (length s ≡ 1288 → ⊥) → s ≡ cardPut c s
+pub stays : (c : Card) (s : List ℕ) → (length s ≡ cardSize → ⊥) → s ≡ cardPut c s
 unfolding cardPut
-stays c s h = rw (ne-eqb (length s) 1288 h)
+stays c s h = rw (ne-eqb (length s) cardSize h)

@@ -13,8 +13,10 @@ use Rattle.service_code.specs.declared.limit.Limit.the-variants.{Unlimited, Lim
 use Rattle.card_nodes.specs.declared.node.Entry.{Entry}
 use Rattle.card_nodes.specs.declared.node.Entry.the-variants.{Area, Service}
 use Rattle.card_nodes.specs.declared.node.Node.{Node}
+use Rattle.card_build.specs.declared.card.System.{System}
 use Rattle.card_build.specs.Grow.{nodeAs}
 use Rattle.byte_parts.specs.Half.{halfBytes}
+use Rattle.handset_bytes.specs.Layout.{headSize, recordSize}
 use Rattle.handset_bytes.specs.Node.{kindOf, limitBytes, entryBytes, nodeBytes}
 use Rattle.handset_bytes.specs.Card.{headBytes}
 use Rattle.handset_bytes.proofs.Long.{node-long}
@@ -39,14 +41,14 @@ unfolding put halfBytes wordBytes
 service-put s t u v start blocks Unlimited p q r e = rw (e, r, q, p)
 service-put s t u v start blocks (Limited upper lower generation) p q r e = rw (e, r, q, p)
 
--- twenty stores to twenty bytes leave what was stored
-whole : (s vs : List ℕ) → length s ≡ 20 → length vs ≡ 20 → sets s 0 vs ≡ vs
+-- stores to all bytes of a record leave what was stored
+whole : (s vs : List ℕ) → length s ≡ recordSize → length vs ≡ recordSize → sets s 0 vs ≡ vs
 whole s vs h k =
     let most : length s ≤ 0 + length vs = omega arith in
     sets-eq vs s 0 (omega arith) ∙ rw (drop-of-length-le s most) (append-nil vs)
 
 -- a record
-pub node-put : (n : Node) (s t u v : List ℕ) (k : ℕ) → length s ≡ 20 → k ≡ kindOf (n .entry) →
+pub node-put : (n : Node) (s t u v : List ℕ) (k : ℕ) → length s ≡ recordSize → k ≡ kindOf (n .entry) →
     t ≡ put (set (set s 0 k) 1 (n .depth)) 2 2 (halfBytes (n .code)) → u ≡ put t 4 2 (halfBytes (n .version)) →
     v ≡ put u 6 14 (entryBytes (n .entry)) → v ≡ nodeBytes n
 unfolding put halfBytes wordBytes nodeBytes
@@ -61,7 +63,7 @@ node-put n s t u v k h x p q r =
     by depth code version (Service start blocks (Limited upper lower generation)) = refl
 
 -- a header
-pub head-put : (s t u v w : List ℕ) (count used system version : ℕ) → t ≡ put s 0 2 (halfBytes count) → u ≡ put t 2 2 (halfBytes used) →
-    v ≡ put u 4 2 (halfBytes system) → w ≡ put v 6 2 (halfBytes version) → w ≡ put s 0 8 (headBytes count used system version)
+pub head-put : (s t u v w : List ℕ) (count used : ℕ) (system : System) → t ≡ put s 0 2 (halfBytes count) → u ≡ put t 2 2 (halfBytes used) →
+    v ≡ put u 4 2 (halfBytes (system .code)) → w ≡ put v 6 2 (halfBytes (system .version)) → w ≡ put s 0 headSize (headBytes count used system)
 unfolding put halfBytes
-head-put s t u v w count used system version p q r o = rw (o, r, q, p)
+head-put s t u v w count used system p q r o = rw (o, r, q, p)

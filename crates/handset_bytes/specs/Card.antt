@@ -1,4 +1,4 @@
--- A card as 1,288 bytes: a header of 8 (count, used, system, version), then its 64 records.
+-- A card as bytes: a header (count, used, the system's code and version), then its 64 records.
 use Prim.Native.Nat.{ℕ, zero, suc}
 use mathlib.Core.List.{List, [], _∷_, _++_}
 use mathlib.Core.Bool.{Bool, true, cond, _&&_}
@@ -6,22 +6,22 @@ use lib.Dec.{eqb}
 use lib.ListN.{length, take, drop, replicate}
 use Rattle.card_nodes.specs.declared.node.Node.{Node}
 use Rattle.card_nodes.specs.Node.{rootNode}
+use Rattle.card_build.specs.declared.card.System.{System}
 use Rattle.card_build.specs.declared.card.Card.{Card}
 use Rattle.byte_parts.specs.Half.{halfBytes, halfAt}
+use Rattle.card_build.specs.Card.{systemOf}
+use Rattle.handset_bytes.specs.Layout.{headSize, recordSize, cardSize}
 use Rattle.handset_bytes.specs.Node.{nodeBytes, nodeIn, isRecord}
 
-abbrev pub cardSize : ℕ
-cardSize = 1288
-
-abbrev pub headBytes : ℕ → ℕ → ℕ → ℕ → List ℕ
-headBytes count used system version = halfBytes count ++ halfBytes used ++ halfBytes system ++ halfBytes version
+abbrev pub headBytes : ℕ → ℕ → System → List ℕ
+headBytes count used system = halfBytes count ++ halfBytes used ++ halfBytes (system .code) ++ halfBytes (system .version)
 
 unfoldable pub nodesBytes : List Node → List ℕ
 nodesBytes [] = []
 nodesBytes (n ∷ ns) = nodeBytes n ++ nodesBytes ns
 
 unfoldable pub cardBytes : Card → List ℕ
-cardBytes c = headBytes (c .count) (c .used) (c .system) (c .version) ++ nodesBytes (c .nodes)
+cardBytes c = headBytes (c .count) (c .used) (c .system) ++ nodesBytes (c .nodes)
 
 -- bytes after a card was written to them: those of another length stay as they were
 unfoldable pub cardPut : Card → List ℕ → List ℕ
@@ -30,29 +30,28 @@ cardPut c s = cond (eqb (length s) cardSize) (cardBytes c) s
 -- what n records read as
 unfoldable pub nodesIn : ℕ → List ℕ → List Node
 nodesIn zero s = []
-nodesIn (suc n) s = nodeIn (take 20 s) ∷ nodesIn n (drop 20 s)
+nodesIn (suc n) s = nodeIn (take recordSize s) ∷ nodesIn n (drop recordSize s)
 
 unfoldable pub areRecords : ℕ → List ℕ → Bool
 areRecords zero s = true
-areRecords (suc n) s = isRecord (take 20 s) && areRecords n (drop 20 s)
+areRecords (suc n) s = isRecord (take recordSize s) && areRecords n (drop recordSize s)
 
 -- what bytes read as
 abbrev pub cardIn : List ℕ → Card
 cardIn s = record {
-  nodes = nodesIn 64 (drop 8 s);
+  nodes = nodesIn 64 (drop headSize s);
   count = halfAt s 0;
   used = halfAt s 2;
-  system = halfAt s 4;
-  version = halfAt s 6;
+  system = systemOf (halfAt s 4) (halfAt s 6);
 }
 
--- 1,288 bytes whose records are all a node's
+-- as many bytes as a card has, whose records are all a node's
 unfoldable pub isCard : List ℕ → Bool
-isCard s = eqb (length s) cardSize && areRecords 64 (drop 8 s)
+isCard s = eqb (length s) cardSize && areRecords 64 (drop headSize s)
 
 -- what stands for the card of other bytes: it has not even a root, so every call on it is refusal 8
 abbrev pub noCard : Card
-noCard = record { nodes = replicate 64 rootNode; count = 0; used = 0; system = 0; version = 0 }
+noCard = record { nodes = replicate 64 rootNode; count = 0; used = 0; system = systemOf 0 0 }
 
 unfoldable pub decodedOf : List ℕ → Card
 decodedOf s = cond (isCard s) (cardIn s) noCard

@@ -10,6 +10,7 @@ use Rattle.card_nodes.specs.declared.node.Entry.{Entry}
 use Rattle.card_nodes.specs.declared.node.Entry.the-variants.{Area, Service}
 use Rattle.card_nodes.specs.declared.node.Node.{Node}
 use Rattle.card_nodes.specs.Node.{rootNode}
+use Rattle.card_build.specs.declared.card.System.{System}
 use Rattle.card_build.specs.declared.card.Card.{Card}
 
 abbrev pub LimitFits : Limit → Type 0
@@ -26,13 +27,16 @@ pub record NodeFits (n : Node) : Type 0 where
   pub version : n .version < 2 ^ 16
   pub entry : EntryFits (n .entry)
 
+pub record SystemFits (s : System) : Type 0 where
+  pub code : s .code < 2 ^ 16
+  pub version : s .version < 2 ^ 16
+
 pub record Fits (c : Card) : Type 0 where
   pub nodes : (i : ℕ) → NodeFits (getD (c .nodes) i rootNode)
   pub records : length (c .nodes) ≡ 64
   pub count : c .count < 2 ^ 16
   pub used : c .used < 2 ^ 16
-  pub system : c .system < 2 ^ 16
-  pub version : c .version < 2 ^ 16
+  pub system : SystemFits (c .system)
 
 abbrev pub Bytes : List ℕ → Type 0
 Bytes s = (i : ℕ) → getD s i 0 < 2 ^ 8

@@ -1,3 +1,4 @@
+pub mod Layout
 pub mod Node
 pub mod Card
 pub mod Fits

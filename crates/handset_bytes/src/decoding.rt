@@ -3,6 +3,7 @@ use crate::layout;
 use crate::node;
 use byte_parts::half;
 use card_build::card::Card;
+use card_build::card::System;
 use card_nodes::node::Node;
 ghost use mathlib.Core.Path.{_≡_};
 ghost use Rattle.handset_bytes.specs.Card.{noCard, decodedOf};
@@ -16,12 +17,14 @@ fn none() -> Card
         nodes: [root; 64],
         count: 0,
         used: 0,
-        system: 0,
-        version: 0,
+        system: System {
+            code: 0,
+            version: 0,
+        },
     }
 }
 
-// The card that `bytes` encode: 1,288 of them, each record a node's. Whether accepted calls build it is not looked at here.
+// The card that `bytes` encode: as many as a card takes, each record a node's. Whether accepted calls build it is not looked at here.
 pub fn decode(bytes: &[u8]) -> Card
     ensures { λ r. ⌜ r ≡ decodedOf (now (bytes .entry)) ⌝ }
 {
@@ -44,7 +47,9 @@ pub fn decode(bytes: &[u8]) -> Card
         nodes,
         count: half::half(bytes, 0) as usize,
         used: half::half(bytes, 2) as usize,
-        system: half::half(bytes, 4),
-        version: half::half(bytes, 6),
+        system: System {
+            code: half::half(bytes, 4),
+            version: half::half(bytes, 6),
+        },
     }
 }

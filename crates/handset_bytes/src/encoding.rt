@@ -7,17 +7,18 @@ ghost use mathlib.Core.Path.{_≡_};
 ghost use Prim.Native.Nat.{_≤_};
 ghost use lib.ListN.{length};
 ghost use Rattle.byte_parts.specs.Part.{put};
+ghost use Rattle.handset_bytes.specs.Layout.{headSize};
 ghost use Rattle.handset_bytes.specs.Card.{headBytes, cardPut};
 
 // Writes the header of `card`: count, blocks in use, system code, key version.
 fn write_head(card: Card, bytes: &mut [u8])
-    requires { ⌜ 8 ≤ length (now bytes) ⌝ }
-    ensures { λ _. ⌜ now (bytes .exit) ≡ put (now (bytes .entry)) 0 8 (headBytes (card .count) (card .used) (card .system) (card .version)) ⌝ }
+    requires { ⌜ headSize ≤ length (now bytes) ⌝ }
+    ensures { λ _. ⌜ now (bytes .exit) ≡ put (now (bytes .entry)) 0 headSize (headBytes (card .count) (card .used) (card .system)) ⌝ }
 {
     half::put_half(bytes, 0, card.count);
     half::put_half(bytes, 2, card.used);
-    half::put_half(bytes, 4, card.system as usize);
-    half::put_half(bytes, 6, card.version as usize);
+    half::put_half(bytes, 4, card.system.code as usize);
+    half::put_half(bytes, 6, card.system.version as usize);
 }
 
 // Writes `card` to its bytes. Bytes of another length than a card's stay as they were.

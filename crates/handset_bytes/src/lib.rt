@@ -1,4 +1,4 @@
-// A card as 1,288 bytes, in which it crosses to programs in C and Rust: records in `node`, and
+// A card as bytes, in which it crosses to programs in C and Rust: records in `node`, and
 // the whole card, read by `decoding` and written by `encoding`, each with its definition in specs/.
 pub mod decoding;
 pub mod encoding;

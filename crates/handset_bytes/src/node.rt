@@ -1,4 +1,4 @@
-// A node and the twenty bytes of its record: what they read as, and how they are written.
+// A node and the bytes of its record: what they read as, and how they are written.
 use byte_parts::half;
 use byte_parts::spans;
 use byte_parts::word;
@@ -9,11 +9,12 @@ ghost use mathlib.Core.Path.{_≡_};
 ghost use lib.ListN.{length};
 ghost use Rattle.byte_parts.specs.Part.{put};
 ghost use Rattle.byte_parts.specs.Word.{wordOf};
+ghost use Rattle.handset_bytes.specs.Layout.{recordSize};
 ghost use Rattle.handset_bytes.specs.Node.{isRecord, limitIn, entryIn, nodeIn, kindOf, limitBytes, entryBytes, nodeBytes};
 
 // Whether the record `r` is a node's: a kind that there is, and zeros where that kind has no field.
 pub(crate) fn is_record(r: &[u8]) -> bool
-    requires { ⌜ length (now r) ≡ 20 ⌝ }
+    requires { ⌜ length (now r) ≡ recordSize ⌝ }
     ensures { λ x. ⌜ x ≡ isRecord (now (r .entry)) ⌝ }
 {
     let kind = r[0];
@@ -37,7 +38,7 @@ pub(crate) fn is_record(r: &[u8]) -> bool
 
 // Reads the limit of a service's record `r`.
 fn read_limit(r: &[u8]) -> Limit
-    requires { ⌜ length (now r) ≡ 20 ⌝ }
+    requires { ⌜ length (now r) ≡ recordSize ⌝ }
     ensures { λ x. ⌜ x ≡ limitIn (now (r .entry)) ⌝ }
 {
     if r[0] != 2 {
@@ -52,7 +53,7 @@ fn read_limit(r: &[u8]) -> Limit
 
 // Reads the entry of the record `r`: what only an area has, or only a service.
 fn read_entry(r: &[u8]) -> Entry
-    requires { ⌜ length (now r) ≡ 20 ⌝ }
+    requires { ⌜ length (now r) ≡ recordSize ⌝ }
     ensures { λ x. ⌜ x ≡ entryIn (now (r .entry)) ⌝ }
 {
     if r[0] == 0 {
@@ -69,7 +70,7 @@ fn read_entry(r: &[u8]) -> Entry
 
 // Reads the record `r`.
 pub(crate) fn read(r: &[u8]) -> Node
-    requires { ⌜ length (now r) ≡ 20 ⌝ }
+    requires { ⌜ length (now r) ≡ recordSize ⌝ }
     ensures { λ x. ⌜ x ≡ nodeIn (now (r .entry)) ⌝ }
 {
     Node {
@@ -110,7 +111,7 @@ fn bits(bound: i32) -> u32
 
 // Writes `limit` to bytes 10 to 19 of the record `r`.
 fn write_limit(limit: Limit, r: &mut [u8])
-    requires { ⌜ length (now r) ≡ 20 ⌝ }
+    requires { ⌜ length (now r) ≡ recordSize ⌝ }
     ensures { λ _. ⌜ now (r .exit) ≡ put (now (r .entry)) 10 10 (limitBytes limit) ⌝ }
 {
     match limit {
@@ -132,7 +133,7 @@ fn write_limit(limit: Limit, r: &mut [u8])
 
 // Writes `entry` to bytes 6 to 19 of the record `r`.
 fn write_entry(entry: Entry, r: &mut [u8])
-    requires { ⌜ length (now r) ≡ 20 ⌝ }
+    requires { ⌜ length (now r) ≡ recordSize ⌝ }
     ensures { λ _. ⌜ now (r .exit) ≡ put (now (r .entry)) 6 14 (entryBytes entry) ⌝ }
 {
     match entry {
@@ -154,7 +155,7 @@ fn write_entry(entry: Entry, r: &mut [u8])
 
 // Writes `node` to the record `r`.
 pub(crate) fn write(node: Node, r: &mut [u8])
-    requires { ⌜ length (now r) ≡ 20 ⌝ }
+    requires { ⌜ length (now r) ≡ recordSize ⌝ }
     ensures { λ _. ⌜ now (r .exit) ≡ nodeBytes node ⌝ }
 {
     let entry = node.entry;

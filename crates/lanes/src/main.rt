@@ -2,6 +2,7 @@
 // service of the same number. A late redraw in between is what the tower then reads; a write with too short a staging is
 // refused, and the tower reads the lane as it was.
 use card_build::card::Card;
+use card_build::card::System;
 use request_plan::Reply;
 use request_plan::Response;
 use request_serve::reading;
@@ -9,7 +10,10 @@ use request_serve::writing;
 
 // The card: two lanes of number 41h, written by 1049 and read by 104B, both open.
 fn race(arena: &mut [u8]) -> Card {
-    let card = Card::new(0x0001, 0x0000);
+    let card = Card::new(System {
+        code: 0x0001,
+        version: 0x0000,
+    });
     let marshal = card.add_service(arena, 1, 0x1049, 2, 0x0000);
     let written = marshal.card;
     let tower = written.add_service(arena, 1, 0x104b, 2, 0x0000);

@@ -17,7 +17,7 @@ use Rattle.card_nodes.specs.Find.{firstFrom, openAt, parentFrom}
 use Rattle.card_admit.specs.Admit.{isDepth, parentAt, outside, serviceUnder, sameKind, joinedTo, usable, newStore, placedOf}
 use Rattle.card_sound.specs.Sound.{isRoot, allRoots, stepOf, stepsFrom, stepsOf, soundOf}
 use Rattle.card_build.specs.declared.card.Card.{Card}
-use Rattle.card_build.specs.Card.{newCard}
+use Rattle.card_build.specs.Card.{systemOf, newCard}
 use Rattle.card_build.specs.Grow.{addService}
 use Rattle.card_laws.specs.Built.{Built, new, service}
 use Rattle.card_laws.proofs.Laid.{sized}
@@ -47,14 +47,14 @@ use Rattle.law_board.proofs.Redraw.{line-shows}
 
 -- lanes, a random store of eight blocks, number 41h, with the tower's read-only service
 abbrev marshals : Card
-marshals = addService (newCard 1 0) 128 1 0x1049 8 0 .card
+marshals = addService (newCard (systemOf 1 0)) 128 1 0x1049 8 0 .card
 
 abbrev card : Card
 card = addService marshals 128 1 0x104b 8 0 .card
 
 built : Built card
 unfolding addService placedOf isDepth parentAt parentFrom openAt firstFrom serviceUnder outside sameKind joinedTo usable newStore numberOf attributesOf tableOf decodedOf attributeOf codeKindOf
-built = service {c = marshals} 128 1 0x104b 8 0 (service {c = newCard 1 0} 128 1 0x1049 8 0 (new 1 0) refl) refl
+built = service {c = marshals} 128 1 0x104b 8 0 (service {c = newCard (systemOf 1 0)} 128 1 0x1049 8 0 (new (systemOf 1 0)) refl) refl
 
 -- race 7: `LEANDER` in lane 1, `MOLESEY` in lane 3 and, redrawn, `THAMES`
 abbrev leander : List ℕ

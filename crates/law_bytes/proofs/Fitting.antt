@@ -6,13 +6,13 @@ use mathlib.Core.Logic.{⊎-elim, _↔_}
 use Prim.Native.Nat.{ℕ, zero, suc, _+_, _-_, _*_, _≤_, _<_, _^_}
 use native.Mathlib.Omega.{arith}
 use native.Mathlib.Decide.{decLt}
-use lib.Dec.{eqb, ltb}
+use lib.Dec.{eqb, ltb, leb}
 use lib.IntN.{ℤ}
 use lib.Signed.{mag}
-use lib.ListN.{length, getD, set, take, drop, replicate, length-set, length-take}
+use lib.ListN.{length, getD, set, take, drop, replicate, length-set}
 use borrow.Author.Tests.{lt-ltb, le-ltb}
 use Rattle.answers.specs.declared.refusal.Refusal.{Refusal}
-use Rattle.answers.specs.declared.refusal.Refusal.the-variants.{ShortArena}
+use Rattle.answers.specs.declared.refusal.Refusal.the-variants.{TableFull, ShortArena}
 use Rattle.byte_parts.specs.Word.{wordAt, signedOf}
 use Rattle.service_code.specs.declared.limit.Limit.the-variants.{Unlimited, Limited}
 use Rattle.card_nodes.specs.declared.node.Entry.{Entry}
@@ -24,21 +24,23 @@ use Rattle.card_admit.specs.declared.Placed.{Placed}
 use Rattle.card_admit.specs.declared.Placed.the-variants.{Store, Refused as NotPlaced}
 use Rattle.card_nodes.specs.Node.{rootNode, startOf, blocksOf}
 use Rattle.card_admit.specs.Admit.{areaJudged, placedOf}
-use Rattle.card_admit.proofs.Growth.{area-room, allowed, stored, used-most}
+use Rattle.card_admit.proofs.Growth.{stored, used-most}
+use Rattle.card_build.specs.declared.card.System.{System}
 use Rattle.card_build.specs.declared.card.Card.{Card}
 use Rattle.card_build.specs.declared.card.Added.{Added}
-use Rattle.card_build.specs.Card.{newCard, nodesOf, grown, accepted, refused}
+use Rattle.card_build.specs.Card.{systemOf, newCard, nodesOf, grown, accepted, refused}
 use Rattle.card_build.specs.Grow.{nodeAs, areaBy, addArea, serviceBy, addService, lastOf, limitBy, setLimit}
 use Rattle.card_build.specs.Build.{areaAdded, serviceAdded, limitAdded}
 use Rattle.card_laws.specs.Built.{Built}
 use Rattle.card_laws.proofs.Built.{past-eight}
 use Rattle.card_laws.proofs.Places.{area-deep, service-known}
-use Rattle.card_laws.proofs.Laid.{sized}
+use Rattle.card_laws.proofs.Laid.{Sized, sized}
 use Rattle.byte_parts.specs.Half.{halfAt}
 use Rattle.byte_parts.proofs.Halves.{half-fits}
+use Rattle.handset_bytes.specs.Layout.{headSize, recordSize}
 use Rattle.handset_bytes.specs.Node.{nodeIn}
 use Rattle.handset_bytes.specs.Card.{nodesIn, cardBytes, cardIn, isCard, noCard, decodedOf}
-use Rattle.handset_bytes.specs.Fits.{LimitFits, EntryFits, NodeFits, Fits, Bytes}
+use Rattle.handset_bytes.specs.Fits.{LimitFits, EntryFits, NodeFits, SystemFits, Fits, Bytes}
 use Rattle.law_bytes.proofs.Bytes.{bytes-take, bytes-drop}
 use Rattle.law_bytes.proofs.Round.{written-is, card-says}
 
@@ -79,34 +81,32 @@ node-fits r b = record {
 nodes-fit : (n : ℕ) (s : List ℕ) → Bytes s → (i : ℕ) → NodeFits (getD (nodesIn n s) i rootNode)
 unfolding nodesIn
 nodes-fit zero s b i = root-fits
-nodes-fit (suc n) s b zero = node-fits (take 20 s) (bytes-take 20 s b)
-nodes-fit (suc n) s b (suc i) = nodes-fit n (drop 20 s) (bytes-drop 20 s b) i
+nodes-fit (suc n) s b zero = node-fits (take recordSize s) (bytes-take recordSize s b)
+nodes-fit (suc n) s b (suc i) = nodes-fit n (drop recordSize s) (bytes-drop recordSize s b) i
 
 nodes-count : (n : ℕ) (s : List ℕ) → length (nodesIn n s) ≡ n
 unfolding nodesIn
 nodes-count zero s = refl
-nodes-count (suc n) s = ap suc (nodes-count n (drop 20 s))
+nodes-count (suc n) s = ap suc (nodes-count n (drop recordSize s))
 
 -- what bytes read as fits
 pub card-fits : (s : List ℕ) → Bytes s → Fits (cardIn s)
 card-fits s b = record {
-  nodes = nodes-fit 64 (drop 8 s) (bytes-drop 8 s b);
-  records = nodes-count 64 (drop 8 s);
+  nodes = nodes-fit 64 (drop headSize s) (bytes-drop headSize s b);
+  records = nodes-count 64 (drop headSize s);
   count = half-fits s 0 (b 0) (b 1);
   used = half-fits s 2 (b 2) (b 3);
-  system = half-fits s 4 (b 4) (b 5);
-  version = half-fits s 6 (b 6) (b 7);
+  system = record { code = half-fits s 4 (b 4) (b 5); version = half-fits s 6 (b 6) (b 7) };
 }
 
 -- a new card fits
-pub new-fits : (system version : ℕ) → system < 2 ^ 16 → version < 2 ^ 16 → Fits (newCard system version)
-new-fits system version s v = record {
+pub new-fits : (system : System) → SystemFits system → Fits (newCard system)
+new-fits system h = record {
   nodes = roots 64;
   records = refl;
   count = omega arith;
   used = omega arith;
-  system = s;
-  version = v;
+  system = h;
 }
   where
     roots : (n : ℕ) (i : ℕ) → NodeFits (getD (replicate n rootNode) i rootNode)
@@ -116,14 +116,9 @@ new-fits system version s v = record {
 
 -- so does what stands for none
 none-fits : Fits noCard
-none-fits = record {
-  nodes = new-fits 0 0 (omega arith) (omega arith) .nodes;
-  records = refl;
-  count = omega arith;
-  used = omega arith;
-  system = omega arith;
-  version = omega arith;
-}
+none-fits =
+    let none : SystemFits (systemOf 0 0) = record { code = omega arith; version = omega arith } in
+    record { nodes = new-fits (systemOf 0 0) none .nodes; records = refl; count = omega arith; used = omega arith; system = none }
 
 -- what is decoded fits
 pub decoded-fits : (s : List ℕ) → Bytes s → Fits (decodedOf s)
@@ -135,10 +130,10 @@ decoded-fits s b = by (isCard s)
     by false = none-fits
 
 -- every card that accepted additions and limits produce fits, its nodes' numbers being of their types
-pub built-fits : {c : Card} → Built c → ((i : ℕ) → NodeFits (getD (c .nodes) i rootNode)) → c .system < 2 ^ 16 → c .version < 2 ^ 16 → Fits c
-built-fits b n s v =
+pub built-fits : {c : Card} → Built c → ((i : ℕ) → NodeFits (getD (c .nodes) i rootNode)) → SystemFits (c .system) → Fits c
+built-fits b n s =
     let z = sized b in
-    record { nodes = n; records = z .long; count = omega (arith, z .few); used = omega (arith, z .most); system = s; version = v }
+    record { nodes = n; records = z .long; count = omega (arith, z .few); used = omega (arith, z .most); system = s }
 
 -- one record anew
 set-fits : (ns : List Node) (k : ℕ) (n : Node) → ((i : ℕ) → NodeFits (getD ns i rootNode)) → NodeFits n →
@@ -161,14 +156,13 @@ not-accepted : {A : Type 0} {c c′ : Card} {r : Refusal} → refused c r ≡ ac
 not-accepted e = let a : Refused _ ≡ Done = ap (λ (x : Added). x .answer) e in absurd (let z : _≡_ {A = ℕ} 0 1 = cc in (omega arith))
 
 -- one record more
-grown-fits : {c : Card} {n : Node} {used : ℕ} → Fits c → NodeFits n → length (nodesOf c) < 64 → used ≤ 4096 → Fits (grown c n used)
+grown-fits : {c : Card} {n : Node} {used : ℕ} → Fits c → NodeFits n → c .count ≤ 64 → used ≤ 4096 → Fits (grown c n used)
 grown-fits {c = c} {n = n} f h few most = record {
   nodes = set-fits (c .nodes) (c .count) n (f .nodes) h;
   records = length-set (c .nodes) (c .count) n ∙ f .records;
-  count = omega (arith, simp length-take at few, f .records);
+  count = omega (arith, few);
   used = omega arith;
   system = f .system;
-  version = f .version;
 }
 
 module _ {c c′ : Card} (f : Fits c) where
@@ -178,17 +172,21 @@ module _ {c c′ : Card} (f : Fits c) where
   unfolding areaAdded addArea
   area-fits depth code end version h k l e =
       let p = past-eight c (f .records) e in
-      by (areaJudged (nodesOf c) depth code end) refl (sized (p .0) .most) (p .1)
+      full (leb 64 (c .count)) (sized (p .0)) (p .1)
     where
       n : Node
       n = nodeAs depth code version (Area end)
 
-      by : (a : Answer) → areaJudged (nodesOf c) depth code end ≡ a → c .used ≤ 4096 → areaBy c n a ≡ accepted c′ → Fits c′
-      by Done j m e =
+      by : (a : Answer) → areaJudged (nodesOf c) depth code end ≡ a → Sized c → areaBy c n a ≡ accepted c′ → Fits c′
+      by Done j z e =
           let d = area-deep (nodesOf c) depth code end j in
           let x : NodeFits n = record { depth = omega arith; code = h; version = l; entry = k } in
-          subst Fits (ap (λ (x : Added). x .card) e) (grown-fits f x (area-room (nodesOf c) depth code end j) m)
-      by (Refused r) j m e = not-accepted e
+          subst Fits (ap (λ (x : Added). x .card) e) (grown-fits f x (z .few) (z .most))
+      by (Refused r) j z e = not-accepted e
+
+      full : (t : Bool) → Sized c → cond t (refused c TableFull) (areaBy c n (areaJudged (nodesOf c) depth code end)) ≡ accepted c′ → Fits c′
+      full true z e = not-accepted e
+      full false z e = by (areaJudged (nodesOf c) depth code end) refl z e
 
   -- an accepted service
   pub service-fits : (arenaLen depth code blocks version : ℕ) → code < 2 ^ 16 → version < 2 ^ 16 →
@@ -196,17 +194,17 @@ module _ {c c′ : Card} (f : Fits c) where
   unfolding serviceAdded addService
   service-fits arenaLen depth code blocks version h l e =
       let p = past-eight c (f .records) e in
-      short (ltb arenaLen (16 * c .used)) (sized (p .0) .most) (p .1)
+      short (ltb arenaLen (16 * c .used)) (leb 64 (c .count)) (sized (p .0)) (p .1)
     where
       store : (e : Entry) → EntryFits e → (startOf e < 2 ^ 16) × (blocksOf e < 2 ^ 16)
       store (Area end) g = (omega arith, omega arith)
       store (Service s b l) g = (g .0, g .1)
 
-      by : (a : Placed) → placedOf (nodesOf c) (c .used) arenaLen depth code blocks ≡ a → c .used ≤ 4096 →
+      by : (a : Placed) → placedOf (nodesOf c) (c .used) arenaLen depth code blocks ≡ a → Sized c →
           serviceBy c depth code version a ≡ accepted c′ → Fits c′
-      by (Store s b u) j m e =
+      by (Store s b u) j z e =
           let d = service-known (nodesOf c) (c .used) arenaLen depth code blocks j in
-          let least = used-most (nodesOf c) depth code (c .used) arenaLen blocks j m in
+          let least = used-most (nodesOf c) depth code (c .used) arenaLen blocks j (z .most) in
           let own : (s < 2 ^ 16) × (b < 2 ^ 16) =
           ⊎-elim
           (λ o.
@@ -216,13 +214,14 @@ module _ {c c′ : Card} (f : Fits c) where
           (stored (nodesOf c) depth code (c .used) arenaLen blocks j) in
           let x : NodeFits (nodeAs depth code version (Service s b Unlimited)) =
           record { depth = omega arith; code = h; version = l; entry = (own .0, own .1, tt) } in
-          subst Fits (ap (λ (x : Added). x .card) e) (grown-fits f x (allowed (nodesOf c) depth code (c .used) arenaLen blocks j .room) least)
-      by (NotPlaced r) j m e = not-accepted e
+          subst Fits (ap (λ (x : Added). x .card) e) (grown-fits f x (z .few) least)
+      by (NotPlaced r) j z e = not-accepted e
 
-      short : (t : Bool) → c .used ≤ 4096 → cond t (refused c ShortArena)
-          (serviceBy c depth code version (placedOf (nodesOf c) (c .used) arenaLen depth code blocks)) ≡ accepted c′ → Fits c′
-      short true m e = not-accepted e
-      short false m e = by (placedOf (nodesOf c) (c .used) arenaLen depth code blocks) refl m e
+      short : (t u : Bool) → Sized c → cond t (refused c ShortArena) (cond u (refused c TableFull)
+          (serviceBy c depth code version (placedOf (nodesOf c) (c .used) arenaLen depth code blocks))) ≡ accepted c′ → Fits c′
+      short true u z e = not-accepted e
+      short false true z e = not-accepted e
+      short false false z e = by (placedOf (nodesOf c) (c .used) arenaLen depth code blocks) refl z e
 
   -- an accepted limit
   pub limit-fits : (upper lower : ℤ) (generation : ℕ) → LimitFits (Limited upper lower generation) →
@@ -242,7 +241,6 @@ module _ {c c′ : Card} (f : Fits c) where
             count = f .count;
             used = f .used;
             system = f .system;
-            version = f .version;
           })
 
 -- bytes encode a card exactly where they are what is written of the card that they read as

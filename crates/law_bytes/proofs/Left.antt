@@ -7,26 +7,28 @@ use lib.IntN.{ℤ}
 use lib.ListN.{length}
 use borrow.Author.Tests.{eq-eqb}
 use Rattle.service_code.specs.declared.limit.Limit.the-variants.{Limited}
+use Rattle.card_build.specs.declared.card.System.{System}
 use Rattle.card_build.specs.declared.card.Card.{Card}
 use Rattle.card_build.specs.declared.card.Added.{Added}
 use Rattle.card_build.specs.Card.{newCard, isSound, accepted}
 use Rattle.card_build.specs.Build.{areaAdded, serviceAdded, limitAdded}
 use Rattle.card_laws.proofs.Built.{built-sound, past-eight}
+use Rattle.handset_bytes.specs.Layout.{cardSize}
 use Rattle.handset_bytes.specs.Card.{cardPut, isCard, decodedOf}
-use Rattle.handset_bytes.specs.Fits.{LimitFits, Fits, Bytes}
+use Rattle.handset_bytes.specs.Fits.{LimitFits, SystemFits, Fits, Bytes}
 use Rattle.law_bytes.proofs.Round.{valid-long, read-back, unsound}
 use Rattle.law_bytes.proofs.Fitting.{decoded-fits, new-fits, area-fits, service-fits, limit-fits}
 use Rattle.handset.specs.Kept.{cardAfter}
 
 -- bytes of a card's length, written anew
-put-back : (s : List ℕ) (c : Card) → length s ≡ 1288 → Fits c → decodedOf (cardPut c s) ≡ c
+put-back : (s : List ℕ) (c : Card) → length s ≡ cardSize → Fits c → decodedOf (cardPut c s) ≡ c
 unfolding cardPut
-put-back s c h f = rw (eq-eqb (length s) 1288 h) (read-back c f)
+put-back s c h f = rw (eq-eqb (length s) cardSize h) (read-back c f)
 
 -- a new card
-pub new-left : (s : List ℕ) (system version : ℕ) → length s ≡ 1288 → system < 2 ^ 16 → version < 2 ^ 16 →
-    decodedOf (cardPut (newCard system version) s) ≡ newCard system version
-new-left s system version h k l = put-back s (newCard system version) h (new-fits system version k l)
+pub new-left : (s : List ℕ) (system : System) → length s ≡ cardSize → SystemFits system →
+    decodedOf (cardPut (newCard system) s) ≡ newCard system
+new-left s system h k = put-back s (newCard system) h (new-fits system k)
 
 -- bytes whose card is sound encode one
 sound-is : (s : List ℕ) → isSound (decodedOf s) ≡ true → isCard s ≡ true

@@ -13,6 +13,7 @@ use Rattle.card_sound.specs.Sound.{soundOf}
 use Rattle.card_build.specs.declared.card.Card.{Card}
 use Rattle.card_build.specs.Card.{isSound}
 use Rattle.byte_parts.specs.Half.{halfBytes, halfAt}
+use Rattle.handset_bytes.specs.Layout.{headSize, recordSize, cardSize}
 use Rattle.handset_bytes.specs.Node.{nodeBytes}
 use Rattle.handset_bytes.specs.Card.{nodesBytes, cardBytes, nodesIn, areRecords, cardIn, isCard, decodedOf}
 use Rattle.handset_bytes.specs.Fits.{NodeFits, Fits, Bytes}
@@ -21,20 +22,20 @@ use Rattle.handset_bytes.proofs.Long.{node-long}
 use Rattle.law_bytes.proofs.Records.{node-record, node-back, spread, spread-is, node-says}
 use Rattle.byte_parts.proofs.Halves.{half-back, half-says}
 
--- records are twenty bytes each
-pub nodes-long : (ns : List Node) → length (nodesBytes ns) ≡ 20 * length ns
+-- how many bytes records take
+pub nodes-long : (ns : List Node) → length (nodesBytes ns) ≡ recordSize * length ns
 unfolding nodesBytes
 nodes-long [] = refl
 nodes-long (n ∷ ns) = simp length-append (omega (arith, node-long n, nodes-long ns))
 
 module _ (n : Node) (rest : List ℕ) where
   -- the first of them
-  first-record : take 20 (nodeBytes n ++ rest) ≡ nodeBytes n
-  first-record = take-at (nodeBytes n) rest 20 (node-long n)
+  first-record : take recordSize (nodeBytes n ++ rest) ≡ nodeBytes n
+  first-record = take-at (nodeBytes n) rest recordSize (node-long n)
 
   -- those after it
-  later-records : drop 20 (nodeBytes n ++ rest) ≡ rest
-  later-records = drop-at (nodeBytes n) rest 20 (node-long n)
+  later-records : drop recordSize (nodeBytes n ++ rest) ≡ rest
+  later-records = drop-at (nodeBytes n) rest recordSize (node-long n)
 
 -- what is written of nodes are records
 nodes-record : (ns : List Node) → areRecords (length ns) (nodesBytes ns) ≡ true
@@ -50,8 +51,8 @@ nodes-back (n ∷ ns) f =
     rw (first-record n (nodesBytes ns), later-records n (nodesBytes ns), node-back n (f 0))
     (ap (λ (l : List Node). n ∷ l) (nodes-back ns (λ i. f (suc i))))
 
--- a card has 1,288 bytes
-pub card-long : (c : Card) → length (c .nodes) ≡ 64 → length (cardBytes c) ≡ 1288
+-- how many bytes a card takes
+pub card-long : (c : Card) → length (c .nodes) ≡ 64 → length (cardBytes c) ≡ cardSize
 unfolding cardBytes halfBytes
 card-long c h = omega (arith, nodes-long (c .nodes))
 
@@ -60,7 +61,7 @@ pub written-is : (c : Card) → Fits c → isCard (cardBytes c) ≡ true
 unfolding cardBytes halfBytes isCard
 written-is c f =
     let ok : areRecords 64 (nodesBytes (c .nodes)) ≡ true = rw (f .records) at (nodes-record (c .nodes)) in
-    rw (eq-eqb _ 1288 (card-long c (f .records)), ok)
+    rw (eq-eqb _ cardSize (card-long c (f .records)), ok)
 
 -- and is read back
 pub read-back : (c : Card) → Fits c → decodedOf (cardBytes c) ≡ c
@@ -68,32 +69,32 @@ unfolding cardBytes halfBytes halfAt decodedOf
 read-back c f =
     let same : nodesIn 64 (nodesBytes (c .nodes)) ≡ c .nodes = rw (f .records) at (nodes-back (c .nodes) (f .nodes)) in
     rw (written-is c f)
-    (rw (same, half-back (c .count) (f .count), half-back (c .used) (f .used), half-back (c .system) (f .system), half-back (c .version) (f .version)))
+    (rw (same, half-back (c .count) (f .count), half-back (c .used) (f .used), half-back (c .system .code) (f .system .code), half-back (c .system .version) (f .system .version)))
 
 -- records are what is written of the nodes that they read as
-nodes-say : (n : ℕ) (s : List ℕ) → Bytes s → length s ≡ 20 * n → areRecords n s ≡ true → nodesBytes (nodesIn n s) ≡ s
+nodes-say : (n : ℕ) (s : List ℕ) → Bytes s → length s ≡ recordSize * n → areRecords n s ≡ true → nodesBytes (nodesIn n s) ≡ s
 unfolding nodesBytes nodesIn areRecords
 nodes-say zero [] b h e = refl
 nodes-say zero (x ∷ s) b h e = absurd (omega arith)
 nodes-say (suc n) s b h e =
     let t = and-eq-true-iff _ _ .0 e in
-    let first = node-says (take 20 s) (bytes-take 20 s b) (length-take-le 20 s (omega arith)) (t .0) in
-    let later = nodes-say n (drop 20 s) (bytes-drop 20 s b) (simp length-drop (omega arith)) (t .1) in
-    rw (first, later) (take-append-drop 20 s)
+    let first = node-says (take recordSize s) (bytes-take recordSize s b) (length-take-le recordSize s (omega arith)) (t .0) in
+    let later = nodes-say n (drop recordSize s) (bytes-drop recordSize s b) (simp length-drop (omega arith)) (t .1) in
+    rw (first, later) (take-append-drop recordSize s)
 
 -- so are the bytes of a card
 pub card-says : (s : List ℕ) → Bytes s → isCard s ≡ true → cardBytes (cardIn s) ≡ s
 unfolding isCard cardBytes
 card-says s b e =
     let t = and-eq-true-iff _ _ .0 e in
-    let long : length s ≡ 1288 = eqb-true _ _ (t .0) in
-    let head : spread 8 s 0 ≡ take 8 s = spread-is 8 s 0 (omega arith) in
-    let rest = nodes-say 64 (drop 8 s) (bytes-drop 8 s b) (simp length-drop (omega arith)) (t .1) in
+    let long : length s ≡ cardSize = eqb-true _ _ (t .0) in
+    let head : spread headSize s 0 ≡ take headSize s = spread-is headSize s 0 (omega arith) in
+    let rest = nodes-say 64 (drop headSize s) (bytes-drop headSize s b) (simp length-drop (omega arith)) (t .1) in
     rw (half-says s 0 (b 0) (b 1), half-says s 2 (b 2) (b 3), half-says s 4 (b 4) (b 5), half-says s 6 (b 6) (b 7), rest)
-    (ap (λ (l : List ℕ). l ++ drop 8 s) head ∙ take-append-drop 8 s)
+    (ap (λ (l : List ℕ). l ++ drop headSize s) head ∙ take-append-drop headSize s)
 
--- they are 1,288
-pub valid-long : (s : List ℕ) → isCard s ≡ true → length s ≡ 1288
+-- they are as many as a card takes
+pub valid-long : (s : List ℕ) → isCard s ≡ true → length s ≡ cardSize
 unfolding isCard
 valid-long s e = eqb-true _ _ (and-eq-true-iff _ _ .0 e .0)
 

@@ -22,6 +22,7 @@ use Rattle.card_build.specs.declared.card.Card.{Card}
 use Rattle.request_plan.specs.declared.Reply.{Reply}
 use Rattle.request_plan.specs.declared.Reply.the-variants.{Refused, Done, ShortData, Failed}
 use Rattle.request_plan.proofs.Accepted.{read-leaves}
+use Rattle.handset_bytes.specs.Layout.{headSize, recordSize}
 use Rattle.handset_bytes.specs.Card.{nodesIn, cardIn, noCard, isCard, decodedOf}
 use Rattle.handset.specs.Reply.{replyAs}
 use Rattle.law_terminals.specs.Two.{Answer}
@@ -36,14 +37,14 @@ use Rattle.handset.proofs.requests.uluvoli_write as write
 nodes-long : (n : ℕ) (s : List ℕ) → length (nodesIn n s) ≡ n
 unfolding nodesIn
 nodes-long zero s = refl
-nodes-long (suc n) s = ap suc (nodes-long n (drop 20 s))
+nodes-long (suc n) s = ap suc (nodes-long n (drop recordSize s))
 
 pub decoded-long : (s : List ℕ) → length (decodedOf s .nodes) ≡ 64
 unfolding decodedOf
 decoded-long s = by-test (isCard s)
   where
     by-test : (t : Bool) → length (cond t (cardIn s) noCard .nodes) ≡ 64
-    by-test true = nodes-long 64 (drop 8 s)
+    by-test true = nodes-long 64 (drop headSize s)
     by-test false = length-replicate 64 rootNode
 
 -- no refusal has number 0

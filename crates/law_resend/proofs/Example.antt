@@ -19,7 +19,7 @@ use Rattle.card_nodes.specs.Find.{firstFrom, openAt, parentFrom}
 use Rattle.card_admit.specs.Admit.{isDepth, parentAt, outside, serviceUnder, sameKind, joinedTo, usable, newStore, placedOf}
 use Rattle.card_sound.specs.Sound.{isRoot, allRoots, stepOf, stepsFrom, stepsOf, soundOf}
 use Rattle.card_build.specs.declared.card.Card.{Card}
-use Rattle.card_build.specs.Card.{newCard}
+use Rattle.card_build.specs.Card.{systemOf, newCard}
 use Rattle.card_build.specs.Grow.{addService}
 use Rattle.card_laws.specs.Built.{Built, new, service}
 use Rattle.request_check.specs.Row.{rowOf}
@@ -40,7 +40,7 @@ use Rattle.law_resend.proofs.Resend.{built-resent}
 
 -- lanes, a random store of one block, number 41h
 abbrev lanes : Card
-lanes = addService (newCard 1 0) 96 1 0x1049 1 0 .card
+lanes = addService (newCard (systemOf 1 0)) 96 1 0x1049 1 0 .card
 
 -- a purse of two blocks, number 42h: what is paid, what is given back or paid, what is lowered directly
 abbrev paid : Card
@@ -63,7 +63,7 @@ built =
     (service {c = given} 96 1 0x1091 2 0
     (service {c = paid} 96 1 0x1093 2 0
     (service {c = lanes} 96 1 0x1095 2 0
-    (service {c = newCard 1 0} 96 1 0x1049 1 0 (new 1 0) refl) refl) refl) refl) refl
+    (service {c = newCard (systemOf 1 0)} 96 1 0x1049 1 0 (new (systemOf 1 0)) refl) refl) refl) refl) refl
 
 -- the arena: a lane, the two blocks of the purse, the ring
 abbrev arenaOf : ℕ → List ℕ → List ℕ → List ℕ → List ℕ

@@ -24,7 +24,7 @@ use Rattle.card_nodes.specs.Find.{firstFrom, openAt, parentFrom}
 use Rattle.card_admit.specs.Admit.{isDepth, parentAt, rootMisfit, outside, areaUnder, areaJudged, serviceUnder, sameKind, joinedTo, usable, newStore, placedOf}
 use Rattle.card_sound.specs.Sound.{isRoot, allRoots, stepOf, stepsFrom, stepsOf, soundOf}
 use Rattle.card_build.specs.declared.card.Card.{Card}
-use Rattle.card_build.specs.Card.{newCard}
+use Rattle.card_build.specs.Card.{systemOf, newCard}
 use Rattle.card_build.specs.Grow.{addArea, addService, setLimit}
 use Rattle.card_laws.specs.Built.{Built, new, area, service, limit}
 use Rattle.card_laws.proofs.Laid.{sized}
@@ -49,7 +49,7 @@ use Rattle.law_terminals.proofs.Race as Race
 
 -- lanes, a random store of two blocks, number 41h
 abbrev lanes : Card
-lanes = addService (newCard 1 0) 80 1 0x1049 2 0 .card
+lanes = addService (newCard (systemOf 1 0)) 80 1 0x1049 2 0 .card
 
 -- with a read-only service that joins it
 abbrev towers : Card
@@ -70,13 +70,13 @@ built = (
   service {c = credit} 80 1 0x10cd 2 0
       (service {c = towers} 80 1 0x1095 1 0
       (service {c = lanes} 80 1 0x104b 9 0
-      (service {c = newCard 1 0} 80 1 0x1049 2 0 (new 1 0) refl) refl) refl) refl,
+      (service {c = newCard (systemOf 1 0)} 80 1 0x1049 2 0 (new (systemOf 1 0)) refl) refl) refl) refl,
   service {c = Race.limited} 112 2 0x1097 1 0
       (limit {c = Race.credit} (pos 120) (pos 0) 1
       (service {c = Race.towers} 112 2 0x1095 1 0
       (service {c = Race.marshals} 112 2 0x104b 6 0
       (service {c = Race.field} 112 2 0x1049 6 0
-      (area {c = newCard 1 0} 1 0x1040 0x10bf 0 (new 1 0) refl) refl) refl) refl) refl) refl,
+      (area {c = newCard (systemOf 1 0)} 1 0x1040 0x10bf 0 (new (systemOf 1 0)) refl) refl) refl) refl) refl) refl,
 )
 
 -- 80 bytes: empty lanes, a credit of 100, two blocks of 7

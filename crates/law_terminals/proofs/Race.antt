@@ -9,14 +9,14 @@ use lib.ListN.{replicate}
 use Rattle.service_code.specs.Code.{numberOf}
 use Rattle.block_list.specs.Element.{unpackAt, elementsFrom}
 use Rattle.card_build.specs.declared.card.Card.{Card}
-use Rattle.card_build.specs.Card.{newCard}
+use Rattle.card_build.specs.Card.{systemOf, newCard}
 use Rattle.card_build.specs.Grow.{addArea, addService, setLimit}
 use Rattle.request_plan.specs.Request.{Request, readRequest, writeRequest}
 use Rattle.law_terminals.specs.Last.{NamesBlock}
 
 -- the regatta's area; crews and lanes, a random store of six blocks, with the tower's read-only service; practice credit, with limits
 abbrev pub field : Card
-field = addArea (newCard 1 0) 1 0x1040 0x10bf 0 .card
+field = addArea (newCard (systemOf 1 0)) 1 0x1040 0x10bf 0 .card
 
 abbrev pub marshals : Card
 marshals = addService field 112 2 0x1049 6 0 .card

@@ -23,7 +23,7 @@ use Rattle.line_image.specs.Line.{codeAt, numberAt, boundAt, withCode, w
 -- a line that names a block has passed a test
 abbrev Passed : Bool → Line → Type 0
 Passed b Malformed = Unit {0}
-Passed b (Card s v) = Unit {0}
+Passed b (Card s) = Unit {0}
 Passed b (Area d c e v) = Unit {0}
 Passed b (Service d c n v) = Unit {0}
 Passed b (Limit u l g) = Unit {0}

@@ -4,6 +4,7 @@ use mathlib.Core.Bool.{true, false}
 use mathlib.Core.List.{[], _∷_}
 use lib.IntN.{pos, negsuc}
 use Rattle.byte_parts.specs.Part.{sameBytes}
+use Rattle.card_build.specs.Card.{systemOf}
 use Rattle.text_fields.specs.Field.{split}
 use Rattle.text_numbers.specs.Digit.{among, digitOf, digits, spelt}
 use Rattle.text_numbers.specs.Hex.{grouped, hexField}
@@ -14,7 +15,7 @@ use Rattle.line_image.specs.Line.{cardLine, headingOf, areaLine, service
 
 -- `card 0001 0000`, `svc 1 1049 2 0000` and `svc 1 104B 5 0000`, with a tab for each blank.
 pub whole-case
-    : (imageLine true (99 ∷ 97 ∷ 114 ∷ 100 ∷ 9 ∷ 48 ∷ 48 ∷ 48 ∷ 49 ∷ 9 ∷ 48 ∷ 48 ∷ 48 ∷ 48 ∷ []) ≡ Card 1 0)
+    : (imageLine true (99 ∷ 97 ∷ 114 ∷ 100 ∷ 9 ∷ 48 ∷ 48 ∷ 48 ∷ 49 ∷ 9 ∷ 48 ∷ 48 ∷ 48 ∷ 48 ∷ []) ≡ Card (systemOf 1 0))
     × (imageLine false (115 ∷ 118 ∷ 99 ∷ 9 ∷ 49 ∷ 9 ∷ 49 ∷ 48 ∷ 52 ∷ 57 ∷ 9 ∷ 50 ∷ 9 ∷ 48 ∷ 48 ∷ 48 ∷ 48 ∷ []) ≡ Service 1 0x1049 2 0)
     × (imageLine false (115 ∷ 118 ∷ 99 ∷ 9 ∷ 49 ∷ 9 ∷ 49 ∷ 48 ∷ 52 ∷ 66 ∷ 9 ∷ 53 ∷ 9 ∷ 48 ∷ 48 ∷ 48 ∷ 48 ∷ []) ≡ Service 1 0x104B 5 0)
 unfolding among digitOf digits spelt plain upTo decimal positive negative signed grouped hexField hex16 split sameBytes named form hex32 cardLine headingOf areaLine serviceLine limitLine blockLine firstLine laterLine imageLine

@@ -28,7 +28,7 @@ answered c x = record { card = c; answer = x }
 -- what comes of a line; the last field of `blk` spells the block's bytes
 abbrev pub carried : Card → List ℕ → List (List ℕ) → Line → Imaged
 carried c a fs Malformed = record { added = refused c MalformedImage; arena = a }
-carried c a fs (New system version) = record { added = accepted (newCard system version); arena = a }
+carried c a fs (New system) = record { added = accepted (newCard system); arena = a }
 carried c a fs (Area depth code end version) = record { added = areaAdded c depth code end version; arena = a }
 carried c a fs (Service depth code blocks version) =
     record { added = serviceAdded c (length a) depth code blocks version; arena = arenaAdded c (serviceAdded c (length a) depth code blocks version) a }

@@ -6,6 +6,7 @@ use lib.Dec.{ltb, eqb}
 use lib.IntN.{ℤ}
 use lib.ListN.{length, getD}
 use Rattle.byte_parts.specs.Part.{sameBytes}
+use Rattle.card_build.specs.Card.{systemOf}
 use Rattle.text_fields.specs.Field.{split}
 use Rattle.text_numbers.specs.declared.codes.Code.{Code}
 use Rattle.text_numbers.specs.declared.codes.Code.the-variants as codes
@@ -44,12 +45,12 @@ abbrev pub withBound : Signed → (ℤ → Line) → Line
 withBound (signs.Is z) more = more z
 withBound signs.Bad more = Malformed
 
--- `card` system version
+-- `card` code version
 unfoldable pub cardLine : List (List ℕ) → Line
 cardLine fs =
-    withCode (codeAt fs 1) (λ system.
+    withCode (codeAt fs 1) (λ code.
     withCode (codeAt fs 2) (λ version.
-    Card system version))
+    Card (systemOf code version)))
 
 -- depth, code and version, which `area` and `svc` have in fields 1, 2 and 4
 abbrev pub headingBy : Number → Code → Code → Heading

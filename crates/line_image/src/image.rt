@@ -40,7 +40,7 @@ pub fn image_line(card: Card, first: bool, arena: &mut [u8], line: &[u8]) -> Add
 {
     match read_line(line, first) {
         Line::Malformed => keep(card, Answer::Refused(Refusal::MalformedImage)),
-        Line::Card { system, version } => keep(Card::new(system, version), Answer::Done),
+        Line::Card(system) => keep(Card::new(system), Answer::Done),
         Line::Area {
             depth,
             code,

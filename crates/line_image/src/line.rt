@@ -1,6 +1,7 @@
 // What an image line says.
 use byte_parts::sizes::LONGEST_LINE;
 use byte_parts::spans;
+use card_build::card::System;
 use text_numbers::codes::Code;
 use text_numbers::codes::read_hex16;
 use text_numbers::decimals::Number;
@@ -15,10 +16,7 @@ ghost use Rattle.line_image.specs.Line.{codeAt, numberAt, boundAt, hex32
 // What an image line says, or that it is malformed. A block's bytes stay in the line's last field.
 pub enum Line {
     Malformed,
-    Card {
-        system: u16,
-        version: u16,
-    },
+    Card(System),
     Area {
         depth: u32,
         code: u16,
@@ -63,17 +61,17 @@ fn bound_at(line: &[u8], k: usize) -> Signed
     read_signed(text_fields::field(line, k, b'\t'))
 }
 
-// Reads a line `card`: system, version.
+// Reads a line `card`: the system's code, its version.
 fn card_line(line: &[u8]) -> Line
     ensures { λ r. ⌜ r ≡ cardLine (split 9 (now (line .entry))) ⌝ }
 {
-    let Code::Is(system) = code_at(line, 1) else {
+    let Code::Is(code) = code_at(line, 1) else {
         return Line::Malformed;
     };
     let Code::Is(version) = code_at(line, 2) else {
         return Line::Malformed;
     };
-    Line::Card { system, version }
+    Line::Card(System { code, version })
 }
 
 // What `area` and `svc` have in common: depth, code and version, in fields 1, 2 and 4.

@@ -7,7 +7,7 @@ use Rattle.answers.specs.declared.refusal.Refusal.{Refusal}
 use Rattle.answers.specs.declared.refusal.Refusal.the-variants.{MalformedImage}
 use Rattle.answers.specs.Refusal.{refusalNumber}
 use Rattle.text_numbers.specs.Decimal.{decText}
-use Rattle.card_build.specs.Card.{newCard}
+use Rattle.card_build.specs.Card.{systemOf, newCard}
 use Rattle.line_answer.specs.Answer.{closed}
 use Rattle.replay_state.specs.declared.Phase.{Phase}
 use Rattle.replay_state.specs.declared.Phase.the-variants.{First, Image, Requests, Ended}
@@ -15,7 +15,7 @@ use Rattle.replay_state.specs.declared.Replay.{Replay}
 
 -- ahead of line 1 there is no card yet; an empty one stands in its place
 abbrev pub startOf : Replay
-startOf = record { card = newCard 0 0; phase = First; lines = 0; asked = 0 }
+startOf = record { card = newCard (systemOf 0 0); phase = First; lines = 0; asked = 0 }
 
 -- line numbers and ordinals count from 1, as far as 64 bits hold
 unfoldable pub oneMore : ℕ → ℕ

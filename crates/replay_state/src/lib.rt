@@ -2,6 +2,7 @@
 use answers::refusal::Refusal;
 use byte_parts::spans;
 use card_build::card::Card;
+use card_build::card::System;
 ghost use mathlib.Core.Path.{_≡_};
 ghost use Prim.Native.Nat.{_+_, _≤_};
 ghost use lib.ListN.{length};
@@ -29,7 +30,10 @@ pub fn start() -> Replay
     ensures { λ r. ⌜ r ≡ startOf ⌝ }
 {
     Replay {
-        card: Card::new(0, 0),
+        card: Card::new(System {
+            code: 0,
+            version: 0,
+        }),
         phase: Phase::First,
         lines: 0,
         asked: 0,

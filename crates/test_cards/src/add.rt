@@ -5,6 +5,7 @@ use answers::refusal::Answer;
 use byte_parts::word;
 use card_build::card::Added;
 use card_build::card::Card;
+use card_build::card::System;
 
 // A card, the length of the arena that is lent, and whether the line agreed.
 pub(crate) struct Grown {
@@ -14,9 +15,9 @@ pub(crate) struct Grown {
 }
 
 // A new card.
-pub(crate) fn start(system: u16, version: u16, arena_len: usize) -> Grown {
+pub(crate) fn start(system: System, arena_len: usize) -> Grown {
     Grown {
-        card: Card::new(system, version),
+        card: Card::new(system),
         arena_len,
         agrees: true,
     }
@@ -100,7 +101,11 @@ fn tree(g: Grown, b: &[u8]) -> Grown {
     if b.len() != 8 {
         return unknown(g);
     }
-    start(at16(b, 0), at16(b, 2), at32(b, 4) as usize)
+    let system = System {
+        code: at16(b, 0),
+        version: at16(b, 2),
+    };
+    start(system, at32(b, 4) as usize)
 }
 
 // A line `m`: the length of the arena from here on.

@@ -2,6 +2,7 @@
 // and serving requests. Prints how many lines of each kind agree and how many lines do not.
 use add::Grown;
 use card_build::card::Card;
+use card_build::card::System;
 
 mod add;
 mod ask;
@@ -106,8 +107,12 @@ fn one_line(run: Run, line: &[u8], arena: &mut [u8]) -> Run {
 
 // Before the first line, which makes a card.
 fn start() -> Run {
+    let system = System {
+        code: 0,
+        version: 0,
+    };
     Run {
-        grown: add::start(0, 0, 0),
+        grown: add::start(system, 0),
         tally: Tally {
             cards: 0,
             additions: 0,

@@ -1,19 +1,20 @@
--- A new card is written to 1,288 bytes.
+-- A new card is written to as many bytes as a card has.
 use mathlib.Core.Path.{refl, _∙_, ap}
 use borrow.Author.Tests.{eq-eqb, ne-eqb}
 use denote.Ref.{now}
 use borrow.Author.Needs.{needs}
 use Rattle.card_build.specs.declared.card.Card.{Card}
+use Rattle.handset_bytes.specs.Layout.{cardSize}
 use Rattle.handset_bytes.specs.Card.{cardPut}
 use Rattle.handset.proofs.build.uluvoli_new.Statement.{statement}
 use Rattle.handset.proofs.build.uluvoli_new.Tie as tie
 
 returns : tie.Need-returns
 unfolding cardPut
-returns c = rw (ne-eqb _ 1288 (c .before .if1 .taken)) (c .refused .ensures, refl)
+returns c = rw (ne-eqb _ cardSize (c .before .if1 .taken)) (c .refused .ensures, refl)
 
 returns-2 : tie.Need-returns-2
-returns-2 c = rw (eq-eqb _ 1288 (c .before .before .before .before .before .if1 .left)) (refl, c .before .before .encode .ensures ∙ ap (λ (k : Card). cardPut k (now (c .before .before .before .before .before .before .before .args .card))) (c .before .before .before .before .new .ensures))
+returns-2 c = rw (eq-eqb _ cardSize (c .before .before .before .before .before .if1 .left)) (refl, c .before .before .encode .ensures ∙ ap (λ (k : Card). cardPut k (now (c .before .before .before .before .before .before .before .args .card))) (c .before .before .before .before .new .ensures))
 
 pub uluvoli-new-spec : {M : Type 1} → statement M
 uluvoli-new-spec =

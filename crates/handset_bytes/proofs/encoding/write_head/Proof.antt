@@ -8,7 +8,7 @@ returns : tie.Need-returns
 returns c =
     let third = c .before .before .before .before .before .before .before in
     let second = third .before .before .before .before .before in
-    head-put _ _ _ _ _ _ _ _ _ (second .before .before .before .before .put-half .ensures) (second .put-half2 .ensures) (third .put-half3 .ensures) (c .before .before .put-half4 .ensures)
+    head-put _ _ _ _ _ _ _ _ (second .before .before .before .before .put-half .ensures) (second .put-half2 .ensures) (third .put-half3 .ensures) (c .before .before .put-half4 .ensures)
 
 pub write-head-spec : {M : Type 1} → statement M
 write-head-spec =

@@ -15,8 +15,8 @@ abbrev parts : tie.After-code-at → List (List ℕ)
 parts c = split 9 (now (c .before .before .args .line))
 
 -- what was read of each
-system : (c : tie.After-code-at) {r : Code} → c .code-at .result ≡ r → codeAt (parts c) 1 ≡ r
-system c e = sym (c .code-at .ensures) ∙ e
+code : (c : tie.After-code-at) {r : Code} → c .code-at .result ≡ r → codeAt (parts c) 1 ≡ r
+code c e = sym (c .code-at .ensures) ∙ e
 
 version : (c : tie.After-code-at2) {r : Code} → c .code-at2 .result ≡ r → codeAt (parts (c .before .before .before .before)) 2 ≡ r
 version c e = sym (c .code-at2 .ensures) ∙ e
@@ -25,21 +25,21 @@ returns : tie.Need-returns
 unfolding cardLine
 returns c =
     let first = c .before .before in
-    rw (system first (c .enum-told .given .1))
+    rw (code first (c .enum-told .given .1))
 
 returns-2 : tie.Need-returns-2
 unfolding cardLine
 returns-2 c =
     let second = c .before .before in
     let first = second .before .before .before .before in
-    rw (system first (second .before .before .system .given .1), version second (c .enum-told2 .given .1))
+    rw (code first (second .before .before .code .given .1), version second (c .enum-told2 .given .1))
 
 returns-3 : tie.Need-returns-3
 unfolding cardLine
 returns-3 c =
     let second = c .before .before .before in
     let first = second .before .before .before .before in
-    rw (system first (second .before .before .system .given .1), version second (c .before .version .given .1))
+    rw (code first (second .before .before .code .given .1), version second (c .before .version .given .1))
 
 pub card-line-spec : {M : Type 1} → statement M
 card-line-spec =
