@@ -14,7 +14,7 @@ static uint8_t staging[ULUVOLI_LANES * ULUVOLI_BLOCK_SIZE];
 
 /* A card with eight lanes. */
 static uint32_t build(void) {
-    uint32_t answer = uluvoli_new(card, sizeof card, 0x0001, 0x0000);
+    uint32_t answer = uluvoli_new(card, sizeof card, 0x0001, 0x0000, false);
     if (answer == 0) {
         answer = uluvoli_add_service(card, sizeof card, arena, sizeof arena, 1, marshal_code[0], ULUVOLI_LANES, 0);
     }

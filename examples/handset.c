@@ -28,14 +28,16 @@ static uint32_t tell(const char *what, uint32_t answer) {
     return answer;
 }
 
-/* A card with an area, two lanes and a purse. */
+/* A card with an area, two lanes and a purse. It does not join: the tower's service has to name the lanes' count. */
 static void build(void) {
-    tell("new card", uluvoli_new(card, sizeof card, 0x0001, 0x0000));
+    tell("new card", uluvoli_new(card, sizeof card, 0x0001, 0x0000, false));
     tell("area 1000 to 10FF", uluvoli_add_area(card, sizeof card, 1, 0x1000, 0x10ff, 0x0000));
     tell("service 1049, 2 blocks",
          uluvoli_add_service(card, sizeof card, arena, sizeof arena, 2, marshal_code[0], 2, 0x0000));
-    tell("service 104B, joins it",
+    tell("service 104B, 9 blocks",
          uluvoli_add_service(card, sizeof card, arena, sizeof arena, 2, tower_code[0], 9, 0x0000));
+    tell("service 104B, joins it",
+         uluvoli_add_service(card, sizeof card, arena, sizeof arena, 2, tower_code[0], 2, 0x0000));
     tell("service 10D5, 1 block",
          uluvoli_add_service(card, sizeof card, arena, sizeof arena, 2, credit_code[0], 1, 0x0000));
     tell("limit -50 to 200", uluvoli_set_limit(card, sizeof card, 200, -50, 0));

@@ -18,7 +18,7 @@ static void tell(const char *what, uint32_t answer) {
 
 /* A regatta's card: a race with an area for its lanes, the clubs' credits side by side, and a notice. */
 static uint32_t build(void) {
-    uint32_t answer = uluvoli_new(card, sizeof card, 0x0001, 0x0000);
+    uint32_t answer = uluvoli_new(card, sizeof card, 0x0001, 0x0000, false);
     answer |= uluvoli_add_area(card, sizeof card, 1, 0x1000, 0x1fff, 0);
     answer |= uluvoli_add_area(card, sizeof card, 2, 0x1040, 0x10ff, 0);
     answer |= uluvoli_add_service(card, sizeof card, arena, sizeof arena, 3, 0x1049, 8, 0);

@@ -36,7 +36,7 @@ extern "C" {
 
 /* Sizes. */
 enum {
-    ULUVOLI_CARD_SIZE = 1288,        /* bytes of a card */
+    ULUVOLI_CARD_SIZE = 1290,        /* bytes of a card */
     ULUVOLI_BLOCK_SIZE = 16,         /* bytes of a block */
     ULUVOLI_ARENA_MOST = 65536,      /* bytes of an arena that can be used: 4,096 blocks */
     ULUVOLI_NODES_MOST = 64,         /* areas and services of a card, its root among them */
@@ -74,6 +74,7 @@ enum {
     ULUVOLI_NO_PARENT = 21,                  /* no parent at that depth, or a depth of 0 or over 8 */
     ULUVOLI_NO_ROOM = 22,                    /* too few unused blocks in the arena */
     ULUVOLI_NO_SUCH_BLOCK = 23,              /* no such service, or no block of that number */
+    ULUVOLI_COUNTS_DIFFER = 24,              /* the number's store has another block count, and the card does not join */
     ULUVOLI_NOT_A_SERVICE = 28,              /* a limit for a node that is no service */
     ULUVOLI_NOT_A_BLOCK = 30,                /* a block to set that is not sixteen bytes */
     ULUVOLI_RACES_DIFFER = 40,               /* two filled lanes of a board are of different races */
@@ -142,15 +143,17 @@ static inline bool uluvoli_pair(uint32_t answer, uint8_t *sf1, uint8_t *sf2) {
 
 /* ---- building: uluvoli_set_block apart, each call writes the card's bytes anew where it is done */
 
-/* Writes a card with nothing but its root area, 0000 to FFFE, whatever the bytes were. Refusals: 8, for the length. */
-uint32_t uluvoli_new(uint8_t *card, size_t card_len, uint16_t system, uint16_t version);
+/* Writes a card with nothing but its root area, 0000 to FFFE, whatever the bytes were. On a card that joins, a service
+ * may join a store of another block count than it names; on any other that is 24. Refusals: 8, for the length. */
+uint32_t uluvoli_new(uint8_t *card, size_t card_len, uint16_t system, uint16_t version, bool join);
 
 /* Adds an area from `code` to `end` under the latest node of depth - 1. Refusals: 8, 20, 21, 13, 12, 14, 11, 15, 18. */
 uint32_t uluvoli_add_area(uint8_t *card, size_t card_len, uint32_t depth, uint16_t code, uint16_t end,
                           uint16_t version);
 
 /* Adds a service. The first of its number (code / 64) makes a store of `blocks` zeroed blocks in the arena; a later one
- * joins that store, and its `blocks` is ignored. Refusals: 8, 7, 20, 21, 13, 16, 17, 19, 22. */
+ * joins that store and has to name its count, but on a card that joins its `blocks` is ignored. Refusals: 8, 7, 20, 21,
+ * 13, 16, 17, 19, 24, 22. */
 uint32_t uluvoli_add_service(uint8_t *card, size_t card_len, uint8_t *arena, size_t arena_len, uint32_t depth,
                              uint16_t code, uint32_t blocks, uint16_t version);
 

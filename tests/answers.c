@@ -104,17 +104,18 @@ static void added(uint32_t got, const char *field) {
 
 static void new_card(char *f[FIELDS]) {
     uint16_t system = (uint16_t)number(f[1]), version = (uint16_t)number(f[2]);
-    arena_len = number(f[3]);
+    bool join = number(f[3]) == 1;
+    arena_len = number(f[4]);
     used = 0;
     memset(arena, MARK, sizeof arena);
-    layout_new(card_wanted, system, version);
+    layout_new(card_wanted, system, version, join);
     for (size_t length = sizeof card - 1; length <= sizeof card + 1; length += 2) {
         mark_room(length);
-        check(uluvoli_new(lend_writable(ROOM, room, length), length, system, version) == UNBUILT, "a card's length");
+        check(uluvoli_new(lend_writable(ROOM, room, length), length, system, version, join) == UNBUILT, "a card's length");
         take_back();
         check(room_agrees(), "bytes of another length than a card's");
     }
-    added(uluvoli_new(lend_writable(CARD, card, sizeof card), sizeof card, system, version), "00");
+    added(uluvoli_new(lend_writable(CARD, card, sizeof card), sizeof card, system, version, join), "00");
 }
 
 static void area(char *f[FIELDS]) {

@@ -2,7 +2,7 @@
 
 #include <string.h>
 
-enum { HEADER = 8, RECORD = 20, RECORDS = 64, AREA = 0, SERVICE = 1, LIMITED = 2 };
+enum { HEADER = 10, RECORD = 20, RECORDS = 64, AREA = 0, SERVICE = 1, LIMITED = 2 };
 
 static uint8_t *record(uint8_t *card, unsigned index) { return card + HEADER + RECORD * index; }
 
@@ -37,11 +37,12 @@ static uint8_t *next(uint8_t *card) {
     return record(card, count);
 }
 
-void layout_new(uint8_t card[LAYOUT_SIZE], uint16_t system, uint16_t version) {
+void layout_new(uint8_t card[LAYOUT_SIZE], uint16_t system, uint16_t version, uint32_t join) {
     put(card, 2, 1);
     put(card + 2, 2, 0);
     put(card + 4, 2, system);
     put(card + 6, 2, version);
+    put(card + 8, 2, join);
     for (unsigned i = 0; i < RECORDS; i++) {
         head(record(card, i), AREA, 0, 0x0000, 0);
         put(record(card, i) + 6, 2, 0xfffe);

@@ -5,10 +5,10 @@
 
 #include <stdint.h>
 
-enum { LAYOUT_SIZE = 1288 };
+enum { LAYOUT_SIZE = 1290 };
 
 /* A card with nothing but its root. */
-void layout_new(uint8_t card[LAYOUT_SIZE], uint16_t system, uint16_t version);
+void layout_new(uint8_t card[LAYOUT_SIZE], uint16_t system, uint16_t version, uint32_t join);
 
 /* An area more. */
 void layout_area(uint8_t card[LAYOUT_SIZE], uint32_t depth, uint16_t code, uint16_t end, uint16_t version);

@@ -74,7 +74,7 @@ static uint32_t answer;
 
 /* ---- the calls */
 
-static void new_card(void) { answer = uluvoli_new(card, sizeof card, 0x0001, 0x0002); }
+static void new_card(void) { answer = uluvoli_new(card, sizeof card, 0x0001, 0x0002, false); }
 static void add_area(void) { answer = uluvoli_add_area(card, sizeof card, 1, 0xfe00, 0xfe3f, 3); }
 static void add_service(void) {
     answer = uluvoli_add_service(card, sizeof card, arena, sizeof arena, 1, 0xff09, 0, 3);
@@ -215,7 +215,7 @@ static void expect(const char *name, void (*one)(void), uint32_t wanted) {
 
 static void make(void (*build)(unsigned nodes), unsigned nodes) {
     memset(arena, 0, sizeof arena);
-    must(uluvoli_new(card, sizeof card, 0x0001, 0x0002) == 0, "a new card was refused");
+    must(uluvoli_new(card, sizeof card, 0x0001, 0x0002, false) == 0, "a new card was refused");
     build(nodes);
 }
 

@@ -33,7 +33,7 @@ pub struct Rust {
 
 impl Rust {
     pub fn new(row: &Row) -> Self {
-        let mut card = tree::Card::new(0x0001, 0x0000);
+        let mut card = tree::Card::new(0x0001, 0x0000, true);
         for &addition in &row.card {
             card.add(ARENA, addition)
                 .expect("a row's card can be built");
@@ -110,7 +110,7 @@ pub struct Library<'a> {
 
 impl<'a> Library<'a> {
     pub fn new(row: &'a Row) -> Self {
-        let mut card = Card::new(0x0001, 0x0000);
+        let mut card = Card::joining(0x0001, 0x0000);
         let mut arena = vec![0; ARENA];
         let mut used = 0;
         for &addition in &row.card {
@@ -180,7 +180,7 @@ impl Side for Library<'_> {
         };
         match told {
             Ok(()) => (0, 0),
-            Err(Failure::Pair { sf1, sf2 }) => (sf1, sf2),
+            Err(Failure::Pair { sf1, sf2, .. }) => (sf1, sf2),
             Err(Failure::Refused(refusal)) => panic!("a row's request was refused: {refusal:?}"),
         }
     }

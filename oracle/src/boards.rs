@@ -36,11 +36,16 @@ pub fn all(length: usize, seed: u64) -> List {
 /// The lines of one text's card; what is malformed in it is left out.
 fn card(random: &mut Random, text: &[u8], counts: &mut Counts) -> String {
     let mut lines = text.split(|&byte| byte == b'\n');
-    let Some(Some(Image::Card { system, version })) = lines.next().map(line::image) else {
+    let Some(Some(Image::Card {
+        system,
+        version,
+        join,
+    })) = lines.next().map(line::image)
+    else {
         unreachable!("a text with boards starts with its card");
     };
-    let mut card = Card::new(system, version);
-    let mut list = lines::start(&card, ARENA);
+    let mut card = Card::new(system, version, join);
+    let mut list = lines::start(&card, join, ARENA);
     for line in lines {
         if let Some(image) = line::image(line) {
             list += &taken(&mut card, image);

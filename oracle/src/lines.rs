@@ -5,10 +5,11 @@ use crate::hex::hex;
 use crate::refusal::Refusal;
 use crate::tree::{Addition, Card};
 
-/// The line that starts a card, lent an arena of this many bytes.
-pub fn start(card: &Card, arena: usize) -> String {
+/// The line that starts a card that joins or does not, lent an arena of this many bytes.
+pub fn start(card: &Card, join: bool, arena: usize) -> String {
     let (system, version) = (card.rust().system_code(), card.key_version(0xFFFF));
-    format!("T {system:04X} {version:04X} {arena:08X}\n")
+    let join = u8::from(join);
+    format!("T {system:04X} {version:04X} {join:02X} {arena:08X}\n")
 }
 
 /// The line that lends an arena of another length from there on.

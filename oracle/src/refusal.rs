@@ -17,6 +17,7 @@ pub const TABLE_FULL: Refusal = 20;
 pub const NO_PARENT: Refusal = 21;
 pub const NO_BLOCKS_LEFT: Refusal = 22;
 pub const NO_SUCH_BLOCK: Refusal = 23;
+pub const COUNTS_DIFFER: Refusal = 24;
 pub const LIMIT_ON_NO_SERVICE: Refusal = 28;
 pub const IMAGE_LINE: Refusal = 30;
 pub const RACES_DIFFER: Refusal = 40;

@@ -42,7 +42,7 @@ pub fn send(
     serve: Serve,
     counts: &mut Counts,
 ) -> Option<Vec<u8>> {
-    let (mut card, mut left, mut sent) = (Card::new(0, 0), 0, 0);
+    let (mut card, mut left, mut sent) = (Card::new(0, 0, true), 0, 0);
     while sent < writes {
         if left == 0 {
             let only = random.pick(&[

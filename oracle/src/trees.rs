@@ -12,7 +12,10 @@ use crate::refusal::Refusal;
 use crate::tree::{Addition, Card, Entry, MOST_NODES, usable};
 
 /// Length and seed of the list that is small enough to be stored.
-pub const SMALL: (usize, u64) = (600, 1);
+pub const SMALL: (usize, u64) = (660, 1);
+
+/// One tree in this many is of a card that does not join, the last ones of a list.
+const STRICT_ONE_IN: usize = 11;
 
 /// How one tree is drawn.
 struct Plan {
@@ -28,8 +31,9 @@ struct Plan {
 pub fn all(length: usize, seed: u64) -> List {
     let mut random = Random::new(seed);
     let mut counts = Counts::default();
+    let joining = length - length / STRICT_ONE_IN;
     let texts = (0..length)
-        .map(|_| tree(&mut random, &mut counts))
+        .map(|at| tree(&mut random, &mut counts, at < joining))
         .collect();
     (texts, counts)
 }
@@ -72,8 +76,9 @@ fn plan(random: &mut Random) -> Plan {
     plan
 }
 
-/// The text of one tree.
-fn tree(random: &mut Random, counts: &mut Counts) -> String {
+/// The text of one tree, of a card that joins or does not. One that joins and never had to is
+/// written as one that does not.
+fn tree(random: &mut Random, counts: &mut Counts, join: bool) -> String {
     let mut plan = plan(random);
     let (system, version) = (random.word() as u16, random.word() as u16);
     let mut arena = if plan.full || plan.habit.stores == Stores::OneLarge {
@@ -84,8 +89,9 @@ fn tree(random: &mut Random, counts: &mut Counts) -> String {
     if arena % 16 != 0 {
         counts.meet("T arena of odd length");
     }
-    let mut card = Card::new(system, version);
-    let mut text = lines::start(&card, arena);
+    let mut card = Card::new(system, version, join);
+    let lent = arena;
+    let mut text = String::new();
     let mut left = plan.additions;
     while left > 0 {
         if card.nodes().len() == MOST_NODES {
@@ -106,7 +112,7 @@ fn tree(random: &mut Random, counts: &mut Counts) -> String {
         }
     }
     questions(random, &mut card, &mut text, counts);
-    text
+    lines::start(&card, card.relies(), lent) + &text
 }
 
 /// The line of one addition, with the answer.

@@ -13,7 +13,7 @@ fn after_card(further: &[&str]) -> String {
     let image = [
         "card|0001|0000",
         "svc|1|1049|2|0000",
-        "svc|1|104B|5|0000",
+        "svc|1|104B|2|0000",
         "svc|1|2055|1|0000",
     ];
     lines(&[&image[..], further].concat())
@@ -35,19 +35,22 @@ fn request_line(line: &str) -> String {
     fields[1..4].join(" ")
 }
 
-/// The whole case of docs/RULES.md.
+/// The whole case of docs/RULES.md, and what it is without `join`.
 #[test]
 fn whole_case() {
-    let printed = lines(&[
-        "card|0001|0000",
-        "svc|1|1049|2|0000",
-        "svc|1|104B|5|0000",
-        "W|O|1049|1|8001|11111111111111111111111111111111",
-        "R|O|104B|1|8001",
-        "R|O|104B|1|8002",
-    ]);
+    let after = |card| {
+        lines(&[
+            card,
+            "svc|1|1049|2|0000",
+            "svc|1|104B|5|0000",
+            "W|O|1049|1|8001|11111111111111111111111111111111",
+            "R|O|104B|1|8001",
+            "R|O|104B|1|8002",
+        ])
+    };
     let expected = "1|00|00|-|-|-\n2|00|00|-|11111111111111111111111111111111|-\n3|01|A8|1|-|-\n";
-    assert_eq!(printed, expected.replace('|', "\t"));
+    assert_eq!(after("card|0001|0000|join"), expected.replace('|', "\t"));
+    assert_eq!(after("card|0001|0000"), "image\t3\t24\n");
 }
 
 /// Line 1 is `card`, and no other line is; empty input is refused at line 1.
@@ -63,10 +66,16 @@ fn first_line() {
         "L",
         "card|1|0",
         "Card|0001|0000",
+        "card|0001|0000|",
+        "card|0001|0000|JOIN",
+        "card|0001|0000|joint",
+        "card|0001|0000|join|",
+        "card|0001|join",
     ] {
         assert_eq!(lines(&[first, "R|O|-|0|-"]), "image\t1\t30\n", "{first}");
     }
     assert_eq!(lines(&["card|0001|0000"]), "");
+    assert_eq!(lines(&["card|0001|0000|join"]), "");
     assert_eq!(
         lines(&["card|0001|0000", "card|0001|0000"]),
         "image\t2\t30\n"
@@ -113,6 +122,11 @@ fn image_lines() {
         ("svc|1|3049||0000", 30),
         ("svc|1|3049|-|0000", 30),
         ("svc|1|104C|1|0000", 19),
+        ("svc|1|1048|2|0000", 0),
+        ("svc|1|1048|1|0000", 24),
+        ("svc|1|1048|4095|0000", 24),
+        ("svc|1|2057|0|0000", 24),
+        ("svc|1|1048|2|0000|join", 30),
         ("lim|1|-1|0", 0),
         ("lim|2147483647|-2147483648|255", 0),
         ("lim|2147483648|0|0", 30),

@@ -13,7 +13,7 @@ const WHOLE: usize = 65_536;
 
 /// A card with these services, code and block count each, below the root.
 fn card(services: &[(u16, u32)]) -> Card {
-    let mut card = Card::new(0x0001, 0x0000);
+    let mut card = Card::new(0x0001, 0x0000, true);
     for &(code, blocks) in services {
         let service = Addition::Service {
             depth: 1,

@@ -97,7 +97,7 @@ fn shape() {
     for line in texts.concat().lines() {
         let fields: Vec<&str> = line.split(' ').collect();
         let count = match fields[0] {
-            "T" => 4,
+            "T" => 5,
             "m" => 2,
             "a" => 6,
             "s" => 7,

@@ -13,7 +13,7 @@ fn of_kind<'a>(texts: &'a [Text], kind: &str) -> Vec<&'a Text> {
 /// A list meets every refusal of an image and of a request and every SF2 so many times, and all
 /// else that replay can say at least once.
 fn meets(counts: &Counts, image: usize, requests: usize) {
-    let refusals = (11..=23).chain([28, 30]);
+    let refusals = (11..=24).chain([28, 30]);
     let image = refusals.map(|number| (format!("image refused {number}"), image));
     let refused = [1, 2, 3, 6, 40, 41, 42, 43];
     let refused = refused.map(|number| format!("request refused {number}"));
@@ -54,7 +54,8 @@ fn varied() {
         assert!(of_kind(&texts, kind).len() > 150, "{kind}");
     }
     assert!(of_kind(&texts, "large").len() > 20);
-    assert!(of_kind(&texts, "refused image").len() > 1_000);
+    assert!(of_kind(&texts, "refused image").len() > 900);
+    assert!(of_kind(&texts, "another count").len() > 80);
 }
 
 /// Texts about purses have each of their faults, those about rings theirs, and neither those of
@@ -205,4 +206,32 @@ fn sent_twice() {
     for told in [twice, parted, turned] {
         assert_ne!(told[1], told[3]);
     }
+}
+
+/// Of the services that join, those of another count than their store are refused with 24 on a card that
+/// does not join, at their line, and taken on one that does; what is refused otherwise is so on both; the
+/// malformed lines are refused with 30.
+#[test]
+fn joined() {
+    let (texts, _) = texts::all(600, 1);
+    let told: Vec<&str> = (of_kind(&texts, "joined").iter())
+        .map(|text| text.output.as_str())
+        .collect();
+    let differ = [3, 3, 3, 0, 3, 3, 0, 4, 3, 4, 4, 3, 3, 0];
+    let (joined, others) = told.split_at(2 * differ.len());
+    for (pair, line) in joined.as_chunks::<2>().0.iter().zip(differ) {
+        match line {
+            0 => assert_eq!(pair[0], pair[1]),
+            _ => assert_eq!(pair[0], format!("image\t{line}\t24\n")),
+        }
+        assert_eq!(pair[1].lines().count(), 3, "{}", pair[1]);
+    }
+    let (refused, malformed) = others.split_at(12);
+    let ahead = [(3, 21), (3, 13), (3, 16), (4, 17), (3, 19), (4, 22)];
+    for (pair, (line, refusal)) in refused.as_chunks::<2>().0.iter().zip(ahead) {
+        let expected = format!("image\t{line}\t{refusal}\n");
+        assert_eq!(pair, &[&expected, &expected]);
+    }
+    assert_eq!(malformed.len(), 15);
+    assert!(malformed.iter().all(|told| told.ends_with("\t30\n")));
 }

@@ -36,9 +36,14 @@ fn limit() -> Addition {
     Addition::Limit(LimitPurseProperty::default())
 }
 
-/// A card of these additions, all of which are accepted.
+/// A card that joins, of these additions, all of which are accepted.
 fn card(additions: &[Addition]) -> Card {
-    let mut card = Card::new(0x0001, 0x0000);
+    grown(true, additions)
+}
+
+/// A card of these additions, all of which are accepted.
+fn grown(join: bool, additions: &[Addition]) -> Card {
+    let mut card = Card::new(0x0001, 0x0000, join);
     for &addition in additions {
         assert_eq!(card.add(WHOLE, addition), Ok(()), "{addition:04X?}");
     }
@@ -151,8 +156,8 @@ fn parents() {
     refuses(deep, WHOLE, service(9, 0x0149, 1), 21);
 }
 
-/// A later service of a number joins the store: its count is ignored, 22 is never met, and a
-/// store of 0 blocks is joined like any other.
+/// A later service of a number joins the store, on a card that joins: its count is ignored, 22 is never met,
+/// and a store of 0 blocks is joined like any other.
 #[test]
 fn joined_stores() {
     let mut full_arena = card(&[service(1, 0x1048, 2)]);
@@ -164,6 +169,25 @@ fn joined_stores() {
     assert_eq!(full_arena.add(32, service(1, 0x1089, 7)), Ok(()));
     assert_eq!(full_arena.used(), 2);
     assert_eq!(full_arena.total(0x1089), 0);
+}
+
+/// A card that does not join takes a later service of a number only with the store's own count:
+/// 24 comes after 19, and 22 is not met by one that finds a store.
+#[test]
+fn counts_differ() {
+    let two = || grown(false, &[service(1, 0x1048, 2)]);
+    for blocks in [0, 1, 3, 65_538, u32::MAX] {
+        refuses(two(), WHOLE, service(1, 0x104B, blocks), 24);
+    }
+    refuses(two(), 32, service(1, 0x104B, 3), 24);
+    refuses(two(), WHOLE, service(1, 0x104C, 3), 19);
+    refuses(two(), WHOLE, service(1, 0x1088, 4_095), 22);
+    let none = || grown(false, &[service(1, 0x1048, 0)]);
+    refuses(none(), WHOLE, service(1, 0x104B, 1), 24);
+    assert_eq!(two().add(32, service(1, 0x104B, 2)), Ok(()));
+    assert_eq!(none().add(0, service(1, 0x104B, 0)), Ok(()));
+    assert!(!two().relies());
+    assert!(card(&[service(1, 0x1048, 2), service(1, 0x104B, 5)]).relies());
 }
 
 /// Stored blocks live through later additions, in the arena's order.

@@ -4,7 +4,7 @@ use uluvoli_oracle::counts::Counts;
 use uluvoli_oracle::{files, trees};
 
 /// Every refusal that an addition can meet.
-const REFUSALS: [u8; 14] = [7, 11, 12, 13, 14, 15, 16, 17, 18, 19, 20, 21, 22, 28];
+const REFUSALS: [u8; 15] = [7, 11, 12, 13, 14, 15, 16, 17, 18, 19, 20, 21, 22, 24, 28];
 
 /// Each refusal is met at least 50 times, and every depth, joins of other counts and all else
 /// that is looked for at least `times` times.
@@ -66,7 +66,7 @@ fn small_list() {
 /// The width of each field of a line of this kind; 0 for one whose width varies.
 fn widths(kind: &str) -> &'static [usize] {
     match kind {
-        "T" => &[1, 4, 4, 8],
+        "T" => &[1, 4, 4, 2, 8],
         "m" => &[1, 8],
         "a" => &[1, 8, 4, 4, 4, 2],
         "s" => &[1, 8, 4, 8, 4, 2, 4],

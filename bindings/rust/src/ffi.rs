@@ -1,7 +1,13 @@
 //! The library's functions, as `include/uluvoli.h` declares them.
 
 extern "C" {
-    pub fn uluvoli_new(card: *mut u8, card_len: usize, system: u16, version: u16) -> u32;
+    pub fn uluvoli_new(
+        card: *mut u8,
+        card_len: usize,
+        system: u16,
+        version: u16,
+        join: bool,
+    ) -> u32;
 
     pub fn uluvoli_add_area(
         card: *mut u8,

@@ -8,7 +8,7 @@
 mod ffi;
 
 /// Bytes of a card.
-pub const CARD_SIZE: usize = 1288;
+pub const CARD_SIZE: usize = 1290;
 /// Bytes of stack that a call takes, at most.
 pub const STACK: usize = 16_384;
 /// Bytes of a block.
@@ -210,11 +210,21 @@ fn lane(record: &[u8]) -> Option<Lane> {
 }
 
 impl Card {
-    /// A card with nothing but its root area.
+    /// A card with nothing but its root area. A service may join a store of its own block count alone.
     pub fn new(system: u16, version: u16) -> Self {
+        Card::with(system, version, false)
+    }
+
+    /// A card with nothing but its root area, on which a service may join a store of any block count.
+    pub fn joining(system: u16, version: u16) -> Self {
+        Card::with(system, version, true)
+    }
+
+    /// A new card that joins, or does not.
+    fn with(system: u16, version: u16, join: bool) -> Self {
         let mut bytes = [0; CARD_SIZE];
         // SAFETY: the pointer is valid for its length.
-        unsafe { ffi::uluvoli_new(bytes.as_mut_ptr(), CARD_SIZE, system, version) };
+        unsafe { ffi::uluvoli_new(bytes.as_mut_ptr(), CARD_SIZE, system, version, join) };
         Card(bytes)
     }
 
@@ -242,7 +252,8 @@ impl Card {
         })
     }
 
-    /// Adds a service. The first of its number makes a zeroed store in the arena; a later one joins it.
+    /// Adds a service. The first of its number makes a zeroed store in the arena; a later one joins it, and
+    /// has to name its block count where the card does not join.
     pub fn add_service(
         &mut self,
         arena: &mut [u8],

@@ -14,7 +14,7 @@ fn race(arena: &mut [u8]) -> Card {
     let mut card = Card::new(0x0001, 0x1234);
     card.add_area(1, 0x1000, 0x10ff, 0x0007).unwrap();
     card.add_service(arena, 2, MARSHAL, 2, 0x0008).unwrap();
-    card.add_service(arena, 2, TOWER, 9, 0x0009).unwrap();
+    card.add_service(arena, 2, TOWER, 2, 0x0009).unwrap();
     card.add_service(arena, 2, CREDIT, 1, 0x000a).unwrap();
     card.set_limit(200, -50, 0).unwrap();
     card
@@ -100,6 +100,24 @@ fn a_purse_stays_within_its_limits() {
         card.stored_block(&arena, CREDIT, 0).unwrap()[..4],
         (-50i32).to_le_bytes()
     );
+}
+
+#[test]
+fn a_store_of_another_count_is_joined_on_a_card_that_joins() {
+    let mut arena = [0u8; 256];
+    let mut strict = Card::new(0x0001, 0x0000);
+    let mut joining = Card::joining(0x0001, 0x0000);
+    for card in [&mut strict, &mut joining] {
+        card.add_service(&mut arena, 1, MARSHAL, 2, 0).unwrap();
+    }
+    for blocks in [0, 1, 3, u32::MAX] {
+        let mut added = |card: &Card| card.clone().add_service(&mut arena, 1, TOWER, blocks, 0);
+        assert_eq!(added(&strict), Err(Refusal(24)), "{blocks} blocks");
+        assert_eq!(added(&joining), Ok(()), "{blocks} blocks");
+    }
+    joining.add_service(&mut arena, 1, TOWER, 9, 0).unwrap();
+    assert_eq!(joining.total(TOWER), Ok(2));
+    strict.add_service(&mut arena, 1, TOWER, 2, 0).unwrap();
 }
 
 #[test]
@@ -313,7 +331,7 @@ fn bytes_that_no_calls_build_are_refused() {
     let mut arena = [0u8; 256];
     let card = race(&mut arena);
     assert_eq!(Card::from_bytes(*card.as_bytes()), card);
-    for place in [0, 2, 8, 19, CARD_SIZE - 1] {
+    for place in [0, 2, 8, 9, 10, 19, CARD_SIZE - 1] {
         let mut bytes = *card.as_bytes();
         bytes[place] ^= 0x40;
         let mut broken = Card::from_bytes(bytes);

@@ -1,9 +1,9 @@
 -- The numbers of the refusals.
 use Prim.Native.Nat.{ℕ}
 use Rattle.answers.specs.declared.refusal.Refusal.{Refusal}
-use Rattle.answers.specs.declared.refusal.Refusal.the-variants.{TooManyElements, TooManyCodes, ListLength, ShortStaging, ShortOutput, MalformedRequest, ShortArena, NotBuilt, InvalidAreaRange, InvalidRootAreaRange, NodeCodeOutOfRange, InvalidAreaAttribute, ChildAreaForbidden, UndefinedServiceAttribute, ServiceOutOfRange, AreaOutOfRange, OverlapKindMismatch, TableFull, NoParent, NoRoom, NoSuchBlock, NotAService, MalformedImage, ParentNoArea, PacketPastEnd, TooManyNodes, NotAMessage}
+use Rattle.answers.specs.declared.refusal.Refusal.the-variants.{TooManyElements, TooManyCodes, ListLength, ShortStaging, ShortOutput, MalformedRequest, ShortArena, NotBuilt, InvalidAreaRange, InvalidRootAreaRange, NodeCodeOutOfRange, InvalidAreaAttribute, ChildAreaForbidden, UndefinedServiceAttribute, ServiceOutOfRange, AreaOutOfRange, OverlapKindMismatch, TableFull, NoParent, NoRoom, NoSuchBlock, CountsDiffer, NotAService, MalformedImage, ParentNoArea, PacketPastEnd, TooManyNodes, NotAMessage}
 
--- 9, 10, 24 to 27, 29 and 31 to 43 are no refusal's
+-- 9, 10, 25 to 27, 29 and 31 to 43 are no refusal's
 abbrev pub refusalNumber : Refusal → ℕ
 refusalNumber TooManyElements = 1
 refusalNumber TooManyCodes = 2
@@ -26,6 +26,7 @@ refusalNumber TableFull = 20
 refusalNumber NoParent = 21
 refusalNumber NoRoom = 22
 refusalNumber NoSuchBlock = 23
+refusalNumber CountsDiffer = 24
 refusalNumber NotAService = 28
 refusalNumber MalformedImage = 30
 refusalNumber ParentNoArea = 44

@@ -37,6 +37,8 @@ pub enum Refusal {
     NoRoom,
     // No such block on the card.
     NoSuchBlock,
+    // A store that would be joined has another count of blocks than the service.
+    CountsDiffer,
     // A limit for a node that is no service.
     NotAService,
     // A malformed image line.
@@ -90,6 +92,7 @@ impl Refusal {
             Refusal::NoParent => 21,
             Refusal::NoRoom => 22,
             Refusal::NoSuchBlock => 23,
+            Refusal::CountsDiffer => 24,
             Refusal::NotAService => 28,
             Refusal::MalformedImage => 30,
             Refusal::ParentNoArea => 44,

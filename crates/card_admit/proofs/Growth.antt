@@ -81,7 +81,7 @@ pub record Fresh (ns : List Node) (used arenaLen code blocks s b u : ℕ) : Type
   pub fits : u ≤ usable arenaLen
 
 -- a refusal is no store
-no-store : {A : Type 0} {r : Refusal} {s b u : ℕ} → NotPlaced r ≡ Store s b u → A
+pub no-store : {A : Type 0} {r : Refusal} {s b u : ℕ} → NotPlaced r ≡ Store s b u → A
 no-store e = absurd (let z : _≡_ {A = ℕ} 0 1 = cc in (omega arith))
 
 module _ (ns : List Node) (depth code : ℕ) {s b u : ℕ} where

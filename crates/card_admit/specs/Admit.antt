@@ -4,7 +4,7 @@ use mathlib.Core.List.{List}
 use mathlib.Core.Bool.{Bool, true, false, cond, not, _&&_}
 use lib.Dec.{eqb, ltb, leb}
 use lib.ListN.{getD}
-use Rattle.answers.specs.declared.refusal.Refusal.the-variants.{InvalidAreaRange, InvalidRootAreaRange, NodeCodeOutOfRange, InvalidAreaAttribute, ChildAreaForbidden, UndefinedServiceAttribute, ServiceOutOfRange, AreaOutOfRange, OverlapKindMismatch, NoParent, NoRoom}
+use Rattle.answers.specs.declared.refusal.Refusal.the-variants.{InvalidAreaRange, InvalidRootAreaRange, NodeCodeOutOfRange, InvalidAreaAttribute, ChildAreaForbidden, UndefinedServiceAttribute, ServiceOutOfRange, AreaOutOfRange, OverlapKindMismatch, NoParent, NoRoom, CountsDiffer}
 use Rattle.service_code.specs.declared.code.ServiceKind.the-variants.{Random, Cyclic, Purse}
 use Rattle.service_code.specs.declared.code.Decoded.{Decoded}
 use Rattle.service_code.specs.declared.code.Decoded.the-variants.{Defined, Undefined}
@@ -82,7 +82,7 @@ kindNumber (OfKind Purse) = 3
 unfoldable pub sameKind : ℕ → ℕ → Bool
 sameKind a b = eqb (kindNumber (codeKindOf a)) (kindNumber (codeKindOf b))
 
--- 19; a later service of a number joins the store, and its own block count is ignored
+-- 19; a later service of a number joins the store, whatever count it names
 unfoldable pub joinedTo : Node → ℕ → ℕ → Placed
 joinedTo first code used =
     cond (not (sameKind (first .code) code)) (NotPlaced OverlapKindMismatch)
@@ -133,3 +133,12 @@ serviceFound ns used arenaLen code blocks (At p) =
 -- a service after them
 unfoldable pub placedOf : List Node → ℕ → ℕ → ℕ → ℕ → ℕ → Placed
 placedOf ns used arenaLen depth code blocks = serviceFound ns used arenaLen code blocks (parentAt ns depth)
+
+-- whether a store of `own` blocks is given to a service that names a count: any is by a system that joins
+unfoldable pub mayJoin : Bool → ℕ → ℕ → Bool
+mayJoin join own blocks = cond join true (eqb own blocks)
+
+-- 24: the store has another count than the service; a new one never has
+abbrev pub agreed : Bool → ℕ → Placed → Placed
+agreed join blocks (NotPlaced r) = NotPlaced r
+agreed join blocks (Store s b u) = cond (not (mayJoin join b blocks)) (NotPlaced CountsDiffer) (Store s b u)

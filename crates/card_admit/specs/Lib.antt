@@ -1,1 +1,2 @@
 pub mod Admit
+pub mod Order

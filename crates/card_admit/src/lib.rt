@@ -11,7 +11,7 @@ use service_code::code::ServiceCode;
 use service_code::code::ServiceKind;
 ghost use mathlib.Core.Path.{_≡_};
 ghost use Rattle.service_code.specs.Code.{attributeOf};
-ghost use Rattle.card_admit.specs.Admit.{isDepth, rootMisfit, outside, areaUnder, isUndefined, serviceUnder, kindNumber, sameKind, joinedTo, usable, newStore, placedUnder};
+ghost use Rattle.card_admit.specs.Admit.{isDepth, rootMisfit, outside, areaUnder, isUndefined, serviceUnder, kindNumber, sameKind, joinedTo, usable, newStore, placedUnder, mayJoin, agreed};
 
 // Where a new service's store lies, and the blocks in use after it.
 pub enum Placed {
@@ -145,7 +145,7 @@ fn same_kind(a: u16, b: u16) -> bool
     kind_number(ServiceCode(a).kind()) == kind_number(ServiceCode(b).kind())
 }
 
-// The store of a later service of a number: that of `first`, with its blocks, whatever count the new one asks for.
+// The store of a later service of a number: that of `first`, with its blocks, whatever count the new one names.
 fn joined_to(first: Node, code: u16, used: usize) -> Placed
     ensures { λ r. ⌜ r ≡ joinedTo first code used ⌝ }
 {
@@ -209,5 +209,36 @@ pub fn placed_under(
     match first {
         First::There(node) => joined_to(node, code, used),
         First::Missing => new_store(used, arena_len, blocks),
+    }
+}
+
+// Whether a store of `own` blocks is given to a service that names `blocks`: any is by a system that joins, and else one of that count.
+fn may_join(join: bool, own: u16, blocks: u32) -> bool
+    ensures { λ r. ⌜ r ≡ mayJoin join own blocks ⌝ }
+{
+    if join { true } else { own as u32 == blocks }
+}
+
+// Where a service that names `blocks` was placed, if the store's count agrees. A new store has the count that was named, so 24 never meets 22.
+pub fn agree(join: bool, blocks: u32, placed: Placed) -> Placed
+    ensures { λ r. ⌜ r ≡ agreed join blocks placed ⌝ }
+{
+    match placed {
+        Placed::Refused(refusal) => Placed::Refused(refusal),
+        Placed::Store {
+            start,
+            blocks: own,
+            used,
+        } => {
+            // 24
+            if !may_join(join, own, blocks) {
+                return Placed::Refused(Refusal::CountsDiffer);
+            }
+            Placed::Store {
+                start,
+                blocks: own,
+                used,
+            }
+        }
     }
 }

@@ -17,7 +17,7 @@ use Rattle.card_nodes.specs.declared.node.Node.{Node}
 use Rattle.card_nodes.specs.declared.node.Entry.the-variants.{Area, Service}
 use Rattle.answers.specs.declared.refusal.Answer.the-variants.{Done, Refused}
 use Rattle.card_admit.specs.declared.Placed.the-variants.{Store, Refused as NotPlaced}
-use Rattle.card_admit.specs.Admit.{areaJudged, placedOf}
+use Rattle.card_admit.specs.Admit.{areaJudged, placedOf, agreed}
 use Rattle.card_build.specs.declared.card.Card.{Card}
 use Rattle.card_build.specs.declared.card.Added.{Added}
 use Rattle.card_build.specs.Card.{nodesOf, isSound, grown, accepted, refused}
@@ -66,13 +66,13 @@ module _ (c : Card) (arenaLen depth code blocks version : ℕ) where
 
   -- then those of the placing
   pub service-refused : {r : Refusal} → isSound c ≡ true → c .used ≤ arenaLen / 16 → c .count < 64 →
-      placedOf (nodesOf c) (c .used) arenaLen depth code blocks ≡ NotPlaced r → refused c r ≡ serviceAdded c arenaLen depth code blocks version
+      agreed (c .system .join) blocks (placedOf (nodesOf c) (c .used) arenaLen depth code blocks) ≡ NotPlaced r → refused c r ≡ serviceAdded c arenaLen depth code blocks version
   unfolding serviceAdded addService
   service-refused h k f e = rw (h, le-ltb arenaLen (16 * c .used) (omega arith), lt-leb 64 (c .count) f, e)
 
   -- the service comes next, with the store that it was given
   pub service-stored : {s b u : ℕ} → isSound c ≡ true → c .used ≤ arenaLen / 16 → c .count < 64 →
-      placedOf (nodesOf c) (c .used) arenaLen depth code blocks ≡ Store s b u →
+      agreed (c .system .join) blocks (placedOf (nodesOf c) (c .used) arenaLen depth code blocks) ≡ Store s b u →
       accepted (grown c (nodeAs depth code version (Service s b Unlimited)) u) ≡ serviceAdded c arenaLen depth code blocks version
   unfolding serviceAdded addService
   service-stored h k f e = rw (h, le-ltb arenaLen (16 * c .used) (omega arith), lt-leb 64 (c .count) f, e)

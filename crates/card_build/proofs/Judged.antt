@@ -1,5 +1,6 @@
 -- What the code finds among the records is what the definitions judge by.
 use mathlib.Core.Path.{_≡_, sym, _∙_}
+use mathlib.Core.Bool.{Bool}
 use mathlib.Core.List.{List}
 use Prim.Native.Nat.{ℕ, _<_}
 use lib.ListN.{take, getD}
@@ -13,7 +14,7 @@ use Rattle.card_nodes.proofs.Records.{Records, indexed, recorded, found-node}
 use Rattle.card_admit.specs.declared.Placed.the-variants.{Refused as NotPlaced}
 use Rattle.card_admit.specs.declared.First.{First}
 use Rattle.card_admit.specs.declared.First.the-variants.{There}
-use Rattle.card_admit.specs.Admit.{parentAt, areaUnder, areaJudged, firstIn, placedUnder, placedOf}
+use Rattle.card_admit.specs.Admit.{parentAt, areaUnder, areaJudged, firstIn, placedUnder, placedOf, agreed}
 use Rattle.card_admit.proofs.Growth.{parent-at-below}
 
 module _ {nodes : List Node} {count : ℕ} (r : Records nodes count) where
@@ -24,9 +25,10 @@ module _ {nodes : List Node} {count : ℕ} (r : Records nodes count) where
     area-orphan code end = rw (sym told ∙ e)
 
     -- and so is a service
-    pub service-orphan : (used arenaLen code blocks : ℕ) → NotPlaced NoParent ≡ placedOf (take count nodes) used arenaLen depth code blocks
+    pub service-orphan : (join : Bool) (used arenaLen code blocks : ℕ) →
+        NotPlaced NoParent ≡ agreed join blocks (placedOf (take count nodes) used arenaLen depth code blocks)
     unfolding placedOf
-    service-orphan used arenaLen code blocks = rw (sym told ∙ e)
+    service-orphan join used arenaLen code blocks = rw (sym told ∙ e)
 
   module _ {f : Found} {p : ℕ} (depth : ℕ) (told : f ≡ parentAt (take count nodes) depth) (e : f ≡ At p) where
     -- the index of the parent

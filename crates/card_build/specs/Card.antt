@@ -12,9 +12,9 @@ use Rattle.card_build.specs.declared.card.System.{System}
 use Rattle.card_build.specs.declared.card.Card.{Card}
 use Rattle.card_build.specs.declared.card.Added.{Added}
 
--- a system's code and key version
-abbrev pub systemOf : ℕ → ℕ → System
-systemOf code version = record { code = code; version = version }
+-- a system's code and key version, and whether its services may join a store of another count
+abbrev pub systemOf : ℕ → ℕ → Bool → System
+systemOf code version join = record { code = code; version = version; join = join }
 
 -- the root alone; unused records read the same
 abbrev pub newCard : System → Card

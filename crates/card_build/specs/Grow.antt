@@ -15,7 +15,7 @@ use Rattle.answers.specs.declared.refusal.Answer.the-variants.{Done, Refused}
 use Rattle.card_admit.specs.declared.Placed.{Placed}
 use Rattle.card_admit.specs.declared.Placed.the-variants.{Store, Refused as NotPlaced}
 use Rattle.card_nodes.specs.Node.{rootNode}
-use Rattle.card_admit.specs.Admit.{areaJudged, placedOf}
+use Rattle.card_admit.specs.Admit.{areaJudged, placedOf, agreed}
 use Rattle.card_build.specs.declared.card.Card.{Card}
 use Rattle.card_build.specs.declared.card.Added.{Added}
 use Rattle.card_build.specs.Card.{nodesOf, grown, accepted, refused}
@@ -40,12 +40,12 @@ abbrev pub serviceBy : Card → ℕ → ℕ → ℕ → Placed → Added
 serviceBy c depth code version (NotPlaced r) = refused c r
 serviceBy c depth code version (Store s b used) = accepted (grown c (nodeAs depth code version (Service s b Unlimited)) used)
 
--- 7 ahead of the others, for an arena of `arenaLen` bytes; then 20, then those of the placing
+-- 7 ahead of the others, for an arena of `arenaLen` bytes; then 20, then those of the placing, 24 among them
 unfoldable pub addService : Card → ℕ → ℕ → ℕ → ℕ → ℕ → Added
 addService c arenaLen depth code blocks version =
     cond (ltb arenaLen (16 * c .used)) (refused c ShortArena)
     (cond (leb 64 (c .count)) (refused c TableFull)
-    (serviceBy c depth code version (placedOf (nodesOf c) (c .used) arenaLen depth code blocks)))
+    (serviceBy c depth code version (agreed (c .system .join) blocks (placedOf (nodesOf c) (c .used) arenaLen depth code blocks))))
 
 -- the node added last
 abbrev pub lastOf : Card → Node

@@ -70,7 +70,7 @@ impl Card {
         }
     }
 
-    // Adds a service of `code` at `depth`, or refuses with 8, 7, 20, 21 or those of a service. The first of its number makes a zeroed store of `blocks` blocks in the arena; a later one joins that store.
+    // Adds a service of `code` at `depth`, or refuses with 8, 7, 20, 21 or those of a service. The first of its number makes a zeroed store of `blocks` blocks in the arena; a later one joins that store, which must have as many blocks unless the system joins others.
     pub fn add_service(
         mut self,
         arena: &mut [u8],
@@ -86,6 +86,7 @@ impl Card {
         let nodes = self.nodes;
         let count = self.count;
         let used = self.used;
+        let join = self.system.join;
         let short = arena.len() / 16 < used;
         let full = 64 <= count;
         // 8
@@ -100,7 +101,7 @@ impl Card {
         if full {
             return refuse(self, Refusal::TableFull);
         }
-        match fits::place_service(nodes, count, used, arena.len(), depth, code, blocks) {
+        match fits::place_service(nodes, count, join, used, arena.len(), depth, code, blocks) {
             Placed::Refused(refusal) => refuse(self, refusal),
             Placed::Store {
                 start,

@@ -4,10 +4,11 @@ use card_nodes::node::Node;
 ghost use mathlib.Core.Path.{_≡_};
 ghost use Rattle.card_build.specs.Card.{newCard, isSound};
 
-// The system of a card: its code and its key version.
+// The system of a card: its code, its key version, and whether a service may join a store of another block count.
 pub struct System {
     pub code: u16,
     pub version: u16,
+    pub join: bool,
 }
 
 // A card: 64 records of which `count` are taken, root first, and how many blocks of the arena are in use.

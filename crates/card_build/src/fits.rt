@@ -11,7 +11,7 @@ use card_nodes::node::Node;
 ghost use mathlib.Core.Path.{_≡_};
 ghost use lib.ListN.{take};
 ghost use Rattle.card_nodes.specs.Find.{sharedOf, parentOf, openAt};
-ghost use Rattle.card_admit.specs.Admit.{parentAt, areaJudged, firstIn, placedOf};
+ghost use Rattle.card_admit.specs.Admit.{parentAt, areaJudged, firstIn, placedOf, agreed};
 
 // The area under which a new node of `depth` comes: each node that is shallower decides anew.
 fn find_parent(nodes: [Node; 64], count: usize, depth: u8) -> Found
@@ -87,25 +87,27 @@ fn first_of(nodes: [Node; 64], count: usize, code: u16) -> First
 pub fn place_service(
     nodes: [Node; 64],
     count: usize,
+    join: bool,
     used: usize,
     arena_len: usize,
     depth: u32,
     code: u16,
     blocks: u32,
 ) -> Placed
-    ensures { λ r. ⌜ r ≡ placedOf (take count nodes) used «arena_len» depth code blocks ⌝ }
+    ensures { λ r. ⌜ r ≡ agreed join blocks (placedOf (take count nodes) used «arena_len» depth code blocks) ⌝ }
 {
     // 21
     let Found::At(p) = parent_at(nodes, count, depth) else {
         return Placed::Refused(Refusal::NoParent);
     };
     let above = nodes[p];
-    card_admit::placed_under(
+    let placed = card_admit::placed_under(
         above,
         first_of(nodes, count, code),
         used,
         arena_len,
         code,
         blocks,
-    )
+    );
+    card_admit::agree(join, blocks, placed)
 }

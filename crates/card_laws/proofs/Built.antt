@@ -1,5 +1,5 @@
 -- Refusal 8 says yes exactly of the cards that accepted additions and limits produce.
-use mathlib.Core.Path.{_≡_, refl, sym, _∙_, subst}
+use mathlib.Core.Path.{_≡_, refl, sym, _∙_, ap, subst}
 use mathlib.Core.Bool.{Bool, true, false, cond, not}
 use mathlib.Core.List.{List, [], _∷_, _++_}
 use Prim.Native.Nat.{ℕ, _≤_, _<_}
@@ -11,7 +11,9 @@ use Rattle.service_code.specs.declared.limit.Limit.{Limit}
 use Rattle.service_code.specs.declared.limit.Limit.the-variants.{Unlimited, Limited}
 use Rattle.card_nodes.specs.declared.node.Entry.the-variants.{Area, Service}
 use Rattle.card_nodes.specs.declared.node.Node.{Node}
+use Rattle.card_admit.specs.Admit.{placedOf, agreed}
 use Rattle.card_admit.proofs.Growth.{placed-longest}
+use Rattle.card_admit.proofs.Counts.{agreed-stored, own-count}
 use Rattle.card_build.specs.declared.card.System.{System}
 use Rattle.card_build.specs.declared.card.Card.{Card}
 use Rattle.card_build.specs.declared.card.Added.{Added}
@@ -35,7 +37,8 @@ made-built system (Made.area {ns = ns} {used = used} depth code end version m e)
 made-built system (Made.service {ns = ns} {used = used} {s = s} {b = b} {u = u} depth code version limit m e) h =
     let f = room-for ns (nodeAs depth code version (Service s b limit)) h in
     limited limit (Built.service 65536 depth code b version (made-built system m (omega arith))
-    (service-card system used ns depth code version 65536 b (omega (arith, made-used m)) f e))
+    (service-card system used ns depth code version 65536 b (omega (arith, made-used m)) f
+    (ap (agreed (system .join) b) e ∙ own-count (system .join) s b u)))
   where
     limited : (l : Limit) → Built (cardOf system u (ns ++ (nodeAs depth code version (Service s b Unlimited) ∷ []))) →
         Built (cardOf system u (ns ++ (nodeAs depth code version (Service s b l) ∷ [])))
@@ -69,7 +72,7 @@ module _ {c′ : Card} where
       subst (Follows (cardOf system used ns))
       (same-card (sym (service-card system used ns depth code version arenaLen blocks (p .0) (p .1) (p .5)) ∙ e))
       (Follows.added system used ns (nodeAs depth code version (Service (p .2) (p .3) Unlimited))
-      (Made.service depth code version Unlimited m (placed-longest ns depth code used arenaLen blocks (p .5))) (p .1))
+      (Made.service depth code version Unlimited m (placed-longest ns depth code used arenaLen blocks (agreed-stored (system .join) blocks (placedOf ns used arenaLen depth code blocks) (p .5)))) (p .1))
 
   -- a limit that is accepted
   pub limit-follows : {c : Card} (upper lower : ℤ) (generation : ℕ) → Carded c →

@@ -20,7 +20,7 @@ use Rattle.answers.specs.declared.refusal.Answer.the-variants.{Done, Refused}
 use Rattle.card_admit.specs.declared.Placed.{Placed}
 use Rattle.card_admit.specs.declared.Placed.the-variants.{Store, Refused as NotPlaced}
 use Rattle.card_nodes.specs.Node.{rootNode}
-use Rattle.card_admit.specs.Admit.{areaJudged, placedOf}
+use Rattle.card_admit.specs.Admit.{areaJudged, placedOf, agreed}
 use Rattle.card_build.specs.declared.card.System.{System}
 use Rattle.card_build.specs.declared.card.Card.{Card}
 use Rattle.card_build.specs.declared.card.Added.{Added}
@@ -106,7 +106,8 @@ module _ (system : System) (used : ℕ) (ns : List Node) where
 
     module _ (arenaLen blocks : ℕ) where
       -- a service that gets a store comes next, with no limit, where the arena holds the blocks in use
-      pub service-card : {s b u : ℕ} → 16 * used ≤ arenaLen → length ns < 64 → placedOf ns used arenaLen depth code blocks ≡ Store s b u →
+      pub service-card : {s b u : ℕ} → 16 * used ≤ arenaLen → length ns < 64 →
+          agreed (system .join) blocks (placedOf ns used arenaLen depth code blocks) ≡ Store s b u →
           addService (cardOf system used ns) arenaLen depth code blocks version
           ≡ accepted (cardOf system u (ns ++ (nodeAs depth code version (Service s b Unlimited) ∷ [])))
       unfolding addService
@@ -116,12 +117,13 @@ module _ (system : System) (used : ℕ) (ns : List Node) where
 
       -- no other service is accepted
       pub service-accepted : {c′ : Card} → addService (cardOf system used ns) arenaLen depth code blocks version ≡ accepted c′ →
-          (16 * used ≤ arenaLen) × (length ns < 64) × (s : ℕ) × (b : ℕ) × (u : ℕ) × (placedOf ns used arenaLen depth code blocks ≡ Store s b u)
+          (16 * used ≤ arenaLen) × (length ns < 64) × (s : ℕ) × (b : ℕ) × (u : ℕ) ×
+          (agreed (system .join) blocks (placedOf ns used arenaLen depth code blocks) ≡ Store s b u)
       unfolding addService
       service-accepted {c′ = c′} e =
           let h = passed (cardOf system used ns) ShortArena (ltb arenaLen (16 * used)) (rw take-append-seam at e) in
           let f = passed (cardOf system used ns) TableFull (leb 64 (length ns)) (h .1) in
-          let p = stored (placedOf ns used arenaLen depth code blocks) (f .1) in
+          let p = stored (agreed (system .join) blocks (placedOf ns used arenaLen depth code blocks)) (f .1) in
           (ltb-false arenaLen (16 * used) (h .0), leb-false 64 (length ns) (f .0), p .0, p .1, p .2, p .3)
         where
           stored : (p : Placed) → serviceBy (cardOf system used ns) depth code version p ≡ accepted c′ →

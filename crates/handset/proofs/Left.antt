@@ -19,7 +19,7 @@ use Rattle.byte_parts.proofs.Part.{put-zero}
 use Rattle.block_list.specs.declared.element.BlockListElement.{BlockListElement}
 use Rattle.card_admit.specs.declared.Placed.{Placed}
 use Rattle.card_admit.specs.declared.Placed.the-variants.{Store, Refused as NotPlaced}
-use Rattle.card_admit.specs.Admit.{placedOf}
+use Rattle.card_admit.specs.Admit.{placedOf, agreed}
 use Rattle.card_build.specs.declared.card.Card.{Card}
 use Rattle.card_build.specs.declared.card.Added.{Added}
 use Rattle.card_build.specs.Card.{nodesOf, isSound, refused}
@@ -163,7 +163,7 @@ pub store-left : (c : Card) (arena : List ℕ) (depth code blocks version : ℕ)
     arenaAdded c (serviceAdded c (length arena) depth code blocks version) arena ≡ arena
 unfolding serviceAdded addService arenaAdded
 store-left c arena depth code blocks version h =
-    by (not (isSound c)) (ltb (length arena) (16 * c .used)) (leb 64 (c .count)) (placedOf (nodesOf c) (c .used) (length arena) depth code blocks) h
+    by (not (isSound c)) (ltb (length arena) (16 * c .used)) (leb 64 (c .count)) (agreed (c .system .join) blocks (placedOf (nodesOf c) (c .used) (length arena) depth code blocks)) h
   where
     kept : (a : Added) → a .card ≡ c → put arena (16 * c .used) (16 * (a .card .used - c .used)) (replicate (16 * (a .card .used - c .used)) 0) ≡ arena
     kept a e = let z : 16 * (a .card .used - c .used) ≡ 0 = rw e (omega arith) in rw z (put-zero arena (16 * c .used) [])

@@ -20,11 +20,11 @@ ghost use Rattle.handset_bytes.specs.Card.{cardPut, decodedOf};
 ghost use Rattle.handset.specs.Outcome.{refusedAs, answerAs};
 ghost use Rattle.handset.specs.Kept.{cardAfter};
 
-// Writes a card with nothing but its root to `card`. Bytes of another length than a card's are refusal 8.
+// Writes a card with nothing but its root to `card`, whose services may join a store of another count if it joins. Bytes of another length than a card's are refusal 8.
 #[no_mangle]
-pub extern "C" fn uluvoli_new(card: &mut [u8], system: u16, version: u16) -> u32
+pub extern "C" fn uluvoli_new(card: &mut [u8], system: u16, version: u16, join: bool) -> u32
     ensures { λ r. ⌜ r ≡ cond (eqb (length (now (card .entry))) cardSize) 0 (refusedAs NotBuilt) ⌝ }
-    ensures { λ _. ⌜ now (card .exit) ≡ cardPut (newCard (systemOf system version)) (now (card .entry)) ⌝ }
+    ensures { λ _. ⌜ now (card .exit) ≡ cardPut (newCard (systemOf system version join)) (now (card .entry)) ⌝ }
 {
     if card.len() != layout::SIZE {
         return outcome::refused(Refusal::NotBuilt);
@@ -32,6 +32,7 @@ pub extern "C" fn uluvoli_new(card: &mut [u8], system: u16, version: u16) -> u32
     let own = System {
         code: system,
         version,
+        join,
     };
     encoding::encode(Card::new(own), card);
     0

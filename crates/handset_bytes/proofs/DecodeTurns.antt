@@ -1,13 +1,14 @@
 -- The loop over a card's records: what it knows on its way.
 use mathlib.Core.Path.{_≡_, refl, sym, ap, _∙_}
-use mathlib.Core.Bool.{true, false}
+use mathlib.Core.Bool.{Bool, true, false}
 use mathlib.Core.List.{List, [], _∷_, _++_, append-assoc, append-nil}
 use Prim.Native.Nat.{ℕ, suc, _+_, _-_, _≤_, _<_}
 use native.Mathlib.Numerals.{add-one}
 use native.Mathlib.Omega.{arith}
+use lib.Dec.{eqb}
 use lib.ListN.{length, set, take, drop, length-set}
 use lib.Seq.{drop-drop, take-all, take-suc-set}
-use borrow.Author.Tests.{eq-eqb, ne-eqb}
+use borrow.Author.Tests.{eq-eqb, ne-eqb, le-leb, lt-leb}
 use Rattle.card_nodes.specs.declared.node.Node.{Node}
 use Rattle.card_build.specs.declared.card.Card.{Card}
 use Rattle.byte_parts.specs.Half.{halfAt}
@@ -21,18 +22,24 @@ use Rattle.handset_bytes.proofs.Long.{at, ownOf, one-long}
 pub record Reading (s : List ℕ) (nodes : List Node) (i : ℕ) : Type 0 where
   pub most : i ≤ 64
   pub size : length s ≡ cardSize
+  pub flag : halfAt s 8 ≤ 1
   pub long : length nodes ≡ 64
   pub whole : areRecords 64 (drop headSize s) ≡ areRecords (64 - i) (drop (at i) s)
   pub same : nodesIn 64 (drop headSize s) ≡ take i nodes ++ nodesIn (64 - i) (drop (at i) s)
 
 -- before the first
-pub begun : (s : List ℕ) (nodes : List Node) → length s ≡ cardSize → length nodes ≡ 64 → Reading s nodes 0
-begun s nodes h k = record { most = omega arith; size = h; long = k; whole = refl; same = refl }
+pub begun : (s : List ℕ) (nodes : List Node) → length s ≡ cardSize → halfAt s 8 ≤ 1 → length nodes ≡ 64 → Reading s nodes 0
+begun s nodes h f k = record { most = omega arith; size = h; flag = f; long = k; whole = refl; same = refl }
 
 -- bytes of another length
 pub misfit : (s : List ℕ) → (length s ≡ cardSize → ⊥) → decodedOf s ≡ noCard
 unfolding decodedOf isCard
 misfit s h = rw (ne-eqb (length s) cardSize h)
+
+-- neither yes nor no
+pub unsaid : (s : List ℕ) → length s ≡ cardSize → 1 < halfAt s 8 → decodedOf s ≡ noCard
+unfolding decodedOf isCard
+unsaid s h f = rw (eq-eqb (length s) cardSize h, lt-leb (halfAt s 8) 1 f)
 
 module _ {s : List ℕ} {nodes : List Node} {i : ℕ} (k : Reading s nodes i) where
   module _ (h : i < 64) where
@@ -49,7 +56,7 @@ module _ {s : List ℕ} {nodes : List Node} {i : ℕ} (k : Reading s nodes i) wh
     -- it is no record
     pub bad : isRecord (ownOf s i) ≡ false → decodedOf s ≡ noCard
     unfolding decodedOf isCard areRecords
-    bad r = rw (eq-eqb (length s) cardSize (k .size), k .whole, left, own, r)
+    bad r = rw (eq-eqb (length s) cardSize (k .size), le-leb (halfAt s 8) 1 (k .flag), k .whole, left, own, r)
 
     -- it is one, and read
     pub turn : {n : Node} → isRecord (ownOf s i) ≡ true → n ≡ nodeIn (ownOf s i) → Reading s (set nodes i n) (i + 1)
@@ -63,18 +70,19 @@ module _ {s : List ℕ} {nodes : List Node} {i : ℕ} (k : Reading s nodes i) wh
         record {
           most = omega arith;
           size = k .size;
+          flag = k .flag;
           long = length-set nodes i n ∙ k .long;
           whole = whole;
           same = same ∙ (sym (append-assoc (take i nodes) (n ∷ []) rest) ∙ ap (λ (l : List Node). l ++ rest) front);
         }
 
   -- all were read
-  pub read-all : {a b c d : ℕ} → 64 ≤ i → a ≡ halfAt s 0 → b ≡ halfAt s 2 → c ≡ halfAt s 4 → d ≡ halfAt s 6 →
-      _≡_ {A = Card} (record { nodes = nodes; count = a; used = b; system = systemOf c d }) (decodedOf s)
+  pub read-all : {a b c d : ℕ} {e : Bool} → 64 ≤ i → a ≡ halfAt s 0 → b ≡ halfAt s 2 → c ≡ halfAt s 4 → d ≡ halfAt s 6 → e ≡ eqb (halfAt s 8) 1 →
+      _≡_ {A = Card} (record { nodes = nodes; count = a; used = b; system = systemOf c d e }) (decodedOf s)
   unfolding decodedOf isCard areRecords nodesIn
-  read-all h x y z w =
+  read-all h x y z w j =
       let none : 64 - i ≡ 0 = omega arith in
       let ok : areRecords 64 (drop headSize s) ≡ true = k .whole ∙ rw none in
       let same : nodesIn 64 (drop headSize s) ≡ nodes =
       k .same ∙ rw none (append-nil (take i nodes) ∙ take-all i nodes (omega (arith, k .long))) in
-      rw (eq-eqb (length s) cardSize (k .size), ok, same, x, y, z, w)
+      rw (eq-eqb (length s) cardSize (k .size), le-leb (halfAt s 8) 1 (k .flag), ok, same, x, y, z, w, j)

@@ -18,7 +18,7 @@ use Rattle.card_build.specs.Grow.{nodeAs}
 use Rattle.byte_parts.specs.Half.{halfBytes}
 use Rattle.handset_bytes.specs.Layout.{headSize, recordSize}
 use Rattle.handset_bytes.specs.Node.{kindOf, limitBytes, entryBytes, nodeBytes}
-use Rattle.handset_bytes.specs.Card.{headBytes}
+use Rattle.handset_bytes.specs.Card.{flagOf, headBytes}
 use Rattle.handset_bytes.proofs.Long.{node-long}
 
 -- a limit
@@ -63,7 +63,8 @@ node-put n s t u v k h x p q r =
     by depth code version (Service start blocks (Limited upper lower generation)) = refl
 
 -- a header
-pub head-put : (s t u v w : List ℕ) (count used : ℕ) (system : System) → t ≡ put s 0 2 (halfBytes count) → u ≡ put t 2 2 (halfBytes used) →
-    v ≡ put u 4 2 (halfBytes (system .code)) → w ≡ put v 6 2 (halfBytes (system .version)) → w ≡ put s 0 headSize (headBytes count used system)
+pub head-put : (s t u v w x : List ℕ) (count used : ℕ) (system : System) {flag : ℕ} → t ≡ put s 0 2 (halfBytes count) → u ≡ put t 2 2 (halfBytes used) →
+    v ≡ put u 4 2 (halfBytes (system .code)) → w ≡ put v 6 2 (halfBytes (system .version)) →
+    x ≡ put w 8 2 (halfBytes flag) → flag ≡ flagOf (system .join) → x ≡ put s 0 headSize (headBytes count used system)
 unfolding put halfBytes
-head-put s t u v w count used system p q r o = rw (o, r, q, p)
+head-put s t u v w x count used system p q r o m f = rw (m, f, o, r, q, p)

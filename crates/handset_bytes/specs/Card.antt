@@ -1,8 +1,8 @@
--- A card as bytes: a header (count, used, the system's code and version), then its 64 records.
+-- A card as bytes: a header (count, used, the system's code, version and whether it joins), then its 64 records.
 use Prim.Native.Nat.{ℕ, zero, suc}
 use mathlib.Core.List.{List, [], _∷_, _++_}
-use mathlib.Core.Bool.{Bool, true, cond, _&&_}
-use lib.Dec.{eqb}
+use mathlib.Core.Bool.{Bool, true, false, cond, _&&_}
+use lib.Dec.{eqb, leb}
 use lib.ListN.{length, take, drop, replicate}
 use Rattle.card_nodes.specs.declared.node.Node.{Node}
 use Rattle.card_nodes.specs.Node.{rootNode}
@@ -13,8 +13,14 @@ use Rattle.card_build.specs.Card.{systemOf}
 use Rattle.handset_bytes.specs.Layout.{headSize, recordSize, cardSize}
 use Rattle.handset_bytes.specs.Node.{nodeBytes, nodeIn, isRecord}
 
+-- yes or no as a number
+abbrev pub flagOf : Bool → ℕ
+flagOf false = 0
+flagOf true = 1
+
 abbrev pub headBytes : ℕ → ℕ → System → List ℕ
-headBytes count used system = halfBytes count ++ halfBytes used ++ halfBytes (system .code) ++ halfBytes (system .version)
+headBytes count used system =
+    halfBytes count ++ halfBytes used ++ halfBytes (system .code) ++ halfBytes (system .version) ++ halfBytes (flagOf (system .join))
 
 unfoldable pub nodesBytes : List Node → List ℕ
 nodesBytes [] = []
@@ -42,16 +48,16 @@ cardIn s = record {
   nodes = nodesIn 64 (drop headSize s);
   count = halfAt s 0;
   used = halfAt s 2;
-  system = systemOf (halfAt s 4) (halfAt s 6);
+  system = systemOf (halfAt s 4) (halfAt s 6) (eqb (halfAt s 8) 1);
 }
 
--- as many bytes as a card has, whose records are all a node's
+-- as many bytes as a card has, with yes or no where that stands, whose records are all a node's
 unfoldable pub isCard : List ℕ → Bool
-isCard s = eqb (length s) cardSize && areRecords 64 (drop headSize s)
+isCard s = eqb (length s) cardSize && (leb (halfAt s 8) 1 && areRecords 64 (drop headSize s))
 
 -- what stands for the card of other bytes: it has not even a root, so every call on it is refusal 8
 abbrev pub noCard : Card
-noCard = record { nodes = replicate 64 rootNode; count = 0; used = 0; system = systemOf 0 0 }
+noCard = record { nodes = replicate 64 rootNode; count = 0; used = 0; system = systemOf 0 0 false }
 
 unfoldable pub decodedOf : List ℕ → Card
 decodedOf s = cond (isCard s) (cardIn s) noCard

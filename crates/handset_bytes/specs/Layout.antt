@@ -2,7 +2,7 @@
 use Prim.Native.Nat.{ℕ, _+_, _*_}
 
 abbrev pub headSize : ℕ
-headSize = 8
+headSize = 10
 
 abbrev pub recordSize : ℕ
 recordSize = 20

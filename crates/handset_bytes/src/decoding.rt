@@ -20,15 +20,20 @@ fn none() -> Card
         system: System {
             code: 0,
             version: 0,
+            join: false,
         },
     }
 }
 
-// The card that `bytes` encode: as many as a card takes, each record a node's. Whether accepted calls build it is not looked at here.
+// The card that `bytes` encode: as many as a card takes, 0 or 1 for whether it joins, each record a node's. Whether accepted calls build it is not looked at here.
 pub fn decode(bytes: &[u8]) -> Card
     ensures { λ r. ⌜ r ≡ decodedOf (now (bytes .entry)) ⌝ }
 {
     if bytes.len() != layout::SIZE {
+        return none();
+    }
+    let joins = half::half(bytes, 8);
+    if 1 < joins {
         return none();
     }
     let root = Node::root();
@@ -50,6 +55,7 @@ pub fn decode(bytes: &[u8]) -> Card
         system: System {
             code: half::half(bytes, 4),
             version: half::half(bytes, 6),
+            join: joins == 1,
         },
     }
 }

@@ -8,9 +8,16 @@ ghost use Prim.Native.Nat.{_≤_};
 ghost use lib.ListN.{length};
 ghost use Rattle.byte_parts.specs.Part.{put};
 ghost use Rattle.handset_bytes.specs.Layout.{headSize};
-ghost use Rattle.handset_bytes.specs.Card.{headBytes, cardPut};
+ghost use Rattle.handset_bytes.specs.Card.{flagOf, headBytes, cardPut};
 
-// Writes the header of `card`: count, blocks in use, system code, key version.
+// Yes or no as a number.
+fn flag(yes: bool) -> usize
+    ensures { λ r. ⌜ r ≡ flagOf yes ⌝ }
+{
+    if yes { 1 } else { 0 }
+}
+
+// Writes the header of `card`: count, blocks in use, system code, key version, whether it joins.
 fn write_head(card: Card, bytes: &mut [u8])
     requires { ⌜ headSize ≤ length (now bytes) ⌝ }
     ensures { λ _. ⌜ now (bytes .exit) ≡ put (now (bytes .entry)) 0 headSize (headBytes (card .count) (card .used) (card .system)) ⌝ }
@@ -19,6 +26,7 @@ fn write_head(card: Card, bytes: &mut [u8])
     half::put_half(bytes, 2, card.used);
     half::put_half(bytes, 4, card.system.code as usize);
     half::put_half(bytes, 6, card.system.version as usize);
+    half::put_half(bytes, 8, flag(card.system.join));
 }
 
 // Writes `card` to its bytes. Bytes of another length than a card's stay as they were.

@@ -13,6 +13,7 @@ fn race(arena: &mut [u8]) -> Card {
     let card = Card::new(System {
         code: 0x0001,
         version: 0x0000,
+        join: false,
     });
     let marshal = card.add_service(arena, 1, 0x1049, 2, 0x0000);
     let written = marshal.card;

@@ -2,7 +2,7 @@
 use Prim.Native.Nat.{ℕ}
 use native.Mathlib.Omega.{arith}
 use mathlib.Core.Path.{_≡_, refl}
-use mathlib.Core.Bool.{false≢true}
+use mathlib.Core.Bool.{false, false≢true}
 use mathlib.Core.List.{List, [], _∷_, _++_, map}
 use lib.ListN.{replicate}
 use Rattle.service_code.specs.Code.{numberOf, attributesOf, tableOf, decodedOf, attributeOf, codeKindOf, requiresKey}
@@ -14,7 +14,7 @@ use Rattle.text_numbers.specs.Hex.{grouped, hexField, pairs, unhex}
 use Rattle.text_numbers.specs.Codes.{hex16, codesField, codesOf}
 use Rattle.text_numbers.specs.Decimal.{plain, upTo, decimal, digitsOf, decText}
 use Rattle.card_nodes.specs.Find.{firstFrom, openAt, parentFrom}
-use Rattle.card_admit.specs.Admit.{isDepth, parentAt, outside, serviceUnder, sameKind, joinedTo, usable, newStore, placedOf}
+use Rattle.card_admit.specs.Admit.{isDepth, parentAt, outside, serviceUnder, sameKind, joinedTo, usable, newStore, mayJoin, placedOf}
 use Rattle.card_sound.specs.Sound.{isRoot, allRoots, stepOf, stepsFrom, stepsOf, soundOf}
 use Rattle.card_build.specs.declared.card.Card.{Card}
 use Rattle.card_build.specs.Card.{systemOf, newCard}
@@ -47,14 +47,14 @@ use Rattle.law_board.proofs.Redraw.{line-shows}
 
 -- lanes, a random store of eight blocks, number 41h, with the tower's read-only service
 abbrev marshals : Card
-marshals = addService (newCard (systemOf 1 0)) 128 1 0x1049 8 0 .card
+marshals = addService (newCard (systemOf 1 0 false)) 128 1 0x1049 8 0 .card
 
 abbrev card : Card
 card = addService marshals 128 1 0x104b 8 0 .card
 
 built : Built card
-unfolding addService placedOf isDepth parentAt parentFrom openAt firstFrom serviceUnder outside sameKind joinedTo usable newStore numberOf attributesOf tableOf decodedOf attributeOf codeKindOf
-built = service {c = marshals} 128 1 0x104b 8 0 (service {c = newCard (systemOf 1 0)} 128 1 0x1049 8 0 (new (systemOf 1 0)) refl) refl
+unfolding addService placedOf isDepth parentAt parentFrom openAt firstFrom serviceUnder outside sameKind joinedTo usable newStore mayJoin numberOf attributesOf tableOf decodedOf attributeOf codeKindOf
+built = service {c = marshals} 128 1 0x104b 8 0 (service {c = newCard (systemOf 1 0 false)} 128 1 0x1049 8 0 (new (systemOf 1 0 false)) refl) refl
 
 -- race 7: `LEANDER` in lane 1, `MOLESEY` in lane 3 and, redrawn, `THAMES`
 abbrev leander : List ℕ
@@ -111,7 +111,7 @@ abbrev IsRedrawn : Type 0
 IsRedrawn = Redrawn card 0x41 2 thames arena (requestIn redraw) (map requestIn (look ∷ refresh ∷ [])) (boardRequest 0x104b 128)
 
 computed : Printed × Lighter × IsRedrawn
-unfolding addService placedOf isDepth parentAt parentFrom openAt firstFrom serviceUnder outside sameKind joinedTo usable newStore numberOf attributesOf tableOf decodedOf attributeOf codeKindOf requiresKey unpackAt endsFrom endsAfter elementsFrom part put isRoot allRoots stepOf stepsFrom stepsOf soundOf rowOf modeAllowed attributeCheck serviceCheck rowCheck elementCheck checkedFrom then push runsOf scan walk back within elementBy endBy onStore staged writeJudged readJudged judgedWith planOf blocksRead committed carried serve split hex16 codesField codesOf plain upTo decimal digitsOf decText among digitOf digits spelt grouped hexField pairs unhex isLetter isEither requestLine shaped isWrite askOf lineServed after isEmpty areCrew blockJudged laneJudged lanesJudged sameRace ofRace oneRace racesJudged judgedOf crewLength laneOf lanesFrom lanesText refreshed boardLine boardCode boardLineText kindOf lineHeld lineText oneMore heldAfter requestIn
+unfolding addService placedOf isDepth parentAt parentFrom openAt firstFrom serviceUnder outside sameKind joinedTo usable newStore mayJoin numberOf attributesOf tableOf decodedOf attributeOf codeKindOf requiresKey unpackAt endsFrom endsAfter elementsFrom part put isRoot allRoots stepOf stepsFrom stepsOf soundOf rowOf modeAllowed attributeCheck serviceCheck rowCheck elementCheck checkedFrom then push runsOf scan walk back within elementBy endBy onStore staged writeJudged readJudged judgedWith planOf blocksRead committed carried serve split hex16 codesField codesOf plain upTo decimal digitsOf decText among digitOf digits spelt grouped hexField pairs unhex isLetter isEither requestLine shaped isWrite askOf lineServed after isEmpty areCrew blockJudged laneJudged lanesJudged sameRace ofRace oneRace racesJudged judgedOf crewLength laneOf lanesFrom lanesText refreshed boardLine boardCode boardLineText kindOf lineHeld lineText oneMore heldAfter requestIn
 computed = (
   (refl, refl, refl),
   (refl, refl),

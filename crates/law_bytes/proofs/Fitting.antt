@@ -23,8 +23,9 @@ use Rattle.answers.specs.declared.refusal.Answer.the-variants.{Done, Refused}
 use Rattle.card_admit.specs.declared.Placed.{Placed}
 use Rattle.card_admit.specs.declared.Placed.the-variants.{Store, Refused as NotPlaced}
 use Rattle.card_nodes.specs.Node.{rootNode, startOf, blocksOf}
-use Rattle.card_admit.specs.Admit.{areaJudged, placedOf}
+use Rattle.card_admit.specs.Admit.{areaJudged, placedOf, agreed}
 use Rattle.card_admit.proofs.Growth.{stored, used-most}
+use Rattle.card_admit.proofs.Counts.{agreed-stored}
 use Rattle.card_build.specs.declared.card.System.{System}
 use Rattle.card_build.specs.declared.card.Card.{Card}
 use Rattle.card_build.specs.declared.card.Added.{Added}
@@ -117,8 +118,8 @@ new-fits system h = record {
 -- so does what stands for none
 none-fits : Fits noCard
 none-fits =
-    let none : SystemFits (systemOf 0 0) = record { code = omega arith; version = omega arith } in
-    record { nodes = new-fits (systemOf 0 0) none .nodes; records = refl; count = omega arith; used = omega arith; system = none }
+    let none : SystemFits (systemOf 0 0 false) = record { code = omega arith; version = omega arith } in
+    record { nodes = new-fits (systemOf 0 0 false) none .nodes; records = refl; count = omega arith; used = omega arith; system = none }
 
 -- what is decoded fits
 pub decoded-fits : (s : List ℕ) → Bytes s → Fits (decodedOf s)
@@ -200,9 +201,10 @@ module _ {c c′ : Card} (f : Fits c) where
       store (Area end) g = (omega arith, omega arith)
       store (Service s b l) g = (g .0, g .1)
 
-      by : (a : Placed) → placedOf (nodesOf c) (c .used) arenaLen depth code blocks ≡ a → Sized c →
+      by : (a : Placed) → agreed (c .system .join) blocks (placedOf (nodesOf c) (c .used) arenaLen depth code blocks) ≡ a → Sized c →
           serviceBy c depth code version a ≡ accepted c′ → Fits c′
-      by (Store s b u) j z e =
+      by (Store s b u) k z e =
+          let j = agreed-stored (c .system .join) blocks (placedOf (nodesOf c) (c .used) arenaLen depth code blocks) k in
           let d = service-known (nodesOf c) (c .used) arenaLen depth code blocks j in
           let least = used-most (nodesOf c) depth code (c .used) arenaLen blocks j (z .most) in
           let own : (s < 2 ^ 16) × (b < 2 ^ 16) =
@@ -218,10 +220,10 @@ module _ {c c′ : Card} (f : Fits c) where
       by (NotPlaced r) j z e = not-accepted e
 
       short : (t u : Bool) → Sized c → cond t (refused c ShortArena) (cond u (refused c TableFull)
-          (serviceBy c depth code version (placedOf (nodesOf c) (c .used) arenaLen depth code blocks))) ≡ accepted c′ → Fits c′
+          (serviceBy c depth code version (agreed (c .system .join) blocks (placedOf (nodesOf c) (c .used) arenaLen depth code blocks)))) ≡ accepted c′ → Fits c′
       short true u z e = not-accepted e
       short false true z e = not-accepted e
-      short false false z e = by (placedOf (nodesOf c) (c .used) arenaLen depth code blocks) refl z e
+      short false false z e = by (agreed (c .system .join) blocks (placedOf (nodesOf c) (c .used) arenaLen depth code blocks)) refl z e
 
   -- an accepted limit
   pub limit-fits : (upper lower : ℤ) (generation : ℕ) → LimitFits (Limited upper lower generation) →

@@ -1,12 +1,13 @@
 -- A card's bytes: what is written is read back, and what reads as a card is what is written of it.
 use mathlib.Core.Path.{_≡_, refl, ap, _∙_}
-use mathlib.Core.Bool.{true, false, and-eq-true-iff}
+use mathlib.Core.Bool.{Bool, true, false, and-eq-true-iff}
 use mathlib.Core.List.{List, [], _∷_, _++_}
-use Prim.Native.Nat.{ℕ, zero, suc, _+_, _-_, _*_}
+use Prim.Native.Nat.{ℕ, zero, suc, _+_, _-_, _*_, _≤_}
 use native.Mathlib.Omega.{arith}
+use lib.Dec.{eqb, leb}
 use lib.ListN.{length, getD, take, drop, length-append, length-drop, take-append-drop}
 use lib.Seq.{take-at, drop-at, length-take-le}
-use borrow.Author.Tests.{eq-eqb, eqb-true}
+use borrow.Author.Tests.{eq-eqb, eqb-true, le-leb, leb-true}
 use Rattle.card_nodes.specs.declared.node.Node.{Node}
 use Rattle.card_nodes.specs.Node.{rootNode}
 use Rattle.card_sound.specs.Sound.{soundOf}
@@ -15,7 +16,7 @@ use Rattle.card_build.specs.Card.{isSound}
 use Rattle.byte_parts.specs.Half.{halfBytes, halfAt}
 use Rattle.handset_bytes.specs.Layout.{headSize, recordSize, cardSize}
 use Rattle.handset_bytes.specs.Node.{nodeBytes}
-use Rattle.handset_bytes.specs.Card.{nodesBytes, cardBytes, nodesIn, areRecords, cardIn, isCard, decodedOf}
+use Rattle.handset_bytes.specs.Card.{flagOf, nodesBytes, cardBytes, nodesIn, areRecords, cardIn, isCard, decodedOf}
 use Rattle.handset_bytes.specs.Fits.{NodeFits, Fits, Bytes}
 use Rattle.law_bytes.proofs.Bytes.{bytes-take, bytes-drop}
 use Rattle.handset_bytes.proofs.Long.{node-long}
@@ -51,6 +52,22 @@ nodes-back (n ∷ ns) f =
     rw (first-record n (nodesBytes ns), later-records n (nodesBytes ns), node-back n (f 0))
     (ap (λ (l : List Node). n ∷ l) (nodes-back ns (λ i. f (suc i))))
 
+-- yes or no as a number
+flag-one : (j : Bool) → flagOf j ≤ 1
+flag-one true = omega arith
+flag-one false = omega arith
+
+-- is read back
+flag-back : (j : Bool) → eqb (flagOf j) 1 ≡ j
+flag-back true = refl
+flag-back false = refl
+
+-- and a number that is one of the two is what is written of it
+flag-says : (n : ℕ) → n ≤ 1 → flagOf (eqb n 1) ≡ n
+flag-says zero h = refl
+flag-says (suc zero) h = refl
+flag-says (suc (suc n)) h = absurd (omega arith)
+
 -- how many bytes a card takes
 pub card-long : (c : Card) → length (c .nodes) ≡ 64 → length (cardBytes c) ≡ cardSize
 unfolding cardBytes halfBytes
@@ -58,18 +75,29 @@ card-long c h = omega (arith, nodes-long (c .nodes))
 
 -- what is written of a card is a card's bytes
 pub written-is : (c : Card) → Fits c → isCard (cardBytes c) ≡ true
-unfolding cardBytes halfBytes isCard
+unfolding cardBytes halfBytes halfAt isCard
 written-is c f =
     let ok : areRecords 64 (nodesBytes (c .nodes)) ≡ true = rw (f .records) at (nodes-record (c .nodes)) in
-    rw (eq-eqb _ cardSize (card-long c (f .records)), ok)
+    let j = flagOf (c .system .join) in
+    let one = flag-one (c .system .join) in
+    rw (eq-eqb _ cardSize (card-long c (f .records)), half-back j (omega arith), le-leb j 1 one, ok)
 
 -- and is read back
 pub read-back : (c : Card) → Fits c → decodedOf (cardBytes c) ≡ c
 unfolding cardBytes halfBytes halfAt decodedOf
 read-back c f =
     let same : nodesIn 64 (nodesBytes (c .nodes)) ≡ c .nodes = rw (f .records) at (nodes-back (c .nodes) (f .nodes)) in
+    let one = flag-one (c .system .join) in
     rw (written-is c f)
-    (rw (same, half-back (c .count) (f .count), half-back (c .used) (f .used), half-back (c .system .code) (f .system .code), half-back (c .system .version) (f .system .version)))
+    (rw (
+      same,
+      half-back (c .count) (f .count),
+      half-back (c .used) (f .used),
+      half-back (c .system .code) (f .system .code),
+      half-back (c .system .version) (f .system .version),
+      half-back (flagOf (c .system .join)) (omega arith),
+      flag-back (c .system .join),
+    ))
 
 -- records are what is written of the nodes that they read as
 nodes-say : (n : ℕ) (s : List ℕ) → Bytes s → length s ≡ recordSize * n → areRecords n s ≡ true → nodesBytes (nodesIn n s) ≡ s
@@ -89,8 +117,10 @@ card-says s b e =
     let t = and-eq-true-iff _ _ .0 e in
     let long : length s ≡ cardSize = eqb-true _ _ (t .0) in
     let head : spread headSize s 0 ≡ take headSize s = spread-is headSize s 0 (omega arith) in
-    let rest = nodes-say 64 (drop headSize s) (bytes-drop headSize s b) (simp length-drop (omega arith)) (t .1) in
-    rw (half-says s 0 (b 0) (b 1), half-says s 2 (b 2) (b 3), half-says s 4 (b 4) (b 5), half-says s 6 (b 6) (b 7), rest)
+    let u = and-eq-true-iff (leb (halfAt s 8) 1) (areRecords 64 (drop headSize s)) .0 (t .1) in
+    let rest = nodes-say 64 (drop headSize s) (bytes-drop headSize s b) (simp length-drop (omega arith)) (u .1) in
+    let flag = flag-says (halfAt s 8) (leb-true (halfAt s 8) 1 (u .0)) in
+    rw (flag, half-says s 0 (b 0) (b 1), half-says s 2 (b 2) (b 3), half-says s 4 (b 4) (b 5), half-says s 6 (b 6) (b 7), half-says s 8 (b 8) (b 9), rest)
     (ap (λ (l : List ℕ). l ++ drop headSize s) head ∙ take-append-drop headSize s)
 
 -- they are as many as a card takes

@@ -15,7 +15,7 @@ use ghost.Atoms.{Atoms}
 use contract.Monad.{Fun}
 use denote.Ref.{now}
 use Rattle.answers.specs.declared.refusal.Refusal.{Refusal}
-use Rattle.answers.specs.declared.refusal.Refusal.the-variants.{TooManyElements, TooManyCodes, ListLength, ShortStaging, ShortOutput, MalformedRequest, ShortArena, NotBuilt, InvalidAreaRange, InvalidRootAreaRange, NodeCodeOutOfRange, InvalidAreaAttribute, ChildAreaForbidden, UndefinedServiceAttribute, ServiceOutOfRange, AreaOutOfRange, OverlapKindMismatch, TableFull, NoParent, NoRoom, NoSuchBlock, NotAService, MalformedImage, ParentNoArea, PacketPastEnd, TooManyNodes, NotAMessage}
+use Rattle.answers.specs.declared.refusal.Refusal.the-variants.{TooManyElements, TooManyCodes, ListLength, ShortStaging, ShortOutput, MalformedRequest, ShortArena, NotBuilt, InvalidAreaRange, InvalidRootAreaRange, NodeCodeOutOfRange, InvalidAreaAttribute, ChildAreaForbidden, UndefinedServiceAttribute, ServiceOutOfRange, AreaOutOfRange, OverlapKindMismatch, TableFull, NoParent, NoRoom, NoSuchBlock, CountsDiffer, NotAService, MalformedImage, ParentNoArea, PacketPastEnd, TooManyNodes, NotAMessage}
 use Rattle.answers.specs.Refusal.{refusalNumber}
 use Rattle.card_nodes.specs.Node.{rootNode}
 use Rattle.card_build.specs.declared.card.Card.{Card}
@@ -70,6 +70,7 @@ numbered TableFull e = omega arith
 numbered NoParent e = omega arith
 numbered NoRoom e = omega arith
 numbered NoSuchBlock e = omega arith
+numbered CountsDiffer e = omega arith
 numbered NotAService e = omega arith
 numbered MalformedImage e = omega arith
 numbered ParentNoArea e = omega arith

@@ -24,6 +24,7 @@ use Rattle.card_admit.proofs.is_depth as card_admit·is-depth
 use Rattle.card_admit.proofs.area_under as card_admit·area-under
 use Rattle.card_admit.proofs.usable_blocks as card_admit·usable-blocks
 use Rattle.card_admit.proofs.placed_under as card_admit·placed-under
+use Rattle.card_admit.proofs.agree as card_admit·agree
 use Rattle.card_build.proofs.fits.judge_area as card_build·judge-area
 use Rattle.card_build.proofs.fits.place_service as card_build·place-service
 use Rattle.card_sound.proofs.sound as card_sound·sound
@@ -88,6 +89,9 @@ module _ {M : Type 1} (𝓤 : URA M) (H : Heap 𝓤) (A : Atoms 𝓤) (mem : Mem
 
   pub card_admit·placed-under-once : OneAnswer 𝓤 card_admit·placed-under.ended (card_admit·placed-under.clauses 𝓤 H A mem run)
   card_admit·placed-under-once κs a g r r′ ws ws′ = result 𝓤 refl
+
+  pub card_admit·agree-once : OneAnswer 𝓤 card_admit·agree.ended (card_admit·agree.clauses 𝓤 H A mem run)
+  card_admit·agree-once κs a g r r′ ws ws′ = result 𝓤 refl
 
   pub card_build·judge-area-once : OneAnswer 𝓤 card_build·judge-area.ended (card_build·judge-area.clauses 𝓤 H A mem run)
   card_build·judge-area-once κs a g r r′ ws ws′ = result 𝓤 refl

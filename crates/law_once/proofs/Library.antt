@@ -42,7 +42,7 @@ module _ {M : Type 1} (𝓤 : URA M) (H : Heap 𝓤) (A : Atoms 𝓤) (mem : Mem
   handset·refused-once κs a g r r′ ws ws′ = result 𝓤 refl
 
   pub handset·uluvoli-new-once : OneAnswer 𝓤 handset·uluvoli-new.ended (handset·uluvoli-new.clauses 𝓤 H A mem run)
-  handset·uluvoli-new-once κs a g r r′ ws ws′ = of-two 𝓤 (λ p p′ q q′. (once p q, λ i. (once p′ q′ i, (tt, (tt, tt)))))
+  handset·uluvoli-new-once κs a g r r′ ws ws′ = of-two 𝓤 (λ p p′ q q′. (once p q, λ i. (once p′ q′ i, (tt, (tt, (tt, tt))))))
 
   pub handset·uluvoli-add-area-once : OneAnswer 𝓤 handset·uluvoli-add-area.ended (handset·uluvoli-add-area.clauses 𝓤 H A mem run)
   handset·uluvoli-add-area-once κs a g r r′ ws ws′ = of-two 𝓤 (λ p p′ q q′. (once p q, λ i. (once p′ q′ i, (tt, (tt, (tt, (tt, tt)))))))

@@ -3,7 +3,7 @@
 use Prim.Native.Nat.{ℕ, zero, suc, _*_, _≤_, _<_}
 use native.Mathlib.Omega.{arith}
 use mathlib.Core.Path.{_≡_, refl, ap}
-use mathlib.Core.Bool.{true}
+use mathlib.Core.Bool.{true, false}
 use mathlib.Core.List.{List, [], _∷_, _++_}
 use lib.ListN.{getD, replicate}
 use Rattle.answers.specs.declared.status.Fault.the-variants.{PurseRaised, OutsideWord}
@@ -16,7 +16,7 @@ use Rattle.rule_purse.specs.Purse.{valueOf, insideOf, outsideOf, sumOf, storedO
 use Rattle.rule_cyclic.specs.Cyclic.{cyclicOf}
 use Rattle.rule_purse.specs.Bytes.{purseDataOf, blockOf, purseOf}
 use Rattle.card_nodes.specs.Find.{firstFrom, openAt, parentFrom}
-use Rattle.card_admit.specs.Admit.{isDepth, parentAt, outside, serviceUnder, sameKind, joinedTo, usable, newStore, placedOf}
+use Rattle.card_admit.specs.Admit.{isDepth, parentAt, outside, serviceUnder, sameKind, joinedTo, usable, newStore, mayJoin, placedOf}
 use Rattle.card_sound.specs.Sound.{isRoot, allRoots, stepOf, stepsFrom, stepsOf, soundOf}
 use Rattle.card_build.specs.declared.card.Card.{Card}
 use Rattle.card_build.specs.Card.{systemOf, newCard}
@@ -40,7 +40,7 @@ use Rattle.law_resend.proofs.Resend.{built-resent}
 
 -- lanes, a random store of one block, number 41h
 abbrev lanes : Card
-lanes = addService (newCard (systemOf 1 0)) 96 1 0x1049 1 0 .card
+lanes = addService (newCard (systemOf 1 0 false)) 96 1 0x1049 1 0 .card
 
 -- a purse of two blocks, number 42h: what is paid, what is given back or paid, what is lowered directly
 abbrev paid : Card
@@ -57,13 +57,13 @@ abbrev card : Card
 card = addService lowered 96 1 0x10cd 3 0 .card
 
 built : Built card
-unfolding addService placedOf isDepth parentAt parentFrom openAt firstFrom serviceUnder outside sameKind joinedTo usable newStore numberOf attributesOf tableOf decodedOf attributeOf codeKindOf
+unfolding addService placedOf isDepth parentAt parentFrom openAt firstFrom serviceUnder outside sameKind joinedTo usable newStore mayJoin numberOf attributesOf tableOf decodedOf attributeOf codeKindOf
 built =
     service {c = lowered} 96 1 0x10cd 3 0
     (service {c = given} 96 1 0x1091 2 0
     (service {c = paid} 96 1 0x1093 2 0
     (service {c = lanes} 96 1 0x1095 2 0
-    (service {c = newCard (systemOf 1 0)} 96 1 0x1049 1 0 (new (systemOf 1 0)) refl) refl) refl) refl) refl
+    (service {c = newCard (systemOf 1 0 false)} 96 1 0x1049 1 0 (new (systemOf 1 0 false)) refl) refl) refl) refl) refl
 
 -- the arena: a lane, the two blocks of the purse, the ring
 abbrev arenaOf : ℕ → List ℕ → List ℕ → List ℕ → List ℕ
@@ -131,7 +131,7 @@ computed
     × Twice lowering Done (Failed 0 PurseRaised) (arenaOf 0 (purse 80 0 0) (purse 50 0 0) (ring 1 2 3)) (arenaOf 0 (purse 80 0 0) (purse 50 0 0) (ring 1 2 3))
     × Twice turned Done Done (arenaOf 9 (purse 100 0 0) (purse 50 0 0) (ring 6 5 1)) (arenaOf 9 (purse 100 0 0) (purse 50 0 0) (ring 6 5 6))
     × Twice toomuch (Failed 0 OutsideWord) (Failed 0 OutsideWord) arena arena
-unfolding addService placedOf isDepth parentAt parentFrom openAt firstFrom serviceUnder outside sameKind joinedTo usable newStore numberOf attributesOf tableOf decodedOf attributeOf codeKindOf requiresKey unpackAt endsFrom endsAfter elementsFrom part put sameBytes wordAt wordBytes signedOf wordOf cyclicOf valueOf insideOf outsideOf sumOf storedOf purseRule purseDataOf blockOf purseOf isRoot allRoots stepOf stepsFrom stepsOf soundOf rowOf modeAllowed attributeCheck serviceCheck rowCheck elementCheck checkedFrom then push runsOf scan walk back within cashbackIn elementBy endBy onStore staged writeJudged judgedWith planOf committed carried serve
+unfolding addService placedOf isDepth parentAt parentFrom openAt firstFrom serviceUnder outside sameKind joinedTo usable newStore mayJoin numberOf attributesOf tableOf decodedOf attributeOf codeKindOf requiresKey unpackAt endsFrom endsAfter elementsFrom part put sameBytes wordAt wordBytes signedOf wordOf cyclicOf valueOf insideOf outsideOf sumOf storedOf purseRule purseDataOf blockOf purseOf isRoot allRoots stepOf stepsFrom stepsOf soundOf rowOf modeAllowed attributeCheck serviceCheck rowCheck elementCheck checkedFrom then push runsOf scan walk back within cashbackIn elementBy endBy onStore staged writeJudged judgedWith planOf committed carried serve
 computed = (
   record { first = refl; left = refl; second = refl; then-left = refl },
   record { first = refl; left = refl; second = refl; then-left = refl },

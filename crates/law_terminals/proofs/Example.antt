@@ -21,7 +21,7 @@ use Rattle.rule_purse.specs.Purse.{valueOf, insideOf, outsideOf, sumOf, storedO
 use Rattle.rule_cyclic.specs.Cyclic.{cyclicOf}
 use Rattle.rule_purse.specs.Bytes.{purseDataOf, blockOf, purseOf}
 use Rattle.card_nodes.specs.Find.{firstFrom, openAt, parentFrom}
-use Rattle.card_admit.specs.Admit.{isDepth, parentAt, rootMisfit, outside, areaUnder, areaJudged, serviceUnder, sameKind, joinedTo, usable, newStore, placedOf}
+use Rattle.card_admit.specs.Admit.{isDepth, parentAt, rootMisfit, outside, areaUnder, areaJudged, serviceUnder, sameKind, joinedTo, usable, newStore, mayJoin, placedOf}
 use Rattle.card_sound.specs.Sound.{isRoot, allRoots, stepOf, stepsFrom, stepsOf, soundOf}
 use Rattle.card_build.specs.declared.card.Card.{Card}
 use Rattle.card_build.specs.Card.{systemOf, newCard}
@@ -47,11 +47,11 @@ use Rattle.law_terminals.proofs.Two.{two-terminals}
 use Rattle.law_terminals.proofs.Last.{tower-reads}
 use Rattle.law_terminals.proofs.Race as Race
 
--- lanes, a random store of two blocks, number 41h
+-- lanes, a random store of two blocks, number 41h, of a system that joins
 abbrev lanes : Card
-lanes = addService (newCard (systemOf 1 0)) 80 1 0x1049 2 0 .card
+lanes = addService (newCard (systemOf 1 0 true)) 80 1 0x1049 2 0 .card
 
--- with a read-only service that joins it
+-- with a read-only service that joins it, of another count
 abbrev towers : Card
 towers = addService lanes 80 1 0x104b 9 0 .card
 
@@ -65,18 +65,18 @@ card = addService credit 80 1 0x10cd 2 0 .card
 
 -- both cards are built
 built : Built card × Built Race.race
-unfolding addArea areaJudged areaUnder rootMisfit setLimit addService placedOf isDepth parentAt parentFrom openAt firstFrom serviceUnder outside sameKind joinedTo usable newStore numberOf attributesOf tableOf decodedOf attributeOf codeKindOf
+unfolding addArea areaJudged areaUnder rootMisfit setLimit addService placedOf isDepth parentAt parentFrom openAt firstFrom serviceUnder outside sameKind joinedTo usable newStore mayJoin numberOf attributesOf tableOf decodedOf attributeOf codeKindOf
 built = (
   service {c = credit} 80 1 0x10cd 2 0
       (service {c = towers} 80 1 0x1095 1 0
       (service {c = lanes} 80 1 0x104b 9 0
-      (service {c = newCard (systemOf 1 0)} 80 1 0x1049 2 0 (new (systemOf 1 0)) refl) refl) refl) refl,
+      (service {c = newCard (systemOf 1 0 true)} 80 1 0x1049 2 0 (new (systemOf 1 0 true)) refl) refl) refl) refl,
   service {c = Race.limited} 112 2 0x1097 1 0
       (limit {c = Race.credit} (pos 120) (pos 0) 1
       (service {c = Race.towers} 112 2 0x1095 1 0
       (service {c = Race.marshals} 112 2 0x104b 6 0
       (service {c = Race.field} 112 2 0x1049 6 0
-      (area {c = newCard (systemOf 1 0)} 1 0x1040 0x10bf 0 (new (systemOf 1 0)) refl) refl) refl) refl) refl) refl,
+      (area {c = newCard (systemOf 1 0 false)} 1 0x1040 0x10bf 0 (new (systemOf 1 0 false)) refl) refl) refl) refl) refl) refl,
 )
 
 -- 80 bytes: empty lanes, a credit of 100, two blocks of 7
@@ -201,7 +201,7 @@ Redraws =
 
 -- a number of which the card has a service, by the numbers of its services
 has-one : {k : ℕ} → HasNumber card k → (k ≡ 0x41) ⊎ (k ≡ 0x42) ⊎ (k ≡ 0x43)
-unfolding addService placedOf isDepth parentAt parentFrom openAt firstFrom serviceUnder outside sameKind joinedTo usable newStore numberOf attributesOf tableOf decodedOf attributeOf codeKindOf
+unfolding addService placedOf isDepth parentAt parentFrom openAt firstFrom serviceUnder outside sameKind joinedTo usable newStore mayJoin numberOf attributesOf tableOf decodedOf attributeOf codeKindOf
 has-one (inl h) = absurd (false≢true (h .0))
 has-one (inr (inl h)) = inl (sym (h .1))
 has-one (inr (inr (inl h))) = inl (sym (h .1))
@@ -275,7 +275,7 @@ IsRun = Ran card requestOf (leftBy (λ (x : Reply). x) card) arena exchanges lan
 
 -- all of it, computed by the definitions
 computed : Told × Alone × Ends × Disturbed × Redraws × Premises × IsRun × IsRedrawn × Raced
-unfolding addArea areaJudged areaUnder rootMisfit setLimit addService placedOf isDepth parentAt parentFrom openAt firstFrom serviceUnder outside sameKind joinedTo usable newStore numberOf attributesOf tableOf decodedOf attributeOf codeKindOf requiresKey unpackAt endsFrom endsAfter elementsFrom part put sameBytes wordAt wordBytes signedOf wordOf cyclicOf valueOf insideOf outsideOf sumOf storedOf purseRule purseDataOf blockOf purseOf isRoot allRoots stepOf stepsFrom stepsOf soundOf rowOf modeAllowed attributeCheck serviceCheck rowCheck elementCheck checkedFrom then push runsOf scan walk back within cashbackIn elementBy endBy onStore staged writeJudged readJudged judgedWith planOf blocksRead committed carried serve only all after answers told
+unfolding addArea areaJudged areaUnder rootMisfit setLimit addService placedOf isDepth parentAt parentFrom openAt firstFrom serviceUnder outside sameKind joinedTo usable newStore mayJoin numberOf attributesOf tableOf decodedOf attributeOf codeKindOf requiresKey unpackAt endsFrom endsAfter elementsFrom part put sameBytes wordAt wordBytes signedOf wordOf cyclicOf valueOf insideOf outsideOf sumOf storedOf purseRule purseDataOf blockOf purseOf isRoot allRoots stepOf stepsFrom stepsOf soundOf rowOf modeAllowed attributeCheck serviceCheck rowCheck elementCheck checkedFrom then push runsOf scan walk back within cashbackIn elementBy endBy onStore staged writeJudged readJudged judgedWith planOf blocksRead committed carried serve only all after answers told
 computed = (
   refl,
   (refl, refl),

@@ -3,7 +3,7 @@
 use Prim.Native.Nat.{ℕ, zero, suc, _<_}
 use native.Mathlib.Omega.{arith}
 use lib.IntN.{pos}
-use mathlib.Core.Bool.{true}
+use mathlib.Core.Bool.{true, false}
 use mathlib.Core.List.{List, [], _∷_, _++_}
 use lib.ListN.{replicate}
 use Rattle.service_code.specs.Code.{numberOf}
@@ -16,7 +16,7 @@ use Rattle.law_terminals.specs.Last.{NamesBlock}
 
 -- the regatta's area; crews and lanes, a random store of six blocks, with the tower's read-only service; practice credit, with limits
 abbrev pub field : Card
-field = addArea (newCard (systemOf 1 0)) 1 0x1040 0x10bf 0 .card
+field = addArea (newCard (systemOf 1 0 false)) 1 0x1040 0x10bf 0 .card
 
 abbrev pub marshals : Card
 marshals = addService field 112 2 0x1049 6 0 .card

@@ -18,7 +18,7 @@ use Rattle.line_image.specs.declared.line.Heading.{Heading}
 use Rattle.line_image.specs.declared.line.Heading.the-variants as headings
 use Rattle.line_image.specs.declared.line.Line.{Line}
 use Rattle.line_image.specs.declared.line.Line.the-variants.{Malformed, Card, Area, Service, Limit, Block}
-use Rattle.line_image.specs.Line.{codeAt, numberAt, boundAt, withCode, withNumber, withBound, headingOf, withHeading, cardLine, areaLine, serviceLine, limitLine, hex32, blockLine, cardWord, areaWord, svcWord, limWord, blkWord, form, firstLine, laterLine, imageLine}
+use Rattle.line_image.specs.Line.{codeAt, numberAt, boundAt, withCode, withNumber, withBound, headingOf, withHeading, cardLine, areaLine, serviceLine, limitLine, hex32, blockLine, cardWord, areaWord, svcWord, limWord, blkWord, form, joins, firstLine, laterLine, imageLine}
 
 -- a line that names a block has passed a test
 abbrev Passed : Bool → Line → Type 0
@@ -56,9 +56,9 @@ tested true c n = refl
 tested false c n = tt
 
 module _ (b : Bool) (fs : List (List ℕ)) where
-  on-card : Passed b (cardLine fs)
+  on-card : (join : Bool) → Passed b (cardLine join fs)
   unfolding cardLine
-  on-card = on-code b (codeAt fs 1) _ (λ s. on-code b (codeAt fs 2) _ (λ v. tt))
+  on-card join = on-code b (codeAt fs 1) _ (λ s. on-code b (codeAt fs 2) _ (λ v. tt))
 
   on-area : Passed b (areaLine fs)
   unfolding areaLine
@@ -74,7 +74,9 @@ module _ (b : Bool) (fs : List (List ℕ)) where
 
   on-first : Passed b (firstLine fs)
   unfolding firstLine
-  on-first = either b (form cardWord 3 fs) (cardLine fs) Malformed on-card tt
+  on-first =
+      either b (form cardWord 3 fs) (cardLine false fs) _ (on-card false)
+      (either b (joins fs) (cardLine true fs) Malformed (on-card true) tt)
 
 module _ (fs : List (List ℕ)) where
   -- the digits are the last field

@@ -1,6 +1,6 @@
 -- What an image line says.
 use Prim.Native.Nat.{ℕ}
-use mathlib.Core.Bool.{Bool, cond, _&&_, _||_}
+use mathlib.Core.Bool.{Bool, true, false, cond, _&&_, _||_}
 use mathlib.Core.List.{List, [], _∷_}
 use lib.Dec.{ltb, eqb}
 use lib.IntN.{ℤ}
@@ -45,12 +45,12 @@ abbrev pub withBound : Signed → (ℤ → Line) → Line
 withBound (signs.Is z) more = more z
 withBound signs.Bad more = Malformed
 
--- `card` code version
-unfoldable pub cardLine : List (List ℕ) → Line
-cardLine fs =
+-- `card` code version, and `join` where services may join a store of another count
+unfoldable pub cardLine : Bool → List (List ℕ) → Line
+cardLine join fs =
     withCode (codeAt fs 1) (λ code.
     withCode (codeAt fs 2) (λ version.
-    Card (systemOf code version)))
+    Card (systemOf code version join)))
 
 -- depth, code and version, which `area` and `svc` have in fields 1, 2 and 4
 abbrev pub headingBy : Number → Code → Code → Heading
@@ -99,9 +99,12 @@ blockLine fs =
     withNumber (numberAt fs 2 4294967295) (λ number.
     cond (hex32 (getD fs 3 [])) (Block code number) Malformed))
 
--- the words that name the kinds, as bytes
+-- the words that name the kinds, and `join`, as bytes
 abbrev pub cardWord : List ℕ
 cardWord = 99 ∷ 97 ∷ 114 ∷ 100 ∷ []
+
+abbrev pub joinWord : List ℕ
+joinWord = 106 ∷ 111 ∷ 105 ∷ 110 ∷ []
 
 abbrev pub areaWord : List ℕ
 areaWord = 97 ∷ 114 ∷ 101 ∷ 97 ∷ []
@@ -127,9 +130,13 @@ form word n fs = named word fs && eqb (length fs) n
 unfoldable pub imageNamed : List (List ℕ) → Bool
 imageNamed fs = named cardWord fs || (named areaWord fs || (named svcWord fs || (named limWord fs || named blkWord fs)))
 
--- line 1 must be `card`
+-- a `card` line that ends with `join`, its fourth field
+unfoldable pub joins : List (List ℕ) → Bool
+joins fs = form cardWord 4 fs && sameBytes (getD fs 3 []) joinWord
+
+-- line 1 must be `card`, with that field or without it
 unfoldable pub firstLine : List (List ℕ) → Line
-firstLine fs = cond (form cardWord 3 fs) (cardLine fs) Malformed
+firstLine fs = cond (form cardWord 3 fs) (cardLine false fs) (cond (joins fs) (cardLine true fs) Malformed)
 
 -- and no other line may be
 unfoldable pub laterLine : List (List ℕ) → Line

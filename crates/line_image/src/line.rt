@@ -11,7 +11,7 @@ use text_numbers::decimals::read_signed;
 use text_numbers::hex::is_hex_field;
 ghost use mathlib.Core.Path.{_≡_};
 ghost use Rattle.text_fields.specs.Field.{split};
-ghost use Rattle.line_image.specs.Line.{codeAt, numberAt, boundAt, hex32, named, form, imageNamed, cardLine, headingOf, areaLine, serviceLine, limitLine, blockLine, firstLine, laterLine, imageLine};
+ghost use Rattle.line_image.specs.Line.{codeAt, numberAt, boundAt, hex32, named, form, joins, imageNamed, cardLine, headingOf, areaLine, serviceLine, limitLine, blockLine, firstLine, laterLine, imageLine};
 
 // What an image line says, or that it is malformed. A block's bytes stay in the line's last field.
 pub enum Line {
@@ -61,9 +61,9 @@ fn bound_at(line: &[u8], k: usize) -> Signed
     read_signed(text_fields::field(line, k, b'\t'))
 }
 
-// Reads a line `card`: the system's code, its version.
-fn card_line(line: &[u8]) -> Line
-    ensures { λ r. ⌜ r ≡ cardLine (split 9 (now (line .entry))) ⌝ }
+// Reads a line `card`: the system's code, its version; whether it joins is known.
+fn card_line(line: &[u8], join: bool) -> Line
+    ensures { λ r. ⌜ r ≡ cardLine join (split 9 (now (line .entry))) ⌝ }
 {
     let Code::Is(code) = code_at(line, 1) else {
         return Line::Malformed;
@@ -71,7 +71,11 @@ fn card_line(line: &[u8]) -> Line
     let Code::Is(version) = code_at(line, 2) else {
         return Line::Malformed;
     };
-    Line::Card(System { code, version })
+    Line::Card(System {
+        code,
+        version,
+        join,
+    })
 }
 
 // What `area` and `svc` have in common: depth, code and version, in fields 1, 2 and 4.
@@ -228,12 +232,25 @@ pub fn is_form(line: &[u8], word: &[u8], count: usize) -> bool
     text_fields::field_count(line, b'\t') == count
 }
 
+// Whether the line is `card` and ends with `join`, its fourth field.
+fn is_join(line: &[u8]) -> bool
+    ensures { λ r. ⌜ r ≡ joins (split 9 (now (line .entry))) ⌝ }
+{
+    if !is_form(line, b"card", 4) {
+        return false;
+    }
+    spans::same(text_fields::field(line, 3, b'\t'), b"join")
+}
+
 // Reads line 1, which must be `card`.
 fn first_line(line: &[u8]) -> Line
     ensures { λ r. ⌜ r ≡ firstLine (split 9 (now (line .entry))) ⌝ }
 {
     if is_form(line, b"card", 3) {
-        return card_line(line);
+        return card_line(line, false);
+    }
+    if is_join(line) {
+        return card_line(line, true);
     }
     Line::Malformed
 }

@@ -1,6 +1,6 @@
 -- Where a replay is between two lines, how it starts, counts and ends.
 use Prim.Native.Nat.{ℕ, _+_}
-use mathlib.Core.Bool.{cond}
+use mathlib.Core.Bool.{false, cond}
 use mathlib.Core.List.{List, [], _∷_, _++_}
 use lib.Dec.{ltb}
 use Rattle.answers.specs.declared.refusal.Refusal.{Refusal}
@@ -15,7 +15,7 @@ use Rattle.replay_state.specs.declared.Replay.{Replay}
 
 -- ahead of line 1 there is no card yet; an empty one stands in its place
 abbrev pub startOf : Replay
-startOf = record { card = newCard (systemOf 0 0); phase = First; lines = 0; asked = 0 }
+startOf = record { card = newCard (systemOf 0 0 false); phase = First; lines = 0; asked = 0 }
 
 -- line numbers and ordinals count from 1, as far as 64 bits hold
 unfoldable pub oneMore : ℕ → ℕ

@@ -33,6 +33,7 @@ pub fn start() -> Replay
         card: Card::new(System {
             code: 0,
             version: 0,
+            join: false,
         }),
         phase: Phase::First,
         lines: 0,

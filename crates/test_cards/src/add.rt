@@ -96,16 +96,17 @@ fn limit(g: Grown, b: &[u8]) -> Grown {
     after(added, g.arena_len, b[9])
 }
 
-// A line `T`: system code, key version, arena length.
+// A line `T`: system code, key version, whether it joins, arena length.
 fn tree(g: Grown, b: &[u8]) -> Grown {
-    if b.len() != 8 {
+    if b.len() != 9 {
         return unknown(g);
     }
     let system = System {
         code: at16(b, 0),
         version: at16(b, 2),
+        join: b[4] == 1,
     };
-    start(system, at32(b, 4) as usize)
+    start(system, at32(b, 5) as usize)
 }
 
 // A line `m`: the length of the arena from here on.

@@ -110,6 +110,7 @@ fn start() -> Run {
     let system = System {
         code: 0,
         version: 0,
+        join: false,
     };
     Run {
         grown: add::start(system, 0),

@@ -16,10 +16,10 @@ const HABIT: Habit = Habit {
     stores: Stores::Few,
 };
 
-/// The additions of a card, all of which it accepts with an arena of this many bytes. Every third
-/// purse has a limit, at times in place of an earlier one.
+/// The additions of a card that joins, all of which it accepts with an arena of this many bytes. Every
+/// third purse has a limit, at times in place of an earlier one.
 pub fn additions(random: &mut Random, arena: usize) -> Vec<Addition> {
-    let mut card = Card::new(0x0000, 0x0000);
+    let mut card = Card::new(0x0000, 0x0000, true);
     let mut additions = Vec::new();
     let tries = match random.below(30) {
         0 => 90,

@@ -8,6 +8,7 @@ use crate::hex::{hex, hex_codes};
 use crate::inspect::lists::{MOST_NODES, PACKET, block_information, code_list};
 use crate::inspect::{ROOM, message};
 use crate::random::Random;
+use crate::refusal::COUNTS_DIFFER;
 use crate::replay::ARENA;
 use crate::request;
 use crate::texts::line::Line;
@@ -53,6 +54,9 @@ const HABITS: [Habit; 5] = [
     },
 ];
 
+/// After this many draws without a service of another count than its store there is none.
+const MOST_TRIES: usize = 600;
+
 /// A text as it is drawn, with the card that its lines have made so far.
 struct Draft<'a> {
     random: &'a mut Random,
@@ -62,7 +66,7 @@ struct Draft<'a> {
 
 /// A tree, its directory, every packet of every area and the one beyond, and every node's blocks.
 pub fn tree(random: &mut Random) -> Vec<u8> {
-    let mut draft = Draft::new(random);
+    let mut draft = Draft::new(random, true);
     let tries = match draft.random.below(8) {
         0 => 0,
         1 => 90,
@@ -76,23 +80,37 @@ pub fn tree(random: &mut Random) -> Vec<u8> {
     for _ in 0..draft.random.below(6) {
         draft.question();
     }
-    draft.text
+    draft.finished()
 }
 
 /// Lines of every kind after a small tree: what the card is given, requests, and questions.
 pub fn mixed(random: &mut Random, lines: usize) -> Vec<u8> {
-    let mut draft = Draft::new(random);
+    let mut draft = Draft::new(random, true);
     let tries = draft.random.below(20);
     draft.grow(tries);
     for _ in 0..lines {
         draft.any();
     }
-    draft.text
+    draft.finished()
+}
+
+/// The same on a card that does not join, with a service at the end, if one can be drawn, of another count
+/// than its store, and a question that is not answered.
+pub fn counts(random: &mut Random, lines: usize) -> Vec<u8> {
+    let mut draft = Draft::new(random, false);
+    let tries = 2 + draft.random.below(20);
+    draft.grow(tries);
+    for _ in 0..lines {
+        draft.any();
+    }
+    draft.other_count();
+    draft.question();
+    draft.finished()
 }
 
 /// The same, and every second line is spoilt, or no line at all.
 pub fn malformed(random: &mut Random, lines: usize) -> Vec<u8> {
-    let mut draft = Draft::new(random);
+    let mut draft = Draft::new(random, true);
     let tries = draft.random.below(8);
     draft.grow(tries);
     for _ in 0..lines {
@@ -106,16 +124,21 @@ pub fn malformed(random: &mut Random, lines: usize) -> Vec<u8> {
         draft.spoilt_image();
         draft.any();
     }
-    draft.text
+    draft.finished()
 }
 
 impl<'a> Draft<'a> {
-    /// A card, and its line.
-    fn new(random: &'a mut Random) -> Self {
-        let card = Card::new(random.word() as u16, random.word() as u16);
+    /// A card that joins or does not, and its line.
+    fn new(random: &'a mut Random, join: bool) -> Self {
+        let card = Card::new(random.word() as u16, random.word() as u16, join);
         let first = Line::card(card.rust().system_code(), card.key_version(0xFFFF));
         let text = first.bytes(random);
         Draft { random, card, text }
+    }
+
+    /// The text, with `join` in its first line if its card has to join.
+    fn finished(self) -> Vec<u8> {
+        Line::joining(self.text, &self.card)
     }
 
     /// Puts a line down, its fields parted by blanks here.
@@ -136,6 +159,19 @@ impl<'a> Draft<'a> {
     fn add(&mut self, habit: Habit) {
         let addition = additions::addition(self.random, &self.card, ARENA, habit);
         if self.card.add(ARENA, addition).is_ok() {
+            let line = Line::addition(addition).bytes(self.random);
+            self.text.extend(line);
+        }
+    }
+
+    /// A service of another count than its store, which the card refuses, if one can be drawn.
+    fn other_count(&mut self) {
+        let refused = (0..MOST_TRIES).find_map(|_| {
+            let addition = additions::addition(self.random, &self.card, ARENA, HABITS[1]);
+            let answer = self.card.clone().add(ARENA, addition);
+            (answer == Err(COUNTS_DIFFER)).then_some(addition)
+        });
+        if let Some(addition) = refused {
             let line = Line::addition(addition).bytes(self.random);
             self.text.extend(line);
         }

@@ -98,7 +98,7 @@ const QUESTIONS: [&str; 84] = [
 
 /// What a list has to meet.
 pub fn all() -> impl Iterator<Item = String> {
-    let image = (11..=23).chain([28, 30]);
+    let image = (11..=24).chain([28, 30]);
     let requests = [1, 2, 3, 6].into_iter().chain(40..=43);
     let malformed = NAMES.iter().map(|name| format!("? {name}"));
     let others = [

@@ -14,6 +14,7 @@ pub enum Image {
     Card {
         system: u16,
         version: u16,
+        join: bool,
     },
     Add(Addition),
     Block {
@@ -47,6 +48,12 @@ pub fn image(line: &[u8]) -> Option<Image> {
         [b"card", system, version] => Image::Card {
             system: code(system)?,
             version: code(version)?,
+            join: false,
+        },
+        [b"card", system, version, b"join"] => Image::Card {
+            system: code(system)?,
+            version: code(version)?,
+            join: true,
         },
         [b"area", depth, first, end, version] => Image::Add(Addition::Area {
             depth: decimal(depth)?,

@@ -59,7 +59,11 @@ where
 /// The card that the first line makes, if there is one and it is a `card` line.
 pub fn start(first: Option<Numbered>) -> Option<Card> {
     match line::image(first?.1)? {
-        Image::Card { system, version } => Some(Card::new(system, version)),
+        Image::Card {
+            system,
+            version,
+            join,
+        } => Some(Card::new(system, version, join)),
         _ => None,
     }
 }

@@ -17,11 +17,15 @@ use crate::tree::{Card, usable};
 /// Length and seed of the list that is small enough to be stored.
 pub const SMALL: (usize, u64) = (2_000, 1);
 
-/// A card gets no further request once its text, causes aside, is this long, so that it fits one file.
+/// A card gets no further request once its text, causes and whether it joins aside, is this long, so that
+/// it fits one file.
 const LONG_TEXT: usize = 20_000;
 
 /// The bytes of a line's last field, the cause, with the blank before it.
 const CAUSE_FIELD: usize = 3;
+
+/// The bytes of the field of the first line that says whether the card joins, with its blank.
+const JOIN_FIELD: usize = 3;
 
 /// This many requests, fixed by the seed; each text is a card with its requests.
 pub fn all(length: usize, seed: u64) -> List {
@@ -40,20 +44,21 @@ pub fn all(length: usize, seed: u64) -> List {
 /// The text of one card, and how many requests it has: at least one, at most this many.
 fn card(random: &mut Random, most: usize, counts: &mut Counts) -> (String, usize) {
     let mut arena = 65_536;
-    let mut card = Card::new(random.word() as u16, random.word() as u16);
-    let mut text = lines::start(&card, arena);
+    let mut card = Card::new(random.word() as u16, random.word() as u16, true);
+    let mut added = String::new();
     for addition in cards::additions(random, arena) {
         card.add(arena, addition)
             .expect("a card accepts what was drawn for it");
-        text += &lines::addition(addition, 0, card.used());
+        added += &lines::addition(addition, 0, card.used());
     }
+    let mut text = lines::start(&card, card.relies(), arena) + &added;
     for _ in 0..card.used().min(20) {
         set(random, &mut card, &mut text);
     }
     let wanted = most.min(1 + random.below(60));
     let mut served = 0;
     let mut last = None;
-    while served < wanted && text.len() - served * CAUSE_FIELD < LONG_TEXT {
+    while served < wanted && text.len() - served * CAUSE_FIELD - JOIN_FIELD < LONG_TEXT {
         let short = |arena| usable(arena) < card.used();
         if random.once_in(if short(arena) { 2 } else { 40 }) {
             arena = additions::other_arena(random, &card);

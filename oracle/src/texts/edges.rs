@@ -5,7 +5,7 @@ use crate::replay::line::MOST_BYTES;
 /// The texts, with `|` for a tab.
 const TEXTS: [&str; 52] = [
     // The whole case of docs/RULES.md.
-    "card|0001|0000\nsvc|1|1049|2|0000\nsvc|1|104B|5|0000\n\
+    "card|0001|0000|join\nsvc|1|1049|2|0000\nsvc|1|104B|5|0000\n\
      W|O|1049|1|8001|11111111111111111111111111111111\nR|O|104B|1|8001\nR|O|104B|1|8002\n",
     // Empty input, empty lines, line ends.
     "",
@@ -47,12 +47,12 @@ const TEXTS: [&str; 52] = [
     "card|0001|0000\narea|4294967295|0100|01FF|0000\n",
     "card|0001|0000\narea|4294967296|0100|01FF|0000\n",
     "card|0001|0000\nsvc|1|1049|4294967295|0000\n",
-    "card|0001|0000\nsvc|1|1049|2|0000\nsvc|1|104B|4294967295|0000\nR|O|104B|1|8001\n",
+    "card|0001|0000|join\nsvc|1|1049|2|0000\nsvc|1|104B|4294967295|0000\nR|O|104B|1|8001\n",
     "card|0001|0000\nR|O|-|4294967295|-\nR|O|-|4294967296|-\nR|O|-|513|-\nR|O|-|512|-\n",
     "card|0001|0000\nsvc|1|1049|2|0000\nblk|1049|4294967295|00000000000000000000000000000000\n",
     // Stores: 0 blocks, all blocks, one too many, joined.
-    "card|0001|0000\nsvc|1|1049|0|0000\nsvc|1|104B|3|0000\nR|O|104B|1|8000\n",
-    "card|0001|0000\nsvc|1|1049|4096|0000\nsvc|1|104B|9|0000\nR|O|104B|2|00FF0F8000\n",
+    "card|0001|0000|join\nsvc|1|1049|0|0000\nsvc|1|104B|3|0000\nR|O|104B|1|8000\n",
+    "card|0001|0000|join\nsvc|1|1049|4096|0000\nsvc|1|104B|9|0000\nR|O|104B|2|00FF0F8000\n",
     "card|0001|0000\nsvc|1|1049|4095|0000\nsvc|1|2049|2|0000\n",
     "card|0001|0000\nsvc|1|1049|1|0000\nsvc|1|104D|1|0000\n",
     // No elements, many codes, no codes.
@@ -62,7 +62,7 @@ const TEXTS: [&str; 52] = [
     "card|0001|0000\nsvc|1|1049|2|0000\nW|O|1049|1|80|-\nW|O|1049|1|0000|-\nW|O|1049|1|800000|-\n\
      W|O|1049|0|00|-\nW|O|1049|1|8000|00\nW|O|1049|1|000000|00000000000000000000000000000000\n",
     // Repeated codes: the first in tree order answers, with its own limit.
-    "card|0001|0000\nsvc|1|1055|1|0000\nsvc|1|1055|9|0000\nlim|0|0|0\n\
+    "card|0001|0000|join\nsvc|1|1055|1|0000\nsvc|1|1055|9|0000\nlim|0|0|0\n\
      blk|1055|0|05000000000000000000000000000000\n\
      W|O|1055|1|8000|02000000000000000000000000000001\n",
     // One run: a block read unsigned by one service, then signed by another.

@@ -46,9 +46,10 @@ const MOST_TRIES: usize = 600;
 /// A text whose image meets the refusal of this turn, and goes on after it.
 pub fn text(random: &mut Random, turn: usize) -> Vec<u8> {
     let wanted = REFUSALS[turn % REFUSALS.len()];
-    let mut card = Card::new(random.word() as u16, random.word() as u16);
+    let mut card = Card::new(random.word() as u16, random.word() as u16, true);
     let mut first = Line::card(card.rust().system_code(), card.key_version(0xFFFF));
-    if wanted == refusal::IMAGE_LINE && random.once_in(5) {
+    let spoilt = wanted == refusal::IMAGE_LINE && random.once_in(5);
+    if spoilt {
         spoil::spoil(random, &mut first);
     }
     let mut text = first.bytes(random);
@@ -64,18 +65,39 @@ pub fn text(random: &mut Random, turn: usize) -> Vec<u8> {
     }
     text.extend(refused(random, &mut card, wanted));
     text.extend(b"R\tO\t-\t0\t-\n");
+    if spoilt {
+        text
+    } else {
+        Line::joining(text, &card)
+    }
+}
+
+/// A text whose image is of a card that does not join, and mostly ends with a service of another
+/// count than its store.
+pub fn counts(random: &mut Random) -> Vec<u8> {
+    let mut card = Card::new(random.word() as u16, random.word() as u16, false);
+    let first = Line::card(card.rust().system_code(), card.key_version(0xFFFF));
+    let mut text = first.bytes(random);
+    for _ in 0..1 + random.below(40) {
+        text.extend(accepted(random, &mut card, HABIT));
+    }
+    if !random.once_in(4) {
+        text.extend(refused(random, &mut card, refusal::COUNTS_DIFFER));
+    }
+    text.extend(b"R\tO\t-\t0\t-\n");
     text
 }
 
 /// A text whose image is accepted, and reads of each service's last block and of the one beyond.
 pub fn grown(random: &mut Random) -> Vec<u8> {
-    let mut card = Card::new(random.word() as u16, random.word() as u16);
+    let mut card = Card::new(random.word() as u16, random.word() as u16, true);
     let first = Line::card(card.rust().system_code(), card.key_version(0xFFFF));
     let mut text = first.bytes(random);
     let habit = random.pick(&LARGE);
     for _ in 0..random.below(200) {
         text.extend(accepted(random, &mut card, habit));
     }
+    let mut text = Line::joining(text, &card);
     for code in codes::services(&card) {
         let beyond = card.store(code).unwrap_or(0) as u16;
         for numbers in [[0, beyond.saturating_sub(1)], [0, beyond]] {

@@ -4,7 +4,7 @@ use crate::felica_standard::emulator::doors::Block;
 use crate::hex::{hex, hex_codes};
 use crate::random::Random;
 use crate::request::Request;
-use crate::tree::Addition;
+use crate::tree::{Addition, Card};
 
 /// The fields of a line.
 pub struct Line(pub Vec<Vec<u8>>);
@@ -18,6 +18,15 @@ impl Line {
     /// The line that starts an image.
     pub fn card(system: u16, version: u16) -> Self {
         Line::of(format!("card {system:04X} {version:04X}"))
+    }
+
+    /// The text with `join` at the end of its first line, if its card has to join.
+    pub fn joining(mut text: Vec<u8>, card: &Card) -> Vec<u8> {
+        let end = text.iter().position(|&byte| byte == b'\n');
+        if let Some(end) = end.filter(|_| card.relies()) {
+            text.splice(end..end, *b"\tjoin");
+        }
+        text
     }
 
     /// The line of an addition.

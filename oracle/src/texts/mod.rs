@@ -4,6 +4,7 @@
 pub mod boards;
 mod edges;
 mod image;
+mod joins;
 pub mod line;
 mod long;
 pub mod malformed;
@@ -21,11 +22,14 @@ use served::Taste;
 use std::collections::VecDeque;
 
 /// Length and seed of the list that is stored.
-pub const SMALL: (usize, u64) = (643, 1);
+pub const SMALL: (usize, u64) = (698, 1);
 
 /// Texts with boards come after so many random ones: those stored before there were boards keep their
 /// numbers.
 const BEFORE_BOARDS: usize = 255;
+
+/// Texts of cards that do not join come after so many random ones, which no stored list has.
+const BEFORE_COUNTS: usize = 400;
 
 /// How many of the texts with boards that every seed has are drawn; the others have names.
 const DRAWN_BOARDS: u64 = 30;
@@ -58,15 +62,15 @@ impl Text {
 }
 
 /// This many texts, fixed by the seed, and what they met. The last are those of writes that are sent
-/// twice.
+/// twice, and of services that join.
 pub fn all(length: usize, seed: u64) -> (Vec<Text>, Counts) {
     let mut counts = Counts::default();
-    let resent: Vec<Vec<u8>> = resent::texts().collect();
-    let drawn = Texts::new(seed).take(length.saturating_sub(resent.len()));
-    let resent = resent
-        .into_iter()
-        .map(|input| Text::new("sent twice", input));
-    let texts: Vec<Text> = drawn.chain(resent).collect();
+    let resent = resent::texts().map(|input| ("sent twice", input));
+    let joined = joins::texts().map(|input| ("joined", input));
+    let last: Vec<_> = resent.chain(joined).collect();
+    let drawn = Texts::new(seed).take(length.saturating_sub(last.len()));
+    let last = last.into_iter().map(|(kind, input)| Text::new(kind, input));
+    let texts: Vec<Text> = drawn.chain(last).collect();
     for text in &texts {
         count(&mut counts, text);
     }
@@ -108,6 +112,9 @@ impl Texts {
                 let lines = 2 + self.random.below(16);
                 return ("board", boards::text(&mut self.random, lines));
             }
+        }
+        if self.drawn >= BEFORE_COUNTS && self.random.once_in(20) {
+            return ("another count", image::counts(&mut self.random));
         }
         self.draw()
     }
@@ -218,7 +225,7 @@ fn kind_of(text: &[u8], ordinal: &str) -> &'static str {
 /// with the texts that have names. Refusals 4, 5, 7 and 8 are not among them: replay lends enough of
 /// each and its card is always a built one.
 fn possible() -> impl Iterator<Item = String> {
-    let image = (11..=23).chain([28, 30]);
+    let image = (11..=24).chain([28, 30]);
     let requests = [1, 2, 3, 6].into_iter().chain(40..=43);
     let named = boards::cases::all().map(|case| format!("text: {}", case.name));
     let sf2 = [

@@ -75,9 +75,10 @@ pub fn text(random: &mut Random, taste: Taste, lines: usize) -> Vec<u8> {
     text
 }
 
-/// A card and the lines of its image, with services of one kind alone if one is given.
+/// A card and the lines of its image, with `join` where it has to join, and with services of one kind alone
+/// if one is given.
 pub fn image(random: &mut Random, only: Option<ServiceKind>) -> (Card, Vec<u8>) {
-    let mut card = Card::new(random.word() as u16, random.word() as u16);
+    let mut card = Card::new(random.word() as u16, random.word() as u16, true);
     let first = Line::card(card.rust().system_code(), card.key_version(0xFFFF));
     let mut text = first.bytes(random);
     for addition in cards::additions_of(random, ARENA, only) {
@@ -88,6 +89,7 @@ pub fn image(random: &mut Random, only: Option<ServiceKind>) -> (Card, Vec<u8>) 
             text.extend(set(random, &mut card));
         }
     }
+    let text = Line::joining(text, &card);
     (card, text)
 }
 

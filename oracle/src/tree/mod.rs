@@ -1,7 +1,7 @@
 //! A card grown addition by addition: our records, and the Rust's own tree of them.
 //!
 //! Each addition is tried on a Rust tree that is built anew from the records so far and the new
-//! one (`rust`). The Rust's error is the refusal; 7, 20, 21, 22 and 28, which the Rust does not
+//! one (`rust`). The Rust's error is the refusal; 7, 20, 21, 22, 24 and 28, which the Rust does not
 //! have, are decided here, in the order of docs/RULES.md. A refused addition leaves the card as it was:
 //! the tree it was tried on is dropped. The Rust itself keeps a node that it refuses with 19.
 
@@ -65,6 +65,8 @@ pub enum Addition {
 pub struct Card {
     system: u16,
     version: u16,
+    /// Whether a service may join a store of another count, as the Rust has it.
+    join: bool,
     nodes: Vec<Node>,
     /// The code of the service that made each store, in the order of the arena.
     stores: Vec<u16>,
@@ -92,8 +94,8 @@ pub fn usable(arena: usize) -> u32 {
 }
 
 impl Card {
-    /// A card with a root alone.
-    pub fn new(system: u16, version: u16) -> Self {
+    /// A card with a root alone, whose services may join a store of another count or not.
+    pub fn new(system: u16, version: u16, join: bool) -> Self {
         let root = Node {
             depth: 0,
             code: 0x0000,
@@ -105,6 +107,7 @@ impl Card {
         Card {
             system,
             version,
+            join,
             nodes,
             stores: Vec::new(),
             used: 0,
@@ -153,14 +156,18 @@ impl Card {
         }
     }
 
-    /// Takes a service: 7 first, then what every node meets, 22 last. The first of a number
-    /// makes a store; a later one joins it, and its own count is ignored.
+    /// Takes a service: 7 first, then what every node meets, then 24 or 22. The first of a number
+    /// makes a store; a later one joins it, and its own count is ignored if the card joins.
     fn add_service(&mut self, arena: usize, node: Node, blocks: u32) -> Result<(), Refusal> {
         let Some(unused) = usable(arena).checked_sub(self.used) else {
             return Err(refusal::ARENA_SHORT);
         };
         let rust = self.tried(node)?;
-        let joins = self.store(node.code).is_some();
+        let store = self.store(node.code);
+        if !self.join && store.is_some_and(|count| count != blocks) {
+            return Err(refusal::COUNTS_DIFFER);
+        }
+        let joins = store.is_some();
         if !joins && unused < blocks {
             return Err(refusal::NO_BLOCKS_LEFT);
         }
@@ -247,6 +254,14 @@ impl Card {
         let mut stores = self.stores.iter();
         let maker = stores.find(|&&maker| number(maker) == number(code))?;
         Some(u32::from(self.total(*maker)))
+    }
+
+    /// Whether a service joined a store of another count, which a card that does not join refuses.
+    pub fn relies(&self) -> bool {
+        self.nodes.iter().any(|node| match node.entry {
+            Entry::Service { blocks, .. } => self.store(node.code) != Some(blocks),
+            Entry::Area { .. } => false,
+        })
     }
 
     /// The limit of the first service of this code, if there is one.

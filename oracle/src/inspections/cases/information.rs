@@ -1,6 +1,6 @@
 //! Block information: what is assigned and what is free, and the refusals.
 
-use super::{CARD, Case, case};
+use super::{CARD, Case, JOINING, case};
 
 /// The message of block information that tells the same of so many nodes.
 fn same(count: usize, assigned: &str, free: &str) -> String {
@@ -15,11 +15,11 @@ fn roots(count: usize) -> String {
 
 /// Counts of every kind of node.
 pub fn counts() -> Vec<Case> {
-    let image = "card|0001|0000\narea|1|0100|01FF|0000\nsvc|2|0149|3|0000\nsvc|1|1049|2|0000\n\
+    let image = "card|0001|0000|join\narea|1|0100|01FF|0000\nsvc|2|0149|3|0000\nsvc|1|1049|2|0000\n\
                  svc|1|104B|9|0000\nsvc|1|2051|0|0000\n";
     let joined = |count: usize| {
-        let first = "card|0001|0000\nsvc|1|1049|3855|0000\n";
-        format!("{first}{}", "svc|1|104B|1|0000\n".repeat(count - 1))
+        let joined = "svc|1|104B|1|0000\n".repeat(count - 1);
+        format!("{JOINING}svc|1|1049|3855|0000\n{joined}")
     };
     let told =
         "info|08 0700 0300 0300 0200 0200 0000 0000 0000 FB0F FB0F 0000 0000 0000 0000 0000 0000";

@@ -1,6 +1,6 @@
 //! What a line is, in which order lines may come, and what is lent.
 
-use super::{CARD, Case, case, code_of};
+use super::{CARD, Case, JOINING, case, code_of};
 use crate::replay::line::MOST_BYTES;
 
 /// A block of one byte.
@@ -72,7 +72,7 @@ pub fn mixtures() -> Vec<Case> {
         ),
         case(
             "an image that goes on after requests and questions",
-            CARD,
+            JOINING,
             &[
                 ("list|0000|0", "list|000000"),
                 ("svc|1|1049|2|0000", ""),
@@ -181,17 +181,19 @@ pub fn mixtures() -> Vec<Case> {
 /// Image lines that are refused after a request and a question, one text for each refusal. Nothing is
 /// answered after them.
 pub fn refused() -> Vec<Case> {
-    let image = "card|0001|0000\nsvc|1|1049|2|0000\narea|1|0100|01FF|0000\n";
+    let image = "svc|1|1049|2|0000\narea|1|0100|01FF|0000\n";
     let no_block = format!("blk|1049|2|{}", block(0));
     let full = format!("svc|1|{:04X}|1|0000\n", code_of(0x41)).repeat(61);
-    let of = |name, before: &str, line: &str, refusal: u8| {
+    let on = |card, name, before: &str, line: &str, refusal: u8| {
         let number = 6 + before.matches('\n').count();
         Case {
             name,
-            text: format!("{image}R|O|-|0|-\nused\n{before}{line}\nused\nR|O|-|0|-\n"),
+            text: format!("{card}{image}R|O|-|0|-\nused\n{before}{line}\nused\nR|O|-|0|-\n"),
             told: format!("1|00|00|-|-|-\nused|2\nimage|{number}|{refusal}\n"),
         }
     };
+    let of = |name, before: &str, line: &str, refusal| on(CARD, name, before, line, refusal);
+    let table_full = on(JOINING, "image refused 20", &full, "svc|1|1049|1|0000", 20);
     let forbids = "area|1|0201|02FF|0000\n";
     vec![
         of("image refused 11", "", "area|1|0200|01FF|0000", 11),
@@ -203,7 +205,7 @@ pub fn refused() -> Vec<Case> {
         of("image refused 17", "", "svc|2|0249|1|0000", 17),
         of("image refused 18", "", "area|2|0100|0200|0000", 18),
         of("image refused 19", "", "svc|1|104C|1|0000", 19),
-        of("image refused 20", &full, "svc|1|1049|1|0000", 20),
+        table_full,
         of("image refused 21", "", "svc|3|0149|1|0000", 21),
         of("image refused 22", "", "svc|1|2049|4095|0000", 22),
         of("image refused 23", "", &no_block, 23),

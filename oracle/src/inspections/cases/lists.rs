@@ -25,7 +25,7 @@ fn range(number: u16) -> String {
 pub fn children() -> Vec<Case> {
     let deep = "card|0001|0000\narea|1|0100|01FF|0000\narea|2|0140|017F|0000\nsvc|3|0149|1|0000\n\
                 svc|2|0189|1|0000\narea|2|01C1|01FF|0000\nsvc|1|1049|2|0000\narea|1|0200|02FF|0000\n";
-    let again = "card|0001|0000\narea|1|0100|01FF|0000\nsvc|2|0149|1|0000\narea|1|0100|02FF|0000\n\
+    let again = "card|0001|0000|join\narea|1|0100|01FF|0000\nsvc|2|0149|1|0000\narea|1|0100|02FF|0000\n\
                  svc|2|0189|1|0000\nsvc|1|1049|1|0000\nsvc|1|1049|7|0000\n";
     let within = "card|0001|0000\narea|1|0100|02FF|0000\narea|2|0100|01FF|0000\nsvc|3|0149|1|0000\n\
                   area|1|0000|FFFE|0000\nsvc|2|1049|1|0000\n";

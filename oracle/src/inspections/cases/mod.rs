@@ -2,6 +2,7 @@
 //! hand. `|` stands for a tab.
 
 mod information;
+mod joins;
 mod lines;
 mod lists;
 mod questions;
@@ -11,6 +12,9 @@ pub use crate::texts::boards::cases::Case;
 
 /// The line that starts an image.
 const CARD: &str = "card|0001|0000\n";
+
+/// The same of a card that joins.
+const JOINING: &str = "card|0001|0000|join\n";
 
 /// A case of these lines, each with what it is told, after an image that prints nothing.
 fn case<L: AsRef<str>, T: AsRef<str>>(name: &'static str, image: &str, lines: &[(L, T)]) -> Case {
@@ -53,7 +57,7 @@ fn sample() -> Case {
     }
 }
 
-/// All of them.
+/// Those that a list starts with.
 pub fn all() -> impl Iterator<Item = Case> {
     let cases = [
         vec![sample()],
@@ -74,4 +78,9 @@ pub fn all() -> impl Iterator<Item = Case> {
         lines::long(),
     ];
     cases.into_iter().flatten()
+}
+
+/// Those that a list ends with.
+pub fn last() -> impl Iterator<Item = Case> {
+    joins::counts().into_iter().chain(joins::malformed())
 }

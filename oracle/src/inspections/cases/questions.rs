@@ -1,10 +1,10 @@
 //! The other questions: totals, versions, the directory, both list checks, blocks, attributes.
 
-use super::{CARD, Case, case};
+use super::{CARD, Case, JOINING, case};
 
 /// Questions about the tree.
 pub fn tree() -> Vec<Case> {
-    let image = "card|0001|0012\narea|1|0101|01FF|0034\nsvc|2|0148|3|0056\nsvc|1|1048|2|0078\n\
+    let image = "card|0001|0012|join\narea|1|0101|01FF|0034\nsvc|2|0148|3|0056\nsvc|1|1048|2|0078\n\
                  svc|1|1049|9|009A\nsvc|1|1048|9|00BC\narea|1|0101|02FF|00DE\n";
     let forty = format!("svcs|{}", "1048".repeat(40));
     vec![
@@ -108,7 +108,7 @@ pub fn tree() -> Vec<Case> {
 
 /// Stored blocks, and blocks in use.
 pub fn blocks() -> Vec<Case> {
-    let image = "card|0001|0000\narea|1|0100|01FF|0000\nsvc|1|1049|2|0000\nsvc|1|104B|9|0000\n\
+    let image = "card|0001|0000|join\narea|1|0100|01FF|0000\nsvc|1|1049|2|0000\nsvc|1|104B|9|0000\n\
                  svc|1|2049|0|0000\nblk|104B|1|00112233445566778899AABBCCDDEEFF\n";
     let zeros = format!("block|{}", "0".repeat(32));
     let stored = "block|00112233445566778899AABBCCDDEEFF";
@@ -151,7 +151,7 @@ pub fn blocks() -> Vec<Case> {
         ),
         case(
             "used: stores of blocks, of none, and joined",
-            CARD,
+            JOINING,
             &[
                 ("used", "used|0"),
                 ("svc|1|1049|2|0000", ""),

@@ -57,7 +57,7 @@ struct Draft<'a> {
 
 /// A text with about this many lines after its image.
 pub fn text(random: &mut Random, lines: usize) -> Vec<u8> {
-    let card = Card::new(random.word() as u16, random.word() as u16);
+    let card = Card::new(random.word() as u16, random.word() as u16, true);
     let mut draft = Draft {
         random,
         card,
@@ -73,7 +73,7 @@ pub fn text(random: &mut Random, lines: usize) -> Vec<u8> {
             _ => draft.other_code(),
         }
     }
-    draft.text
+    Line::joining(draft.text, &draft.card)
 }
 
 impl Draft<'_> {

@@ -1,10 +1,10 @@
--- The test of the definition.
+-- The tests of the definition, in its order.
 use mathlib.Core.Path.{_≡_, sym, _∙_}
 use mathlib.Core.Bool.{Bool}
 use denote.Ref.{now}
 use borrow.Author.Needs.{needs}
 use Rattle.text_fields.specs.Field.{split}
-use Rattle.line_image.specs.Line.{cardWord, form, firstLine}
+use Rattle.line_image.specs.Line.{cardWord, form, joins, firstLine}
 use Rattle.line_image.proofs.line.first_line.Statement.{statement}
 use Rattle.line_image.proofs.line.first_line.Tie as tie
 
@@ -18,7 +18,25 @@ returns c = rw (card (c .before .before) (c .before .if1 .taken)) (c .card-line 
 
 returns-2 : tie.Need-returns-2
 unfolding firstLine
-returns-2 c = rw (card (c .before) (c .if1 .left))
+returns-2 c =
+    let j = c .before .before in
+    rw (card (j .before .before) (j .before .if1 .left), sym (j .is-join .ensures) ∙ c .before .if2 .taken) (c .card-line2 .ensures)
+
+returns-3 : tie.Need-returns-3
+unfolding firstLine
+returns-3 c =
+    let j = c .before in
+    rw (card (j .before .before) (j .before .if1 .left), sym (j .is-join .ensures) ∙ c .if2 .left)
 
 pub first-line-spec : {M : Type 1} → statement M
-first-line-spec = tie.close (tie.spec (λ c. search needs) (λ c κs. search needs) (λ c κs. search needs) returns returns-2)
+first-line-spec =
+    tie.close
+    (tie.spec
+    (λ c. search needs)
+    (λ c κs. search needs)
+    (λ c κs. search needs)
+    returns
+    (λ c κs. search needs)
+    (λ c κs. search needs)
+    returns-2
+    returns-3)

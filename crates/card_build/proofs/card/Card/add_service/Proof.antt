@@ -7,7 +7,8 @@ use lib.ListN.{length}
 use borrow.Author.Needs.{needs}
 use borrow.Author.Tests.{not-true, not-false, ltb-true, ltb-false, leb-true, leb-false}
 use Rattle.card_admit.specs.declared.Placed.{Placed}
-use Rattle.card_admit.specs.Admit.{placedOf}
+use Rattle.card_admit.specs.Admit.{placedOf, agreed}
+use Rattle.card_admit.proofs.Counts.{agreed-stored}
 use Rattle.card_build.specs.Card.{nodesOf, isSound}
 use Rattle.card_build.proofs.Accepted.{Fits, service-accepted}
 use Rattle.card_build.proofs.Answers.{service-unsound, service-short, service-full, service-refused, service-stored, arena-after, arena-kept}
@@ -29,7 +30,7 @@ free c = leb-false 64 (c .before .before .before .before .before .before .args .
 -- where the service was placed
 placed : (c : tie.After-place-service) {p : Placed} → c .place-service .result ≡ p →
     let a = c .before .before .before .before .before .before .before .args in
-    placedOf (nodesOf (a .self)) (a .self .used) (length (a .arena .now)) (a .depth) (a .code) (a .blocks) ≡ p
+    agreed (a .self .system .join) (a .blocks) (placedOf (nodesOf (a .self)) (a .self .used) (length (a .arena .now)) (a .depth) (a .code) (a .blocks)) ≡ p
 placed c e = sym (c .place-service .ensures) ∙ e
 
 -- its blocks are free, and the depth fits
@@ -38,7 +39,11 @@ fits : (c : tie.After-start) →
     Fits (a .depth) (a .self .used) (length (a .arena .now)) (c .start .given .0 .1 .1 .0)
 fits c =
     let p = c .before .before in
-    service-accepted _ _ _ _ _ _ (placed p (c .start .given .1)) (long (p .before .before))
+    let a = p .before .before .before .before .before .before .before .args in
+    let e =
+    agreed-stored (a .self .system .join) (a .blocks)
+    (placedOf (nodesOf (a .self)) (a .self .used) (length (a .arena .now)) (a .depth) (a .code) (a .blocks)) (placed p (c .start .given .1)) in
+    service-accepted _ _ _ _ _ _ e (long (p .before .before))
 
 returns : tie.Need-returns
 returns c =
