@@ -1,4 +1,5 @@
 // Replay, chunk by chunk: the lines of a chunk, and the end of a text.
+use byte_parts::sizes::MOST_PRINTED;
 use replay_line::Taken;
 use replay_state::Replay;
 use text_feed::Place;
@@ -9,9 +10,6 @@ ghost use Rattle.text_stream.specs.Stream.{ended, Written, Stepped};
 ghost use Rattle.line_serve.specs.Text.{mostSpelled, mostPrinted};
 ghost use Rattle.replay_line.specs.Replay.{lentBytes, replayMachine};
 ghost use Rattle.replay_text.specs.Mid.{mid};
-
-// No line prints more than this.
-const MOST_PRINTED: usize = 16448;
 
 // A replay after a step: the place in the chunk, how many bytes are kept of the line at hand, and how much of `out` is printed.
 pub struct Reached {
