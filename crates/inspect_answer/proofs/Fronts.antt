@@ -1,19 +1,17 @@
 -- What stands at the front of a buffer that was lent. Assumes nothing.
-use Prim.Native.Nat.{ℕ, _+_, _-_, _≤_, min}
+use Prim.Native.Nat.{ℕ, _-_, _≤_, min}
 use native.Mathlib.Omega.{arith}
 use native.Mathlib.Decide.{decLt}
-use native.Mathlib.Nat.{sub-zero}
-use mathlib.Core.Path.{_≡_, refl, sym, ap, _∙_}
+use mathlib.Core.Path.{_≡_, refl, sym, ap}
 use mathlib.Core.List.{List}
 use lib.ListN.{length, take, drop, replicate, length-take, length-replicate}
 use lib.Seq.{take-length, take-all}
 use borrow.Author.Tests.{lt-ltb, le-ltb}
-use Rattle.answers.specs.declared.refusal.Refusal.the-variants.{ShortOutput}
 use Rattle.answers.specs.declared.refusal.Answer.{Answer}
 use Rattle.answers.specs.declared.refusal.Answer.the-variants as answers
 use Rattle.byte_parts.specs.Part.{part}
+use Rattle.text_numbers.specs.Hex.{hexText}
 use Rattle.node_messages.specs.declared.message.Put.{Put}
-use Rattle.node_messages.specs.declared.message.Put.the-variants.{Bytes, Refused}
 use Rattle.node_messages.specs.Message.{putOf, outputAfter}
 use Rattle.node_messages.proofs.Beyond.{stands}
 use Rattle.card_build.specs.declared.card.Card.{Card}
@@ -21,34 +19,30 @@ use Rattle.card_build.specs.Card.{nodesOf}
 use Rattle.request_check.specs.Row.{rowOf}
 use Rattle.request_block.specs.Block.{blockPlace, blockJudged, blockBy, storedBlock}
 use Rattle.card_lists.specs.Packet.{putAnswered, outAnswered}
+use Rattle.line_answer.specs.Answer.{closed}
+use Rattle.inspect_answer.specs.Fields.{putFields, sizeOf}
 
--- a message that was put is no refusal
-abbrev size : Put → ℕ
-size (Bytes n) = 1 + n
-size (Refused r) = 0
+-- What a writer put has room, and is its message.
+put-shown : (message out : List ℕ) → let put = putOf message (length out) in (sizeOf put ≤ length out) × (putFields (take (sizeOf put) (outputAfter message out)) put ≡ putFields message put)
+unfolding putOf
+put-shown message out =
+    elim (decLt (length out) (length message)) [
+      | yes h ↦ rw (lt-ltb (length out) (length message) h) (omega arith, refl)
+      | no h ↦
+          let g : length message ≤ length out = omega arith in
+          rw (le-ltb (length out) (length message) g) (g, ap (λ (t : List ℕ). closed 10 (hexText t)) (stands message out g))
+    ]
 
--- What a writer put stands at the front of its output.
-pub record Stands (message after : List ℕ) (room n : ℕ) : Type 0 where
-  pub most : n ≤ room
-  pub long : length message ≤ room
-  pub front : take (n - 0) after ≡ message
+answer-shown
+    : (x : Answer) (message out : List ℕ) → let put = putAnswered x message (length out) in
+    (sizeOf put ≤ length out) × (putFields (take (sizeOf put) (outAnswered x message out)) put ≡ putFields message put)
+answer-shown answers.Done message out = put-shown message out
+answer-shown (answers.Refused r) message out = (omega arith, refl)
 
-module _ (message out : List ℕ) {n : ℕ} where
-  put-stands : putOf message (length out) ≡ Bytes n → Stands message (outputAfter message out) (length out) n
-  unfolding putOf
-  put-stands e =
-      elim (decLt (length out) (length message)) [
-        | yes h ↦ absurd (let x : putOf message (length out) ≡ Refused ShortOutput = rw (lt-ltb (length out) (length message) h) in let z : _≡_ {A = ℕ} 0 (1 + n) = sym (ap size x) ∙ ap size e in omega arith)
-        | no h ↦
-            let g : length message ≤ length out = omega arith in
-            let x : putOf message (length out) ≡ Bytes (length message) = rw (le-ltb (length out) (length message) g) in
-            let k : n ≡ length message = let z : _≡_ {A = ℕ} (1 + length message) (1 + n) = sym (ap size x) ∙ ap size e in omega arith in
-            record { most = omega arith; long = g; front = rw (sub-zero n, k) (stands message out g) }
-      ]
-
-  pub answered-stands : (x : Answer) → putAnswered x message (length out) ≡ Bytes n → Stands message (outAnswered x message out) (length out) n
-  answered-stands answers.Done e = put-stands e
-  answered-stands (answers.Refused r) e = absurd (let z : _≡_ {A = ℕ} 0 (1 + n) = ap size e in omega arith)
+pub shown
+    : (x : Answer) (message out : List ℕ) {put : Put} {after : List ℕ} → put ≡ putAnswered x message (length out) → after ≡ outAnswered x message out
+    → (sizeOf put ≤ length out) × (putFields (take (sizeOf put) after) put ≡ putFields message (putAnswered x message (length out)))
+shown x message out p q = rw (p, q) (answer-shown x message out)
 
 -- The first bytes of an arena, as many as there are.
 pub first-lent : (n : ℕ) (arena : List ℕ) → take (min n (length arena)) arena ≡ take n arena

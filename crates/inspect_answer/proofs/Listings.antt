@@ -1,8 +1,7 @@
 -- The pairs of a directory stand at the front of its output. Assumes nothing.
 use Prim.Native.Nat.{ℕ, suc, _+_, _-_, _*_, _≤_}
 use native.Mathlib.Omega.{arith}
-use native.Mathlib.Nat.{sub-zero}
-use mathlib.Core.Path.{_≡_, refl, sym, ap, _∙_}
+use mathlib.Core.Path.{_≡_, refl, sym, ap}
 use mathlib.Core.Bool.{Bool, true, false, cond, not}
 use mathlib.Core.List.{List, [], _∷_}
 use lib.Dec.{leb, ltb}
@@ -10,8 +9,7 @@ use lib.ListN.{length, take}
 use lib.Seq.{sets, take-length}
 use borrow.Author.Tests.{ltb-false}
 use Rattle.answers.specs.declared.refusal.Refusal.the-variants.{ShortOutput, NotBuilt}
-use Rattle.byte_parts.specs.Part.{part, put}
-use Rattle.byte_parts.proofs.Part.{part-put}
+use Rattle.byte_parts.specs.Part.{put}
 use Rattle.card_nodes.specs.declared.node.Node.{Node}
 use Rattle.card_build.specs.declared.card.Card.{Card}
 use Rattle.card_build.specs.Card.{nodesOf, isSound}
@@ -20,7 +18,7 @@ use Rattle.card_questions.specs.declared.listing.Listing.the-variants.{Listed, 
 use Rattle.card_questions.specs.Under.{spanUnder}
 use Rattle.card_questions.specs.Directory.{pairOf, pairsUnder, directoryOf, listedOf, listingOf, outAfter, directoryAnswer, directoryOut}
 use Rattle.card_questions.proofs.UnderLaws.{span-most}
-use Rattle.inspect_answer.proofs.Fronts.{Stands}
+use Rattle.inspect_fields.proofs.Lines.{front-put}
 
 -- there are two numbers for each node
 one-pair : (t : Bool) (n : Node) (rest : List ℕ) (k : ℕ) → length rest ≡ 2 * k → length (cond t [] (pairOf n rest)) ≡ 2 * cond t 0 (suc k)
@@ -42,10 +40,11 @@ unfolding listedOf
 listed-most [] = omega arith
 listed-most (n ∷ ns) = omega (arith, span-most (n .depth) ns)
 
--- what is set from the front on stands there
-sets-front : (s t : List ℕ) → length t ≤ length s → take (length t) (sets s 0 t) ≡ t
-unfolding part put
-sets-front s t h = rw (take-length t) at (part-put s 0 (length t) t (omega arith) (omega arith) ∙ take-length t)
+-- What was listed stands at the front of the output.
+pub record Stands (pairs after : List ℕ) (room n : ℕ) : Type 0 where
+  pub most : n ≤ room
+  pub long : length pairs ≤ room
+  pub front : take (n - 0) after ≡ pairs
 
 -- a listing is no refusal
 abbrev counted : Listing → ℕ
@@ -55,7 +54,7 @@ counted (Refused r) = 0
 pub directory-stands
     : (c : Card) (out : List ℕ) {n : ℕ} → directoryAnswer c (length out) ≡ Listed n
     → Stands (directoryOf (nodesOf c)) (directoryOut c out) (length out) (2 * n)
-unfolding directoryAnswer directoryOut listingOf outAfter
+unfolding directoryAnswer directoryOut listingOf outAfter put
 directory-stands c out {n} e = by (not (isSound c)) (ltb (length out) (2 * length (nodesOf c))) refl e
   where
     by : (s t : Bool) → ltb (length out) (2 * length (nodesOf c)) ≡ t
@@ -68,5 +67,5 @@ directory-stands c out {n} e = by (not (isSound c)) (ltb (length out) (2 * lengt
         let l = directory-long (nodesOf c) in
         let m = listed-most (nodesOf c) in
         let g = ltb-false (length out) (2 * length (nodesOf c)) h in
-        let k : 2 * n - 0 ≡ length (directoryOf (nodesOf c)) = omega arith in
-        record { most = omega arith; long = omega arith; front = rw k (sets-front out (directoryOf (nodesOf c)) (omega arith)) }
+        let d = directoryOf (nodesOf c) in
+        record { most = omega arith; long = omega arith; front = front-put out d {r = 2 * n} (omega arith) (omega arith) (sym (ap (sets out 0) (take-length d))) }

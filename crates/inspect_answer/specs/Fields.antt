@@ -1,5 +1,6 @@
 -- The fields that answer a question to a card, after its name: parted by tabs (9) and ended by LF (10).
 use Prim.Native.Nat.{ℕ}
+use mathlib.Core.Bool.{Bool, true, false}
 use mathlib.Core.List.{List, [], _∷_}
 use Rattle.answers.specs.declared.refusal.Told.{Told}
 use Rattle.answers.specs.declared.refusal.Told.the-variants as tolds
@@ -15,6 +16,7 @@ use Rattle.card_questions.specs.declared.keys.Checked.{Checked}
 use Rattle.card_questions.specs.declared.keys.Checked.the-variants as checks
 use Rattle.card_questions.specs.declared.listing.Listing.{Listing}
 use Rattle.card_questions.specs.declared.listing.Listing.the-variants as listings
+use Rattle.card_questions.specs.Keys.{areaListAnswer, serviceListAnswer}
 use Rattle.card_questions.specs.Directory.{directoryOf, directoryAnswer}
 use Rattle.card_lists.specs.Packet.{codeListOf, codeListPut}
 use Rattle.card_lists.specs.Information.{blocksOf, blocksPut}
@@ -26,6 +28,11 @@ use Rattle.inspect_fields.specs.Fields.{fourDigits, refusalFields}
 abbrev pub putFields : List ℕ → Put → List ℕ
 putFields message (puts.Bytes n) = closed 10 (hexText message)
 putFields message (puts.Refused refusal) = refusalFields refusal
+
+-- how many bytes it wrote
+abbrev pub sizeOf : Put → ℕ
+sizeOf (puts.Bytes n) = n
+sizeOf (puts.Refused refusal) = 0
 
 unfoldable pub listFields : Card → ℕ → ℕ → ℕ → List ℕ
 listFields c parent p room = putFields (codeListBytes (codeListOf c parent p .list)) (codeListPut c parent p room)
@@ -50,7 +57,11 @@ listingFields pairs (listings.Refused refusal) = refusalFields refusal
 unfoldable pub directoryFields : Card → ℕ → List ℕ
 directoryFields c numbers = listingFields (directoryOf (nodesOf c)) (directoryAnswer c numbers)
 
--- `areas`, `svcs`: `yes` or `no`
+-- `areas`, `svcs`: whether a list of areas, or of services, is well formed, `yes` or `no`
+abbrev pub listAnswer : Bool → Card → List ℕ → Checked
+listAnswer true c codes = areaListAnswer c codes
+listAnswer false c codes = serviceListAnswer c codes
+
 abbrev pub checkedFields : Checked → List ℕ
 checkedFields checks.WellFormed = closed 10 (121 ∷ 101 ∷ 115 ∷ [])
 checkedFields checks.Malformed = closed 10 (110 ∷ 111 ∷ [])

@@ -18,8 +18,8 @@ ghost use lib.ListN.{length};
 ghost use Rattle.text_numbers.specs.Codes.{codesField, codesOf};
 ghost use Rattle.text_stream.specs.Stream.{Written};
 ghost use Rattle.card_questions.specs.Total.{totalAnswer};
-ghost use Rattle.card_questions.specs.Keys.{versionAnswer, areaListAnswer, serviceListAnswer};
-ghost use Rattle.inspect_answer.specs.Fields.{totalFields, versionFields, directoryFields, checkedFields, blockFields, usedFields};
+ghost use Rattle.card_questions.specs.Keys.{versionAnswer};
+ghost use Rattle.inspect_answer.specs.Fields.{totalFields, versionFields, directoryFields, listAnswer, checkedFields, blockFields, usedFields};
 ghost use Rattle.inspect_fields.specs.Fields.{mostFields, fieldOne};
 
 // Puts the answer to `total` into `out` from `at` on, and answers the place after it.
@@ -85,26 +85,31 @@ fn put_checked(checked: Checked, out: &mut [u8], at: usize) -> usize
     }
 }
 
-// Puts the answer to `areas` into `out` from `at` on, and answers the place after it.
-pub(crate) fn put_areas(card: Card, line: &[u8], out: &mut [u8], at: usize) -> usize
-    requires { ⌜ (codesField (fieldOne (now line)) ≡ true) × (length (now line) ≤ 32768) × (at + mostFields ≤ length (now out)) ⌝ }
-    ensures { λ r. ⌜ Written (now (out .entry)) at (checkedFields (areaListAnswer card (codesOf (fieldOne (now (line .entry)))))) r (now (out .exit)) ⌝ }
-    ensures { λ r. ⌜ r ≤ at + mostFields ⌝ }
+// Whether codes are a well formed list, of areas or of services.
+fn list_check(card: Card, areas: bool, codes: &[u16]) -> Checked
+    ensures { λ r. ⌜ r ≡ listAnswer areas card (now (codes .entry)) ⌝ }
 {
-    let mut codes = [0u16; 8192];
-    let n = read_codes(line, &mut codes);
-    put_checked(keys::area_list_well_formed(card, &codes[0..n]), out, at)
+    if areas {
+        return keys::area_list_well_formed(card, codes);
+    }
+    keys::service_list_well_formed(card, codes)
 }
 
-// Puts the answer to `svcs` into `out` from `at` on, and answers the place after it.
-pub(crate) fn put_services(card: Card, line: &[u8], out: &mut [u8], at: usize) -> usize
+// Puts the answer to `areas`, or to `svcs`, into `out` from `at` on, and answers the place after it.
+pub(crate) fn put_well_formed(
+    card: Card,
+    areas: bool,
+    line: &[u8],
+    out: &mut [u8],
+    at: usize,
+) -> usize
     requires { ⌜ (codesField (fieldOne (now line)) ≡ true) × (length (now line) ≤ 32768) × (at + mostFields ≤ length (now out)) ⌝ }
-    ensures { λ r. ⌜ Written (now (out .entry)) at (checkedFields (serviceListAnswer card (codesOf (fieldOne (now (line .entry)))))) r (now (out .exit)) ⌝ }
+    ensures { λ r. ⌜ Written (now (out .entry)) at (checkedFields (listAnswer areas card (codesOf (fieldOne (now (line .entry)))))) r (now (out .exit)) ⌝ }
     ensures { λ r. ⌜ r ≤ at + mostFields ⌝ }
 {
     let mut codes = [0u16; 8192];
     let n = read_codes(line, &mut codes);
-    put_checked(keys::service_list_well_formed(card, &codes[0..n]), out, at)
+    put_checked(list_check(card, areas, &codes[0..n]), out, at)
 }
 
 // Puts the answer to `block` into `out` from `at` on, and answers the place after it.

@@ -9,11 +9,23 @@ use node_messages::message::Put;
 ghost use mathlib.Core.Path.{_≡_};
 ghost use mathlib.Core.Bool.{true};
 ghost use Prim.Native.Nat.{_+_, _≤_};
-ghost use lib.ListN.{length};
+ghost use lib.ListN.{length, take};
 ghost use Rattle.text_numbers.specs.Codes.{codesField, codesOf};
 ghost use Rattle.text_stream.specs.Stream.{Written};
-ghost use Rattle.inspect_answer.specs.Fields.{listFields, infoFields};
+ghost use Rattle.inspect_answer.specs.Fields.{putFields, sizeOf, listFields, infoFields};
 ghost use Rattle.inspect_fields.specs.Fields.{mostFields, fieldOne};
+
+// Puts the message that a writer has written to the front of `work`, or its refusal, into `out` from `at` on, and answers the place after it.
+fn put_message(put: Put, work: &[u8], out: &mut [u8], at: usize) -> usize
+    requires { ⌜ (sizeOf put ≤ length (now work)) × (length (now work) ≤ 4096) × (at + mostFields ≤ length (now out)) ⌝ }
+    ensures { λ r. ⌜ Written (now (out .entry)) at (putFields (take (sizeOf put) (now (work .entry))) put) r (now (out .exit)) ⌝ }
+    ensures { λ r. ⌜ r ≤ at + mostFields ⌝ }
+{
+    match put {
+        Put::Bytes(n) => put_hex(&work[0..n], b'\n', out, at),
+        Put::Refused(refusal) => put_refusal(refusal, out, at),
+    }
+}
 
 // Writes a packet of a code list to `work`, puts it into `out` from `at` on, and answers the place after it.
 fn put_packet(
@@ -28,10 +40,8 @@ fn put_packet(
     ensures { λ r. ⌜ Written (now (out .entry)) at (listFields card parent packet (length (now (work .entry)))) r (now (out .exit)) ⌝ }
     ensures { λ r. ⌜ r ≤ at + mostFields ⌝ }
 {
-    match packet::put_code_list(card, parent, packet, work) {
-        Put::Bytes(n) => put_hex(&work[0..n], b'\n', out, at),
-        Put::Refused(refusal) => put_refusal(refusal, out, at),
-    }
+    let put = packet::put_code_list(card, parent, packet, work);
+    put_message(put, work, out, at)
 }
 
 // Puts the answer to `list` into `out` from `at` on, and answers the place after it.
@@ -64,10 +74,8 @@ fn put_blocks(
     ensures { λ r. ⌜ Written (now (out .entry)) at (infoFields card (length (now (arena .entry))) (now (asked .entry)) (length (now (work .entry)))) r (now (out .exit)) ⌝ }
     ensures { λ r. ⌜ r ≤ at + mostFields ⌝ }
 {
-    match information::put_block_information(card, arena, asked, work) {
-        Put::Bytes(n) => put_hex(&work[0..n], b'\n', out, at),
-        Put::Refused(refusal) => put_refusal(refusal, out, at),
-    }
+    let put = information::put_block_information(card, arena, asked, work);
+    put_message(put, work, out, at)
 }
 
 // Puts the answer to `info` into `out` from `at` on, and answers the place after it.

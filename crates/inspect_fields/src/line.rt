@@ -4,7 +4,8 @@ use text_numbers::hex;
 ghost use mathlib.Core.Path.{_≡_};
 ghost use mathlib.Core.Bool.{true};
 ghost use Prim.Native.Nat.{_≤_};
-ghost use lib.ListN.{length, take};
+ghost use lib.ListN.{length};
+ghost use Rattle.byte_parts.specs.Part.{put};
 ghost use Rattle.text_numbers.specs.Hex.{hexField, unhex};
 ghost use Rattle.text_numbers.specs.Codes.{codesField, codesOf};
 ghost use Rattle.inspect_fields.specs.Fields.{fieldOne};
@@ -12,8 +13,8 @@ ghost use Rattle.inspect_fields.specs.Fields.{fieldOne};
 // Puts the codes of a question to the front of `codes`, and answers how many.
 pub fn read_codes(line: &[u8], codes: &mut [u16]) -> usize
     requires { ⌜ (codesField (fieldOne (now line)) ≡ true) × (length (now line) ≤ 32768) × (length (now codes) ≡ 8192) ⌝ }
-    ensures { λ r. ⌜ r ≤ 8192 ⌝ }
-    ensures { λ r. ⌜ take r (now (codes .exit)) ≡ codesOf (fieldOne (now (line .entry))) ⌝ }
+    ensures { λ r. ⌜ (r ≡ length (codesOf (fieldOne (now (line .entry))))) × (r ≤ 8192) ⌝ }
+    ensures { λ _. ⌜ now (codes .exit) ≡ put (now (codes .entry)) 0 (length (codesOf (fieldOne (now (line .entry))))) (codesOf (fieldOne (now (line .entry)))) ⌝ }
 {
     codes::read_codes(text_fields::field(line, 1, b'\t'), codes)
 }
@@ -21,8 +22,8 @@ pub fn read_codes(line: &[u8], codes: &mut [u16]) -> usize
 // Puts the bytes of a question to the front of `bytes`, and answers how many.
 pub fn read_bytes(line: &[u8], bytes: &mut [u8]) -> usize
     requires { ⌜ (hexField (fieldOne (now line)) ≡ true) × (length (now line) ≤ 32768) × (length (now bytes) ≡ 16384) ⌝ }
-    ensures { λ r. ⌜ r ≤ 16384 ⌝ }
-    ensures { λ r. ⌜ take r (now (bytes .exit)) ≡ unhex (fieldOne (now (line .entry))) ⌝ }
+    ensures { λ r. ⌜ (r ≡ length (unhex (fieldOne (now (line .entry))))) × (r ≤ 16384) ⌝ }
+    ensures { λ _. ⌜ now (bytes .exit) ≡ put (now (bytes .entry)) 0 (length (unhex (fieldOne (now (line .entry))))) (unhex (fieldOne (now (line .entry)))) ⌝ }
 {
     hex::put_bytes(text_fields::field(line, 1, b'\t'), bytes, 0)
 }

@@ -36,9 +36,9 @@ pub fn put_hex(bytes: &[u8], end: u8, out: &mut [u8], at: usize) -> usize
     ensures { λ r. ⌜ Written (now (out .entry)) at (closed end (hexText (now (bytes .entry)))) r (now (out .exit)) ⌝ }
     ensures { λ r. ⌜ r ≤ at + length (now (bytes .entry)) * 2 + 2 ⌝ }
 {
-    let last = hex::put_hex_field(bytes, out, at);
-    out[last] = end;
-    last + 1
+    let after = hex::put_hex_field(bytes, out, at);
+    out[after] = end;
+    after + 1
 }
 
 // Puts a number as four hex digits, and answers the place after them.

@@ -104,10 +104,11 @@ fn later_sort(line: &[u8]) -> Sort
 fn sort_of(phase: Phase, line: &[u8]) -> Sort
     ensures { λ r. ⌜ r ≡ sortOf phase (now (line .entry)) ⌝ }
 {
+    let later = later_sort(line);
     match phase {
         Phase::First => Sort::Replayed(Kind::Image(true)),
-        Phase::Image => later_sort(line),
-        Phase::Requests => later_sort(line),
+        Phase::Image => later,
+        Phase::Requests => later,
         Phase::Ended => Sort::Nothing,
     }
 }

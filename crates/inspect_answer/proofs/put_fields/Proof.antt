@@ -33,16 +33,16 @@ put-read-info-requires c κs =
     let e = s .pre .0 ∙ ap Of (g .enum-told3 .given .1) in
     (asked-wants l asks.ReadInfo e, asked-short l asks.ReadInfo e, s .pre .2)
 
-put-areas-requires : tie.Need-put-areas-requires
-put-areas-requires c κs =
+put-well-formed-requires : tie.Need-put-well-formed-requires
+put-well-formed-requires c κs =
     let g = c .before in
     let s = g .before .before .before .before .before in
     let l = now (s .args .line) in
     let e = s .pre .0 ∙ ap Of (g .enum-told5 .given .1) in
     (asked-wants l asks.Areas e, asked-short l asks.Areas e, s .pre .2)
 
-put-services-requires : tie.Need-put-services-requires
-put-services-requires c κs =
+put-well-formed-requires-2 : tie.Need-put-well-formed-requires-2
+put-well-formed-requires-2 c κs =
     let g = c .before in
     let s = g .before .before .before .before .before in
     let l = now (s .args .line) in
@@ -87,12 +87,12 @@ returns-7 c =
 returns-8 : tie.Need-returns-8
 returns-8 c =
     let p = c .before .before in
-    rw (p .before .before .enum-told5 .given .1) (p .put-areas .ensures)
+    rw (p .before .before .enum-told5 .given .1) (p .put-well-formed .ensures)
 
 returns-9 : tie.Need-returns-9
 returns-9 c =
     let p = c .before .before in
-    rw (p .before .before .enum-told6 .given .1) (p .put-services .ensures)
+    rw (p .before .before .enum-told6 .given .1) (p .put-well-formed2 .ensures)
 
 returns-10 : tie.Need-returns-10
 returns-10 c =
@@ -128,9 +128,9 @@ put-fields-spec =
     (λ c. search needs)
     (λ c κs. search needs)
     (λ c. search needs)
-    put-areas-requires
+    put-well-formed-requires
     (λ c. search needs)
-    put-services-requires
+    put-well-formed-requires-2
     (λ c. search needs)
     (λ c κs. search needs)
     (λ c. search needs)

@@ -10,11 +10,11 @@ returns c = rw (c .enum-told .given .1)
 
 returns-2 : tie.Need-returns-2
 unfolding sortOf
-returns-2 c = rw (c .before .enum-told2 .given .1) (c .later-sort .ensures)
+returns-2 c = rw (c .enum-told2 .given .1) (c .before .before .later-sort .ensures)
 
 returns-3 : tie.Need-returns-3
 unfolding sortOf
-returns-3 c = rw (c .before .enum-told3 .given .1) (c .later-sort2 .ensures)
+returns-3 c = rw (c .enum-told3 .given .1) (c .before .before .later-sort .ensures)
 
 returns-4 : tie.Need-returns-4
 unfolding sortOf
@@ -24,11 +24,10 @@ pub sort-of-spec : {M : Type 1} → statement M
 sort-of-spec =
     tie.close
     (tie.spec
-    (λ c. search needs)
-    (λ c. search needs)
     (λ c κs. search needs)
     (λ c. search needs)
-    (λ c κs. search needs)
+    (λ c. search needs)
+    (λ c. search needs)
     (λ c. search needs)
     returns
     returns-2

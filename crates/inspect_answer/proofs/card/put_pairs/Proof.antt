@@ -10,8 +10,7 @@ use Rattle.card_questions.specs.declared.listing.Listing.{Listing}
 use Rattle.card_questions.specs.declared.listing.Listing.the-variants.{Listed}
 use Rattle.card_questions.specs.Directory.{directoryOf, directoryAnswer}
 use Rattle.inspect_answer.specs.Fields.{directoryFields}
-use Rattle.inspect_answer.proofs.Fronts.{Stands}
-use Rattle.inspect_answer.proofs.Listings.{directory-stands}
+use Rattle.inspect_answer.proofs.Listings.{Stands, directory-stands}
 use Rattle.inspect_answer.proofs.card.put_pairs.Statement.{statement}
 use Rattle.inspect_answer.proofs.card.put_pairs.Tie as tie
 

@@ -1,13 +1,11 @@
 -- `message::put_info` meets its contract: the information of the codes, written to the part that is lent. Assumes nothing.
 use borrow.Author.Needs.{needs}
 use native.Mathlib.Omega.{arith}
-use Prim.Native.Nat.{_-_}
-use native.Mathlib.Nat.{sub-zero}
-use mathlib.Core.Path.{_≡_}
-use lib.ListN.{take}
+use lib.ListN.{replicate}
 use denote.Ref.{now}
 use Rattle.text_numbers.specs.Codes.{codesOf}
 use Rattle.inspect_fields.specs.Fields.{fieldOne}
+use Rattle.inspect_fields.proofs.Lines.{front-put}
 use Rattle.inspect_answer.proofs.Fronts.{lent-long}
 use Rattle.inspect_answer.proofs.message.put_info.Statement.{statement}
 use Rattle.inspect_answer.proofs.message.put_info.Tie as tie
@@ -17,7 +15,7 @@ returns c =
     let p = c .before .before .before in
     let k = p .before .before .before .before .before .before in
     let s = k .before .before .before .before .before in
-    let t : take (k .read-codes .result - 0) (k .read-codes .last .1 .0) ≡ codesOf (fieldOne (now (s .args .line))) = rw (sub-zero (k .read-codes .result)) (k .read-codes .ensures .1) in
+    let t = front-put (replicate 8192 0) (codesOf (fieldOne (now (s .args .line)))) (omega arith) (k .read-codes .ensures .0 .0) (k .read-codes .ensures .1) in
     rw (t, lent-long (s .args .room) 4096 (s .pre .1 .0)) at (p .put-blocks .ensures)
 
 pub put-info-spec : {M : Type 1} → statement M

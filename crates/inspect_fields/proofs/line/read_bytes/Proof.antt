@@ -3,7 +3,7 @@ use borrow.Author.Needs.{needs}
 use native.Mathlib.Omega.{arith}
 use denote.Ref.{now}
 use Rattle.text_fields.proofs.FieldLaws.{field-long}
-use Rattle.inspect_fields.proofs.Lines.{bytes-front}
+use Rattle.inspect_fields.proofs.Lines.{bytes-put}
 use Rattle.inspect_fields.proofs.line.read_bytes.Statement.{statement}
 use Rattle.inspect_fields.proofs.line.read_bytes.Tie as tie
 
@@ -18,7 +18,7 @@ returns c =
     let f = p .before .before in
     let s = f .before .before .before in
     let e = f .field .ensures in
-    bytes-front (now (s .args .line)) (s .pre .1) (now (s .args .bytes)) (s .pre .2) (rw e at (p .put-bytes .ensures .0)) (rw e at (p .put-bytes .ensures .1))
+    bytes-put (now (s .args .line)) (s .pre .1) (now (s .args .bytes)) (s .pre .2) (rw e at (p .put-bytes .ensures .0)) (rw e at (p .put-bytes .ensures .1))
 
 pub read-bytes-spec : {M : Type 1} → statement M
 read-bytes-spec =

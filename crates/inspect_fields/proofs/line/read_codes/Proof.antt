@@ -2,7 +2,7 @@
 use borrow.Author.Needs.{needs}
 use native.Mathlib.Omega.{arith}
 use denote.Ref.{now}
-use Rattle.inspect_fields.proofs.Lines.{codes-front}
+use Rattle.inspect_fields.proofs.Lines.{codes-put}
 use Rattle.inspect_fields.proofs.line.read_codes.Statement.{statement}
 use Rattle.inspect_fields.proofs.line.read_codes.Tie as tie
 
@@ -15,7 +15,7 @@ returns c =
     let f = p .before .before in
     let s = f .before .before .before in
     let e = f .field .ensures in
-    codes-front (now (s .args .line)) (s .pre .1) (now (s .args .codes)) (s .pre .2) (rw e at (p .read-codes .ensures .0)) (rw e at (p .read-codes .ensures .1))
+    codes-put (now (s .args .line)) (s .pre .1) (now (s .args .codes)) (s .pre .2) (rw e at (p .read-codes .ensures .0)) (rw e at (p .read-codes .ensures .1))
 
 pub read-codes-spec : {M : Type 1} → statement M
 read-codes-spec =

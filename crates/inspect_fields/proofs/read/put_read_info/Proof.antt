@@ -1,14 +1,13 @@
 -- `read::put_read_info` meets its contract: what the bytes read as, or the refusal. Assumes nothing.
 use borrow.Author.Needs.{needs}
 use native.Mathlib.Omega.{arith}
-use Prim.Native.Nat.{_-_}
-use native.Mathlib.Nat.{sub-zero}
 use mathlib.Core.Path.{_≡_, ap, _∙_}
-use lib.ListN.{take}
+use lib.ListN.{replicate}
 use denote.Ref.{now}
 use Rattle.text_numbers.specs.Hex.{unhex}
 use Rattle.node_messages.specs.Information.{readInformation}
 use Rattle.inspect_fields.specs.Fields.{fieldOne, readInfoFields}
+use Rattle.inspect_fields.proofs.Lines.{front-put}
 use Rattle.inspect_fields.proofs.read.put_read_info.Statement.{statement}
 use Rattle.inspect_fields.proofs.read.put_read_info.Tie as tie
 
@@ -16,9 +15,8 @@ use Rattle.inspect_fields.proofs.read.put_read_info.Tie as tie
 read-as : (r : tie.After-read-information) → let s = r .before .before .before .before .before .before .before .before in r .read-information .result ≡ readInformation (unhex (fieldOne (now (s .args .line))))
 read-as r =
     let k = r .before .before .before .before in
-    let s = k .before .before .before .before in
-    let t : take (k .read-bytes .result - 0) (k .read-bytes .last .1 .0) ≡ unhex (fieldOne (now (s .args .line))) = rw (sub-zero (k .read-bytes .result)) (k .read-bytes .ensures .1) in
-    r .read-information .ensures ∙ ap readInformation t
+    let t = unhex (fieldOne (now (k .before .before .before .before .args .line))) in
+    r .read-information .ensures ∙ ap readInformation (front-put (replicate 16384 0) t (omega arith) (k .read-bytes .ensures .0 .0) (k .read-bytes .ensures .1))
 
 returns : tie.Need-returns
 unfolding readInfoFields
