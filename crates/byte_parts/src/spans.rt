@@ -1,9 +1,16 @@
 // Parts of a slice of bytes, by their place and length. Each contract is one equation on the whole slice, so that a caller need not
 // say again which bytes stayed.
 ghost use mathlib.Core.Path.{_≡_};
-ghost use Prim.Native.Nat.{_+_, _≤_};
+ghost use Prim.Native.Nat.{_+_, _≤_, min};
 ghost use lib.ListN.{length, drop, replicate};
 ghost use Rattle.byte_parts.specs.Part.{put, sameBytes};
+
+// The lesser of two numbers.
+pub fn least(a: usize, b: usize) -> usize
+    ensures { λ r. ⌜ r ≡ min a b ⌝ }
+{
+    if a < b { a } else { b }
+}
 
 // Copies the n bytes of src from `from` on to dst from `at` on.
 pub fn copy(dst: &mut [u8], at: usize, src: &[u8], from: usize, n: usize)

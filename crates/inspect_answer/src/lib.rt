@@ -2,10 +2,10 @@
 mod card;
 mod message;
 
+use byte_parts::spans::least;
 use card_build::card::Card;
 use inspect_ask::Asked;
 use inspect_fields::attribute;
-use inspect_fields::put::least;
 use inspect_fields::put::put_word;
 use inspect_fields::read;
 ghost use mathlib.Core.Path.{_≡_};

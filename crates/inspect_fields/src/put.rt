@@ -4,19 +4,12 @@ use byte_parts::spans;
 use text_numbers::hex;
 ghost use mathlib.Core.Path.{_≡_};
 ghost use mathlib.Core.List.{[], _∷_};
-ghost use Prim.Native.Nat.{_+_, _*_, _≤_, min};
+ghost use Prim.Native.Nat.{_+_, _*_, _≤_};
 ghost use lib.ListN.{length};
 ghost use Rattle.text_numbers.specs.Hex.{toHex, hexText};
 ghost use Rattle.text_stream.specs.Stream.{Written};
 ghost use Rattle.line_answer.specs.Answer.{closed};
 ghost use Rattle.inspect_fields.specs.Fields.{highFirst, fourDigits, refusalFields};
-
-// The lesser of two numbers.
-pub fn least(a: usize, b: usize) -> usize
-    ensures { λ r. ⌜ r ≡ min a b ⌝ }
-{
-    if a < b { a } else { b }
-}
 
 // Puts a word and the byte that ends its field into `out` from `at` on, and answers the place after them.
 pub fn put_word(word: &[u8], end: u8, out: &mut [u8], at: usize) -> usize

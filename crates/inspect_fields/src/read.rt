@@ -1,10 +1,10 @@
 // The fields that answer `readlist` and `readinfo`: what a message's bytes read as.
 use crate::line::read_bytes;
-use crate::put::least;
 use crate::put::put_numbers;
 use crate::put::put_refusal;
 use crate::put::put_word;
 use answers::refusal::Answer;
+use byte_parts::spans::least;
 use node_messages::code_list;
 use node_messages::code_list::CodeList;
 use node_messages::information;

@@ -12,7 +12,6 @@ use Rattle.law_once.proofs.Law.{once, of-one, of-two, of-facts, result}
 use Rattle.inspect_ask.proofs.question_of as inspect_ask·question-of
 use Rattle.inspect_fields.proofs.line.read_codes as inspect_fields·read-codes
 use Rattle.inspect_fields.proofs.line.read_bytes as inspect_fields·read-bytes
-use Rattle.inspect_fields.proofs.put.least as inspect_fields·least
 use Rattle.inspect_fields.proofs.put.put_word as inspect_fields·put-word
 use Rattle.inspect_fields.proofs.put.put_hex as inspect_fields·put-hex
 use Rattle.inspect_fields.proofs.put.put_numbers as inspect_fields·put-numbers
@@ -34,9 +33,6 @@ module _ {M : Type 1} (𝓤 : URA M) (H : Heap 𝓤) (A : Atoms 𝓤) (mem : Mem
 
   pub inspect_fields·read-bytes-once : OneAnswer 𝓤 inspect_fields·read-bytes.ended (inspect_fields·read-bytes.clauses 𝓤 H A mem run)
   inspect_fields·read-bytes-once κs a g r r′ ws ws′ = of-two 𝓤 (λ p p′ q q′. (once (p .0) (q .0), λ i. (tt, (once p′ q′ i, tt))))
-
-  pub inspect_fields·least-once : OneAnswer 𝓤 inspect_fields·least.ended (inspect_fields·least.clauses 𝓤 H A mem run)
-  inspect_fields·least-once κs a g r r′ ws ws′ = result 𝓤 refl
 
   pub inspect_fields·put-word-once : OneAnswer 𝓤 inspect_fields·put-word.ended (inspect_fields·put-word.clauses 𝓤 H A mem run)
   inspect_fields·put-word-once κs a g r r′ ws ws′ = of-two 𝓤 (λ p p′ q q′. (once (p .place) (q .place), λ i. (tt, (tt, (once (p .bytes) (q .bytes) i, (tt, tt))))))

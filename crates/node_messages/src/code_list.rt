@@ -3,6 +3,7 @@ use crate::message::Put;
 use crate::numbers;
 use answers::refusal::Answer;
 use answers::refusal::Refusal;
+use byte_parts::spans;
 ghost use mathlib.Core.Path.{_≡_};
 ghost use lib.ListN.{length};
 ghost use Rattle.node_messages.specs.Message.{putOf, outputAfter};
@@ -64,8 +65,8 @@ pub fn put_code_list(list: CodeList, out: &mut [u8]) -> Put
     ensures { λ r. ⌜ r ≡ putOf (codeListBytes list) (length (now (out .entry))) ⌝ }
     ensures { λ _. ⌜ now (out .exit) ≡ outputAfter (codeListBytes list) (now (out .entry)) ⌝ }
 {
-    let areas = numbers::at_most(list.areas, 16);
-    let services = numbers::at_most(list.services, 16 - areas);
+    let areas = spans::least(list.areas, 16);
+    let services = spans::least(list.services, 16 - areas);
     let size = 3 + 4 * areas + 2 * services;
     // refusal 5
     if out.len() < size {

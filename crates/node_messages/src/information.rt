@@ -3,6 +3,7 @@ use crate::message::Put;
 use crate::numbers;
 use answers::refusal::Answer;
 use answers::refusal::Refusal;
+use byte_parts::spans;
 ghost use mathlib.Core.Path.{_≡_};
 ghost use lib.ListN.{length};
 ghost use Rattle.node_messages.specs.Message.{putOf, outputAfter};
@@ -43,7 +44,7 @@ pub fn put_information(told: BlockInformation, out: &mut [u8]) -> Put
     ensures { λ r. ⌜ r ≡ putOf (informationBytes told) (length (now (out .entry))) ⌝ }
     ensures { λ _. ⌜ now (out .exit) ≡ outputAfter (informationBytes told) (now (out .entry)) ⌝ }
 {
-    let n = numbers::at_most(told.count, 32);
+    let n = spans::least(told.count, 32);
     let size = 1 + 4 * n;
     // refusal 5
     if out.len() < size {

@@ -1,17 +1,10 @@
 // Numbers of 16 bits in a message, one after the other.
 use byte_parts::half;
 ghost use mathlib.Core.Path.{_≡_};
-ghost use Prim.Native.Nat.{_+_, _*_, _≤_, min};
+ghost use Prim.Native.Nat.{_+_, _*_, _≤_};
 ghost use lib.ListN.{length, drop, getD};
 ghost use Rattle.byte_parts.specs.Part.{put};
 ghost use Rattle.node_messages.specs.Numbers.{numbersBytes, numbersIn};
-
-// The lesser of a count and the most that there may be.
-pub(crate) fn at_most(count: usize, most: usize) -> usize
-    ensures { λ r. ⌜ r ≡ min count most ⌝ }
-{
-    if count < most { count } else { most }
-}
 
 // The byte of `s` at `i`, or 0 where there is none. That it is below 256 is promised too, so that sums need no proof that they fit.
 pub(crate) fn byte_at(s: &[u8], i: usize) -> usize

@@ -2,7 +2,6 @@
 use byte_parts::spans;
 use bytes::scan;
 ghost use mathlib.Core.Path.{_≡_};
-ghost use Prim.Native.Nat.{min};
 ghost use lib.ListN.{length};
 ghost use Rattle.text_feed.specs.Feed.{placeAfter, lineAfter};
 
@@ -11,13 +10,6 @@ pub struct Place {
     pub at: usize,
     pub len: usize,
     pub whole: usize,
-}
-
-// The lesser of two numbers.
-fn least(a: usize, b: usize) -> usize
-    ensures { λ r. ⌜ r ≡ min a b ⌝ }
-{
-    if a < b { a } else { b }
 }
 
 // Takes the bytes of the chunk from a place on, up to a LF, into the line behind those kept. The LF is taken and not
@@ -33,7 +25,7 @@ pub fn feed(p: Place, chunk: &[u8], line: &mut [u8]) -> Place
         return p;
     }
     let end = scan::find(chunk, p.at, chunk.len(), 10);
-    let n = least(end - p.at, line.len() - p.len);
+    let n = spans::least(end - p.at, line.len() - p.len);
     spans::copy(line, p.len, chunk, p.at, n);
     if end < chunk.len() {
         return Place {

@@ -22,10 +22,10 @@ record Room (m : CodeList) (out a s : ℕ) : Type 0 where
   enough : 3 + 4 * a + 2 * s ≤ out
   arrays : ListSized m
 
-room : (c : tie.Else1) → Room (c .before .before .before .before .args .list) (length (now (c .before .before .before .before .args .out))) (c .before .before .at-most .result) (c .before .at-most2 .result)
+room : (c : tie.Else1) → Room (c .before .before .before .before .args .list) (length (now (c .before .before .before .before .args .out))) (c .before .before .least .result) (c .before .least2 .result)
 room c = record {
-  areas = c .before .before .at-most .ensures;
-  services = c .before .at-most2 .ensures ∙ rw (c .before .before .at-most .ensures);
+  areas = c .before .before .least .ensures;
+  services = c .before .least2 .ensures ∙ rw (c .before .before .least .ensures);
   enough = c .if1 .left;
   arrays = sized (c .before .before .before .before);
 }
@@ -35,8 +35,8 @@ returns c =
     let two = c .before in
     let one = two .before in
     let st = one .before .before in
-    let es : two .at-most2 .result ≡ servicesOf (st .args .list) = two .at-most2 .ensures ∙ rw (one .at-most .ensures) in
-    short _ (now (st .args .out)) (list-long (sized st)) (omega (arith, one .at-most .ensures, es, c .if1 .taken))
+    let es : two .least2 .result ≡ servicesOf (st .args .list) = two .least2 .ensures ∙ rw (one .least .ensures) in
+    short _ (now (st .args .out)) (list-long (sized st)) (omega (arith, one .least .ensures, es, c .if1 .taken))
 
 slice-write-out-2 : tie.Need-slice-write-out-2
 slice-write-out-2 c = let r = room (c .before) in simp length-set (omega (arith, r .enough))

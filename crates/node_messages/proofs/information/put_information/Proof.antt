@@ -21,13 +21,13 @@ record Room (m : BlockInformation) (out n : ℕ) : Type 0 where
   enough : 1 + 4 * n ≤ out
   arrays : InformationSized m
 
-room : (c : tie.Else1) → Room (c .before .before .before .args .told) (length (now (c .before .before .before .args .out))) (c .before .at-most .result)
-room c = record { nodes = c .before .at-most .ensures; enough = c .if1 .left; arrays = sized (c .before .before .before) }
+room : (c : tie.Else1) → Room (c .before .before .before .args .told) (length (now (c .before .before .before .args .out))) (c .before .least .result)
+room c = record { nodes = c .before .least .ensures; enough = c .if1 .left; arrays = sized (c .before .before .before) }
 
 returns : tie.Need-returns
 returns c =
     let st = c .before .before .before in
-    short _ (now (st .args .out)) (information-long (sized st)) (omega (arith, c .before .at-most .ensures, c .if1 .taken))
+    short _ (now (st .args .out)) (information-long (sized st)) (omega (arith, c .before .least .ensures, c .if1 .taken))
 
 part-put-numbers-end : tie.Need-part-put-numbers-end
 part-put-numbers-end c = let r = room (c .before .before .before) in omega (arith, r .nodes, r .arrays .assigned)
