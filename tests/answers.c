@@ -1,5 +1,5 @@
-/* Puts the oracle's lists of trees, requests and boards (oracle/README.md) to the library and compares every answer, and every
- * byte that was lent, the card's among them (layout.h). Each call is lent memory of its own, of just the lengths that it is
+/* Puts the oracle's lists of trees, requests, boards and messages (oracle/README.md) to the library and compares every answer, and
+ * every byte that was lent, the card's among them (layout.h). Each call is lent memory of its own, of just the lengths that it is
  * told (lent.h). What a call answers through a pointer holds something else before, and a refusal has to leave it. */
 #define _GNU_SOURCE
 #include <signal.h>
@@ -9,44 +9,15 @@
 #include <unistd.h>
 
 #include "fields.h"
+#include "held.h"
 #include "lanes.h"
 #include "layout.h"
 #include "lent.h"
+#include "messages.h"
 #include "uluvoli.h"
 
-enum { ARENA_SIZE = 70000, ROOM_SIZE = 140000, MARK = 0xa5 };
-
-/* The card as calls left it and as it should be, the arena as it should be, how much of it is lent, and the blocks in
- * use. */
-static uint8_t card[ULUVOLI_CARD_SIZE];
-static uint8_t card_wanted[LAYOUT_SIZE];
-static uint8_t arena[ARENA_SIZE];
-static size_t arena_len;
+/* The blocks in use. */
 static size_t used;
-
-/* What a call is sent. */
-static uint16_t codes[1024];
-static uint8_t list[4096];
-static uint8_t data[16384];
-
-/* What a call wrote, and what it should have written. */
-static uint8_t arena_after[ARENA_SIZE];
-static uint8_t room[ROOM_SIZE];
-static uint8_t room_wanted[ROOM_SIZE];
-static size_t room_len;
-
-/* The place of the line, for what is printed. */
-static char place[4096];
-static unsigned long lines, calls, wrong;
-
-/* Counts a call, and says where it is not as it should be. */
-static void check(bool agrees, const char *what) {
-    calls++;
-    if (!agrees) {
-        wrong++;
-        printf("%s: %s\n", place, what);
-    }
-}
 
 /* A call that touches what it was not lent ends here. */
 static void touched(int signal_number) {
@@ -57,40 +28,6 @@ static void touched(int signal_number) {
     }
     _exit(1);
 }
-
-static const uint8_t *lent_card(void) { return lend(CARD, card, sizeof card); }
-
-/* The card with a count of records that none has, which every call refuses. */
-static const uint8_t *lent_unbuilt(void) {
-    uint8_t unbuilt[sizeof card];
-    memcpy(unbuilt, card, sizeof card);
-    unbuilt[1] = 0xff;
-    return lend(CARD, unbuilt, sizeof unbuilt);
-}
-
-/* Refusal 8, as a call returns it. */
-enum { UNBUILT = ULUVOLI_NOT_BUILT << 16 };
-
-/* Marks an output or a staging of this length, and what it should be. */
-static void mark_room(size_t length) {
-    room_len = length;
-    if (length > sizeof room) {
-        fputs("answers: a room is too long\n", stderr);
-        exit(2);
-    }
-    memset(room, MARK, length);
-    memset(room_wanted, MARK, length);
-}
-
-static bool room_agrees(void) { return memcmp(room, room_wanted, room_len) == 0; }
-
-/* The arena, to be written by a call, and whether it is afterwards as it should be. */
-static uint8_t *lent_arena(void) {
-    memcpy(arena_after, arena, arena_len);
-    return lend_writable(ARENA, arena_after, arena_len);
-}
-
-static bool arena_agrees(void) { return memcmp(arena, arena_after, arena_len) == 0; }
 
 /* ---- building */
 
@@ -279,11 +216,9 @@ static uint32_t serve(char *f[FIELDS]) {
 
 /* The same on a card with one byte changed: most are refused, and then nothing is written. */
 static void serve_spoilt(char *f[FIELDS]) {
-    size_t at = (lines * 2654435761u >> 7) % sizeof card;
-    uint8_t kept = card[at];
-    card[at] = (uint8_t)(kept + 1 + lines % 255);
+    spoil_card();
     uint32_t got = serve(f);
-    card[at] = kept;
+    mend_card();
     check(uluvoli_refusal(got) == 0 || (room_agrees() && arena_agrees()), "a request on a spoilt card");
 }
 
@@ -341,11 +276,9 @@ static uint32_t ask_board(char *f[FIELDS]) {
  * with a byte changed, if it is none. */
 static void board(char *f[FIELDS]) {
     uint32_t wanted = answer(f[3]);
-    size_t at = (lines * 2654435761u >> 7) % sizeof card;
-    uint8_t kept = card[at];
-    card[at] = (uint8_t)(kept + 1 + lines % 255);
+    spoil_card();
     uint32_t got = ask_board(f);
-    card[at] = kept;
+    mend_card();
     check(got == 0 || room_agrees(), "a board of a spoilt card");
     got = ask_board(f);
     bytes(f[4], room_wanted, sizeof room_wanted);
@@ -370,6 +303,10 @@ static void one_line(char *f[FIELDS]) {
     case 'L': formed(f, uluvoli_service_list); break;
     case 'R':
     case 'W': request(f); break;
+    case 'C':
+    case 'I': message_written(f); break;
+    case 'c': code_list_read(f); break;
+    case 'i': information_read(f); break;
     default: check(false, "a line of no known kind");
     }
 }

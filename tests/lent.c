@@ -14,6 +14,7 @@ static struct {
     uint8_t *pages;    /* of MOST bytes, between two pages that may not be touched */
     uint8_t *own;      /* what is lent, NULL for nothing */
     void *home;        /* where it goes back to, NULL where it is only read */
+    uint8_t *kept;     /* what it has to be still, if it is allocated and only read; else NULL */
     size_t length;
 } parts[PARTS];
 
@@ -70,6 +71,10 @@ static uint8_t *lend_part(enum part part, const void *bytes, void *home, size_t 
 
 const void *lend(enum part part, const void *bytes, size_t length) {
     const uint8_t *own = lend_part(part, bytes, NULL, length);
+    if (by == HEAP) {
+        parts[part].kept = room_for(part, length);
+        memcpy(parts[part].kept, own, length);
+    }
     protect(part, PROT_READ);
     return own;
 }
@@ -87,7 +92,11 @@ void take_back(void) {
             memcpy(parts[i].home, parts[i].own, parts[i].length);
         }
         if (by == HEAP) {
+            const uint8_t *kept = parts[i].kept;
+            must(kept == NULL || memcmp(kept, parts[i].own, parts[i].length) == 0, "a part that is only read was written");
+            free(parts[i].kept);
             free(parts[i].own);
+            parts[i].kept = NULL;
         }
         parts[i].own = NULL;
     }

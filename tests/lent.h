@@ -15,12 +15,13 @@ enum how {
 };
 
 /* The parts of a call. A part is lent once at a time. */
-enum part { CARD, ARENA, ROOM, CODES, LIST, DATA, TOLD, PARTS };
+enum part { CARD, ARENA, ROOM, OTHER_ROOM, CODES, LIST, DATA, TOLD, OTHER_TOLD, FLAG, PARTS };
 
 /* Says what catches it from now on. */
 void lend_by(enum how how);
 
-/* A copy of these bytes, for the call to read. With pages that may not be touched, writing to it is caught too. */
+/* A copy of these bytes, for the call to read. That it is written to is caught too: by the pages at once, and where it is
+ * allocated when it is taken back. */
 const void *lend(enum part part, const void *bytes, size_t length);
 
 /* A copy of these bytes, for the call to write. */

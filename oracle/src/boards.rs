@@ -48,7 +48,7 @@ fn card(random: &mut Random, text: &[u8], counts: &mut Counts) -> String {
     let mut list = lines::start(&card, join, ARENA);
     for line in lines {
         if let Some(image) = line::image(line) {
-            list += &taken(&mut card, image);
+            list += &lines::taken(&mut card, ARENA, image);
         } else if let Some(asked) = line::asked(line) {
             list += &match asked {
                 Asked::Request(request) => {
@@ -59,21 +59,6 @@ fn card(random: &mut Random, text: &[u8], counts: &mut Counts) -> String {
         }
     }
     list
-}
-
-/// The line of an image line that the card accepts; nothing for another one.
-fn taken(card: &mut Card, image: Image) -> String {
-    match image {
-        Image::Add(addition) if card.add(ARENA, addition).is_ok() => {
-            lines::addition(addition, 0, card.used())
-        }
-        Image::Block {
-            code,
-            number,
-            block,
-        } if card.set_block(code, number, block).is_ok() => lines::block(code, number, &block),
-        _ => String::new(),
-    }
 }
 
 /// The line of a board, for which at times too little room is lent; now and then it is asked once more, with

@@ -6,9 +6,9 @@
 //! docs/RULES.md, `tree` grows a card by its rules, `request` serves a request on it, `board` works
 //! a lane board out of eight blocks, `replay` answers a whole text, and `inspect` one with questions. `leaves` asks the questions
 //! that need no card, `trees` those about growing one, `requests` those about requests, `boards`
-//! those about boards, `texts` those about whole texts, `inspections` those about texts with questions, `terminals` those about two lists of
-//! requests on one card, `resends` those about a write that is sent twice; `draw` draws what they ask
-//! about. `beside` puts texts to another program and compares. `random`, `hex`, `lines`, `files`,
+//! those about boards, `messages` those about messages, `texts` those about whole texts, `inspections`
+//! those about texts with questions, `terminals` those about two lists of requests on one card,
+//! `resends` those about a write that is sent twice; `draw` draws what they ask about. `beside` puts texts to another program and compares. `random`, `hex`, `lines`, `files`,
 //! `cause`, `counts`, `filter` and `program` are tools.
 
 pub mod beside;
@@ -25,6 +25,7 @@ pub mod inspect;
 pub mod inspections;
 pub mod leaves;
 pub mod lines;
+pub mod messages;
 pub mod program;
 pub mod random;
 pub mod refusal;

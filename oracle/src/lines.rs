@@ -3,6 +3,7 @@
 use crate::felica_standard::emulator::doors::Block;
 use crate::hex::hex;
 use crate::refusal::Refusal;
+use crate::replay::line::Image;
 use crate::tree::{Addition, Card};
 
 /// The line that starts a card that joins or does not, lent an arena of this many bytes.
@@ -45,4 +46,17 @@ pub fn addition(addition: Addition, refusal: Refusal, used: u32) -> String {
 /// The line that sets a block.
 pub fn block(code: u16, number: u32, block: &Block) -> String {
     format!("b {code:04X} {number:04X} {}\n", hex(block))
+}
+
+/// The line of an image line that the card accepts with an arena of this many bytes; nothing for another one.
+pub fn taken(card: &mut Card, arena: usize, image: Image) -> String {
+    match image {
+        Image::Add(new) if card.add(arena, new).is_ok() => addition(new, 0, card.used()),
+        Image::Block {
+            code,
+            number,
+            block: content,
+        } if card.set_block(code, number, content).is_ok() => block(code, number, &content),
+        _ => String::new(),
+    }
 }

@@ -71,8 +71,26 @@ pub fn numbers(usage: &str, words: &[String]) -> io::Result<([u64; 2], String)> 
     }
 }
 
+/// Fails if there is something that a list did not meet.
+pub fn all_met(unmet: &[String]) -> io::Result<()> {
+    if unmet.is_empty() {
+        return Ok(());
+    }
+    Err(io::Error::other(format!("not met: {}", unmet.join(", "))))
+}
+
 /// Draws the list that the words ask for, and prints it, writes it or prints its counts.
 pub fn run(name: &str, small: (usize, u64), draw: impl Fn(usize, u64) -> List) -> io::Result<()> {
+    run_met(name, small, draw, |_| Vec::new())
+}
+
+/// The same of a list that has things to meet: with its counts it fails if one is unmet.
+pub fn run_met(
+    name: &str,
+    small: (usize, u64),
+    draw: impl Fn(usize, u64) -> List,
+    unmet: impl Fn(&Counts) -> Vec<String>,
+) -> io::Result<()> {
     let given: Vec<String> = std::env::args().skip(1).collect();
     let words = words(name, small, &given)?;
     let (texts, counts) = draw(words.length, words.seed);
@@ -87,7 +105,11 @@ pub fn run(name: &str, small: (usize, u64), draw: impl Fn(usize, u64) -> List) -
             let count = files::write(&texts, &folder)?;
             writeln!(out, "{count} files")?;
         }
-        Wanted::Counts => write!(out, "{counts}")?,
+        Wanted::Counts => {
+            write!(out, "{counts}")?;
+            out.flush()?;
+            all_met(&unmet(&counts))?;
+        }
     }
     out.flush()
 }

@@ -13,6 +13,7 @@ pub const STAGING_SHORT: Refusal = 4;
 pub const OUTPUT_SHORT: Refusal = 5;
 pub const REQUEST_LINE: Refusal = 6;
 pub const ARENA_SHORT: Refusal = 7;
+pub const NOT_BUILT: Refusal = 8;
 pub const TABLE_FULL: Refusal = 20;
 pub const NO_PARENT: Refusal = 21;
 pub const NO_BLOCKS_LEFT: Refusal = 22;

@@ -37,10 +37,7 @@ fn main() -> io::Result<()> {
         Wanted::Counts => {
             write!(out, "{counts}")?;
             out.flush()?;
-            let unmet = (filter.unmet)(&counts);
-            if !unmet.is_empty() {
-                return Err(io::Error::other(format!("not met: {}", unmet.join(", "))));
-            }
+            program::all_met(&(filter.unmet)(&counts))?;
         }
     }
     out.flush()

@@ -5,9 +5,9 @@
 pub mod line;
 pub mod lists;
 pub mod message;
-mod question;
+pub mod question;
 
-use crate::refusal::IMAGE_LINE;
+use crate::refusal::{IMAGE_LINE, Refusal};
 use crate::replay::{self, ARENA};
 use crate::tree::Card;
 use line::{Kind, Question};
@@ -66,6 +66,15 @@ pub fn watched(text: &[u8], mut watch: impl FnMut(Seen)) -> String {
     out
 }
 
+/// The line that is printed for a question, without its LF: its name, and the fields of its answer.
+pub fn printed(asked: &Question, answer: &Result<String, Refusal>) -> String {
+    let name = asked.name();
+    match answer {
+        Ok(fields) => format!("{name}\t{fields}"),
+        Err(refusal) => format!("{name}\t!\t{refusal}"),
+    }
+}
+
 /// The card and what is lent as the lines so far left them, how many of these were requests, and whether an
 /// image line was refused.
 struct Session {
@@ -103,11 +112,8 @@ impl Session {
             Question::Room(room) => self.lent.room = room,
             Question::Arena(arena) => self.lent.arena = arena,
             _ => {
-                let name = asked.name();
-                return match question::answer(&mut self.card, self.lent, asked) {
-                    Ok(fields) => format!("{name}\t{fields}\n"),
-                    Err(refusal) => format!("{name}\t!\t{refusal}\n"),
-                };
+                let answer = question::answer(&mut self.card, self.lent, asked);
+                return printed(asked, &answer) + "\n";
             }
         }
         String::new()

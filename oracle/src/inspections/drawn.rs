@@ -2,10 +2,10 @@
 //! in any order.
 
 use crate::draw::additions::{self, Habit, Stores};
-use crate::draw::{cards, codes, requests};
+use crate::draw::{cards, codes, messages, requests};
 use crate::felica_standard::BLOCK_SIZE;
 use crate::hex::{hex, hex_codes};
-use crate::inspect::lists::{MOST_NODES, PACKET, block_information, code_list};
+use crate::inspect::lists::{MOST_NODES, PACKET, code_list};
 use crate::inspect::{ROOM, message};
 use crate::random::Random;
 use crate::refusal::COUNTS_DIFFER;
@@ -225,13 +225,13 @@ impl<'a> Draft<'a> {
         let (fields, needed) = match self.random.below(3) {
             0 => ("dir".to_string(), 4 * self.card.nodes().len()),
             1 => {
-                let (area, packet) = self.packet();
+                let (area, packet) = messages::packet(self.random, &self.card);
                 let list = code_list(&self.card, area, packet);
                 let needed = list.map_or(3, |list| message::of_list(&list).len());
                 (format!("list {area:04X} {packet}"), needed)
             }
             _ => {
-                let nodes = self.nodes();
+                let nodes = messages::nodes(self.random, &self.card);
                 (format!("info {}", hex_codes(&nodes)), 1 + 4 * nodes.len())
             }
         };
@@ -246,31 +246,6 @@ impl<'a> Draft<'a> {
         if self.random.once_in(2) {
             self.say(format!("room {ROOM}"));
         }
-    }
-
-    /// A parent and a packet, mostly such as there are.
-    fn packet(&mut self) -> (u16, u32) {
-        let area = match self.random.below(8) {
-            0 => codes::any(self.random, &self.card),
-            _ => self.random.pick(&codes::areas(&self.card)),
-        };
-        let packet = match self.random.below(12) {
-            0 => self
-                .random
-                .pick(&[4, 5, 15, 16, 17, 256, 4_096, 65_536, 1 << 28, u32::MAX]),
-            1 => self.random.word(),
-            2..5 => 1 + self.random.below(3) as u32,
-            _ => 0,
-        };
-        (area, packet)
-    }
-
-    /// Nodes to be asked about, at times as many as may be, one more or none.
-    fn nodes(&mut self) -> Vec<u16> {
-        let count = self.random.pick(&[0, 1, 1, 2, 3, 5, 8, 31, 32, 33, 40]);
-        (0..count)
-            .map(|_| codes::any(self.random, &self.card))
-            .collect()
     }
 
     /// A line of any kind.
@@ -314,12 +289,18 @@ impl<'a> Draft<'a> {
         let code = codes::any(self.random, &self.card);
         match self.random.below(16) {
             0 | 1 => {
-                let (area, packet) = self.packet();
+                let (area, packet) = messages::packet(self.random, &self.card);
                 format!("list {area:04X} {packet}")
             }
-            2 | 3 => format!("info {}", hex_codes(&self.nodes())),
-            4 | 5 => format!("readlist {}", hex(&self.list_bytes())),
-            6 | 7 => format!("readinfo {}", hex(&self.information_bytes())),
+            2 | 3 => format!(
+                "info {}",
+                hex_codes(&messages::nodes(self.random, &self.card))
+            ),
+            4 | 5 => format!("readlist {}", hex(&messages::list(self.random, &self.card))),
+            6 | 7 => format!(
+                "readinfo {}",
+                hex(&messages::information(self.random, &self.card))
+            ),
             8 => format!("total {code:04X}"),
             9 => format!("ver {code:04X}"),
             10 => "dir".to_string(),
@@ -339,54 +320,6 @@ impl<'a> Draft<'a> {
             14 => "used".to_string(),
             _ => format!("attr {:04X}", self.random.word() as u16 & 0xFFDF),
         }
-    }
-
-    /// The bytes of a code list of the card, or of any entries, changed every second time.
-    fn list_bytes(&mut self) -> Vec<u8> {
-        let (area, packet) = self.packet();
-        let bytes = match code_list(&self.card, area, packet) {
-            Ok(list) if !self.random.once_in(3) => message::of_list(&list),
-            _ => {
-                let areas = self.random.below(PACKET + 2);
-                let services = self.random.below(PACKET + 2 - areas.min(PACKET));
-                let mut bytes = vec![self.random.below(2) as u8, areas as u8];
-                bytes.extend((0..4 * areas).map(|_| self.random.word() as u8));
-                bytes.push(services as u8);
-                bytes.extend((0..2 * services).map(|_| self.random.word() as u8));
-                bytes
-            }
-        };
-        self.changed(bytes)
-    }
-
-    /// The bytes of block information of the card, or of any counts, changed every second time.
-    fn information_bytes(&mut self) -> Vec<u8> {
-        let nodes = self.nodes();
-        let bytes = match block_information(&self.card, ARENA, &nodes) {
-            Ok(information) => message::of_information(&information),
-            Err(_) => {
-                let mut bytes = vec![nodes.len() as u8];
-                bytes.extend((0..4 * nodes.len()).map(|_| self.random.word() as u8));
-                bytes
-            }
-        };
-        self.changed(bytes)
-    }
-
-    /// A message with a byte too few or too many, or another byte in it, every second time.
-    fn changed(&mut self, mut bytes: Vec<u8>) -> Vec<u8> {
-        let at = self.random.below(bytes.len());
-        match self.random.below(10) {
-            0 => {
-                bytes.pop();
-            }
-            1 => bytes.push(self.random.word() as u8),
-            2 => bytes[0] = self.random.pick(&[0, 1, 2, 3, 0x80, 0xFF]),
-            3 => bytes[at] = bytes[at].wrapping_add(self.random.pick(&[1, 0xFF])),
-            4 => bytes[at] ^= 1 << self.random.below(8),
-            _ => {}
-        }
-        bytes
     }
 
     /// A question with something wrong about it, mostly.

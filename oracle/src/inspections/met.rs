@@ -171,8 +171,8 @@ impl Met {
         self.names.push(name);
     }
 
-    /// Notes the question by its answer, and what else it met.
-    fn question(&mut self, card: &Card, lent: Lent, asked: &Question, told: &[&str]) {
+    /// Notes the question by the fields that are printed for it, and what else it met.
+    pub fn question(&mut self, card: &Card, lent: Lent, asked: &Question, told: &[&str]) {
         let name = asked.name();
         let refused = match told {
             [_, "!", refusal] => {

@@ -2,7 +2,7 @@
 //! they met.
 
 pub mod cases;
-mod drawn;
+pub mod drawn;
 pub mod malformed;
 pub mod met;
 
