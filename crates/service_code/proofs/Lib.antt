@@ -1,2 +1,3 @@
+pub mod AsBefore
 -- What only the proofs here cite.
 mod Attributes

@@ -20,21 +20,40 @@ numberOf code = code / 64
 unfoldable pub attributesOf : ℕ → ℕ
 attributesOf code = code % 64
 
--- table 3-2, by the attribute without its lowest bit; others are undefined
-unfoldable pub tableOf : ℕ → Decoded
-tableOf a =
-    cond (eqb a 0x08) (Defined RandomReadWrite)
-    (cond (eqb a 0x0a) (Defined RandomReadOnly)
-    (cond (eqb a 0x0c) (Defined CyclicReadWrite)
-    (cond (eqb a 0x0e) (Defined CyclicReadOnly)
-    (cond (eqb a 0x10) (Defined PurseDirect)
-    (cond (eqb a 0x12) (Defined PurseCashback)
-    (cond (eqb a 0x14) (Defined PurseDecrement)
-    (cond (eqb a 0x16) (Defined PurseReadOnly) Undefined)))))))
+-- Table 3-2 of the manual (section 3.4.1) has an attribute's six bits as kkk u l a: three kind bits, two rights bits, and the bit that says whether a key is needed.
+abbrev pub kindBits : ℕ → ℕ
+kindBits attribute = attribute % 64 / 8
 
--- six bits, of which the lowest is left aside
+abbrev pub upperBit : ℕ → Bool
+upperBit attribute = eqb (attribute / 4 % 2) 1
+
+abbrev pub lowerBit : ℕ → Bool
+lowerBit attribute = eqb (attribute / 2 % 2) 1
+
+-- kind 001: u parts random from cyclic services, l read/write from read-only ones
+abbrev pub plainOf : Bool → Bool → ServiceAttribute
+plainOf false false = RandomReadWrite
+plainOf false true = RandomReadOnly
+plainOf true false = CyclicReadWrite
+plainOf true true = CyclicReadOnly
+
+-- kind 010: a purse, with its right in both bits
+abbrev pub purseOf : Bool → Bool → ServiceAttribute
+purseOf false false = PurseDirect
+purseOf false true = PurseCashback
+purseOf true false = PurseDecrement
+purseOf true true = PurseReadOnly
+
+-- every other kind is undefined
+unfoldable pub tableOf : ℕ → Bool → Bool → Decoded
+tableOf kind upper lower =
+    cond (eqb kind 1) (Defined (plainOf upper lower))
+    (cond (eqb kind 2) (Defined (purseOf upper lower))
+    Undefined)
+
+-- the key bit says nothing of what a service is for
 unfoldable pub decodedOf : ℕ → Decoded
-decodedOf attribute = tableOf (attribute % 64 / 2 * 2)
+decodedOf attribute = tableOf (kindBits attribute) (upperBit attribute) (lowerBit attribute)
 
 unfoldable pub attributeOf : ℕ → Decoded
 attributeOf code = decodedOf (attributesOf code)

@@ -1,7 +1,7 @@
 // Service codes (`types.rs` of the Rust): a number, which services share where they share a store, and an attribute, which says what
 // a service is for and whether it needs a key.
 ghost use mathlib.Core.Path.{_≡_};
-ghost use Rattle.service_code.specs.Code.{numberOf, attributesOf, decodedOf, attributeOf, kindOf, codeKindOf, requiresKey, allowsWrite, allowsCashback};
+ghost use Rattle.service_code.specs.Code.{numberOf, attributesOf, plainOf, purseOf, decodedOf, attributeOf, kindOf, codeKindOf, requiresKey, allowsWrite, allowsCashback};
 
 // The kinds of service, each with its own rule for a write.
 pub enum ServiceKind {
@@ -35,21 +35,52 @@ pub enum DecodedKind {
 }
 
 impl ServiceAttribute {
-    // Gives what the low six bits of `attribute` stand for. Their lowest says whether a key is needed, and is left aside.
+    // Gives the service of kind 001 with these rights bits: a ring or not, by the upper one; read-only or not, by the lower.
+    fn plain(upper: bool, lower: bool) -> ServiceAttribute
+        ensures { λ r. ⌜ r ≡ plainOf upper lower ⌝ }
+    {
+        match upper {
+            false => match lower {
+                false => ServiceAttribute::RandomReadWrite,
+                true => ServiceAttribute::RandomReadOnly,
+            },
+            true => match lower {
+                false => ServiceAttribute::CyclicReadWrite,
+                true => ServiceAttribute::CyclicReadOnly,
+            },
+        }
+    }
+
+    // Gives the purse, kind 010, with these rights bits.
+    fn purse(upper: bool, lower: bool) -> ServiceAttribute
+        ensures { λ r. ⌜ r ≡ purseOf upper lower ⌝ }
+    {
+        match upper {
+            false => match lower {
+                false => ServiceAttribute::PurseDirect,
+                true => ServiceAttribute::PurseCashback,
+            },
+            true => match lower {
+                false => ServiceAttribute::PurseDecrement,
+                true => ServiceAttribute::PurseReadOnly,
+            },
+        }
+    }
+
+    // Gives what the low six bits of `attribute` stand for: three kind bits, two rights bits, and the key bit, which is left aside.
     pub fn from_attribute_bits(attribute: u8) -> Decoded
         ensures { λ r. ⌜ r ≡ decodedOf attribute ⌝ }
     {
-        match attribute % 64 / 2 * 2 {
-            0x08 => Decoded::Defined(ServiceAttribute::RandomReadWrite),
-            0x0a => Decoded::Defined(ServiceAttribute::RandomReadOnly),
-            0x0c => Decoded::Defined(ServiceAttribute::CyclicReadWrite),
-            0x0e => Decoded::Defined(ServiceAttribute::CyclicReadOnly),
-            0x10 => Decoded::Defined(ServiceAttribute::PurseDirect),
-            0x12 => Decoded::Defined(ServiceAttribute::PurseCashback),
-            0x14 => Decoded::Defined(ServiceAttribute::PurseDecrement),
-            0x16 => Decoded::Defined(ServiceAttribute::PurseReadOnly),
-            _ => Decoded::Undefined,
+        let kind = attribute % 64 / 8;
+        let upper = attribute / 4 % 2 == 1;
+        let lower = attribute / 2 % 2 == 1;
+        if kind == 0b001 {
+            return Decoded::Defined(ServiceAttribute::plain(upper, lower));
         }
+        if kind == 0b010 {
+            return Decoded::Defined(ServiceAttribute::purse(upper, lower));
+        }
+        Decoded::Undefined
     }
 
     // Gives the kind of service that an attribute belongs to.
