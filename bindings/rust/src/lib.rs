@@ -5,7 +5,13 @@
 //! each call means; the names here are the same.
 #![deny(missing_docs)]
 
+mod answer;
 mod ffi;
+mod messages;
+
+use answer::{done, replied};
+pub use answer::{Cause, Failure, Refusal};
+pub use messages::{BlockInformation, CodeList};
 
 /// Bytes of a card.
 pub const CARD_SIZE: usize = 1290;
@@ -25,46 +31,6 @@ pub const ASKED_MOST: usize = 32;
 pub const INFORMATION_MOST: usize = 129;
 /// The code that names the system.
 pub const SYSTEM: u16 = 0xffff;
-
-/// Why a call was refused: the card's number for it. Nothing was changed.
-#[derive(Clone, Copy, Debug, PartialEq, Eq)]
-pub struct Refusal(pub u32);
-
-/// Why a request was not carried out: a refusal, which has no status pair, or a pair. The arena and the output are as they
-/// were.
-#[derive(Clone, Copy, Debug, PartialEq, Eq)]
-pub enum Failure {
-    /// It was refused.
-    Refused(Refusal),
-    /// It got a status pair other than 00 00.
-    Pair {
-        /// Status flag 1: the place of the element that failed, or FF.
-        sf1: u8,
-        /// Status flag 2: what failed.
-        sf2: u8,
-        /// Which A5 it was; none where status flag 2 is another.
-        cause: Option<Cause>,
-    },
-}
-
-/// Which A5 a request was told: the first that holds.
-#[derive(Clone, Copy, Debug, PartialEq, Eq)]
-pub enum Cause {
-    /// An open request on a service that needs a key.
-    KeyNeeded = 1,
-    /// A write to a read-only service.
-    ReadOnly = 2,
-    /// Access mode 1 on a service without cashback.
-    NoCashback = 3,
-    /// A cyclic write that does not name block 0.
-    CyclicBlock = 4,
-    /// A direct write that would raise the purse.
-    PurseRaised = 5,
-    /// A direct write that would raise the cashback.
-    CashbackRaised = 6,
-    /// A direct write whose cashback and the stored purse are too much together.
-    SumTooLarge = 7,
-}
 
 /// A read or a write, but for its data.
 #[derive(Clone, Copy, Debug)]
@@ -88,116 +54,9 @@ pub struct Lane {
     pub crew: String,
 }
 
-/// A packet of an area's children, in tree order.
-#[derive(Clone, Debug, Default, PartialEq, Eq)]
-pub struct CodeList {
-    /// Whether more packets follow.
-    pub more: bool,
-    /// The areas, code and end of each.
-    pub areas: Vec<(u16, u16)>,
-    /// The codes of the services.
-    pub services: Vec<u16>,
-}
-
-/// The blocks of the nodes that were asked, in their order.
-#[derive(Clone, Debug, Default, PartialEq, Eq)]
-pub struct BlockInformation {
-    /// The blocks assigned to each.
-    pub assigned: Vec<u16>,
-    /// The blocks free for each.
-    pub free: Vec<u16>,
-}
-
-impl CodeList {
-    /// Reads the bytes of a code list. Refusal 47 for any others.
-    pub fn from_bytes(message: &[u8]) -> Result<Self, Refusal> {
-        let (mut areas, mut services) = ([0; 2 * PACKET_MOST], [0; PACKET_MOST]);
-        let (mut area_count, mut service_count, mut more) = (0, 0, false);
-        // SAFETY: the pointers are valid for their lengths; all but the message are lent for writing, and apart.
-        done(unsafe {
-            ffi::uluvoli_read_code_list(
-                message.as_ptr(),
-                message.len(),
-                areas.as_mut_ptr(),
-                areas.len(),
-                services.as_mut_ptr(),
-                services.len(),
-                &mut area_count,
-                &mut service_count,
-                &mut more,
-            )
-        })?;
-        let pairs = areas.chunks_exact(2).map(|pair| (pair[0], pair[1]));
-        Ok(CodeList {
-            more,
-            areas: pairs.take(area_count).collect(),
-            services: services[..service_count].to_vec(),
-        })
-    }
-}
-
-impl BlockInformation {
-    /// Reads the bytes of block information. Refusal 47 for any others.
-    pub fn from_bytes(message: &[u8]) -> Result<Self, Refusal> {
-        let (mut assigned, mut free) = ([0; ASKED_MOST], [0; ASKED_MOST]);
-        let mut nodes = 0;
-        // SAFETY: the pointers are valid for their lengths; all but the message are lent for writing, and apart.
-        done(unsafe {
-            ffi::uluvoli_read_block_information(
-                message.as_ptr(),
-                message.len(),
-                assigned.as_mut_ptr(),
-                assigned.len(),
-                free.as_mut_ptr(),
-                free.len(),
-                &mut nodes,
-            )
-        })?;
-        Ok(BlockInformation {
-            assigned: assigned[..nodes].to_vec(),
-            free: free[..nodes].to_vec(),
-        })
-    }
-}
-
 /// A card, as its bytes.
 #[derive(Clone, Debug, PartialEq, Eq)]
 pub struct Card([u8; CARD_SIZE]);
-
-/// An answer of a call that is done or refused.
-fn done(answer: u32) -> Result<(), Refusal> {
-    match answer >> 16 & 0xff {
-        0 => Ok(()),
-        number => Err(Refusal(number)),
-    }
-}
-
-/// The cause of this number.
-fn cause_of(number: u8) -> Option<Cause> {
-    match number {
-        1 => Some(Cause::KeyNeeded),
-        2 => Some(Cause::ReadOnly),
-        3 => Some(Cause::NoCashback),
-        4 => Some(Cause::CyclicBlock),
-        5 => Some(Cause::PurseRaised),
-        6 => Some(Cause::CashbackRaised),
-        7 => Some(Cause::SumTooLarge),
-        _ => None,
-    }
-}
-
-/// An answer to a request.
-fn replied(answer: u32) -> Result<(), Failure> {
-    done(answer).map_err(Failure::Refused)?;
-    match answer.to_be_bytes() {
-        [_, _, 0, 0] => Ok(()),
-        [cause, _, sf1, sf2] => Err(Failure::Pair {
-            sf1,
-            sf2,
-            cause: cause_of(cause),
-        }),
-    }
-}
 
 /// A lane from its record: filled, length, race low byte first, crew and zeros.
 fn lane(record: &[u8]) -> Option<Lane> {

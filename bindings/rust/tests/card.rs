@@ -1,8 +1,8 @@
 //! A marshal and a tower through the safe calls.
 
 use uluvoli::{
-    BlockInformation, Card, Cause, CodeList, Failure, Lane, Refusal, Request, BLOCK_SIZE, CARD_SIZE,
-    CODE_LIST_MOST, INFORMATION_MOST, LANES, SYSTEM,
+    BlockInformation, Card, Cause, CodeList, Failure, Lane, Refusal, Request, BLOCK_SIZE,
+    CARD_SIZE, CODE_LIST_MOST, INFORMATION_MOST, LANES, SYSTEM,
 };
 
 const MARSHAL: u16 = 0x1049;
@@ -316,10 +316,20 @@ fn bytes_that_are_no_message_are_refused() {
     let mut most = [0u8; CODE_LIST_MOST];
     most[1] = 16;
     assert!(CodeList::from_bytes(&most).is_ok());
-    for bytes in [&[][..], &[0, 0], &[2, 0, 0], &[0, 0, 0, 0], &[0, 0, 1], &[0, 17, 0]] {
+    for bytes in [
+        &[][..],
+        &[0, 0],
+        &[2, 0, 0],
+        &[0, 0, 0, 0],
+        &[0, 0, 1],
+        &[0, 17, 0],
+    ] {
         assert_eq!(CodeList::from_bytes(bytes), Err(Refusal(47)));
     }
-    assert_eq!(BlockInformation::from_bytes(&[0]), Ok(BlockInformation::default()));
+    assert_eq!(
+        BlockInformation::from_bytes(&[0]),
+        Ok(BlockInformation::default())
+    );
     assert!(BlockInformation::from_bytes(&[[32].as_slice(), &[0; 128]].concat()).is_ok());
     for bytes in [&[][..], &[1, 0, 0, 0], &[0, 0], &[33; 133]] {
         assert_eq!(BlockInformation::from_bytes(bytes), Err(Refusal(47)));
