@@ -1,6 +1,7 @@
 //! A process that has to end in time.
 
 use std::io::{self, Read, Write};
+use std::os::unix::process::CommandExt;
 use std::process::{Child, Command, Stdio};
 use std::thread;
 use std::time::{Duration, Instant};
@@ -26,6 +27,7 @@ pub fn run(
     let mut child = command
         .stdin(Stdio::piped())
         .stdout(Stdio::piped())
+        .process_group(0)
         .spawn()?;
     let mut input = child.stdin.take().expect("standard input is piped");
     let output = child.stdout.take().expect("standard output is piped");
@@ -56,11 +58,17 @@ fn wait(child: &mut Child, limit: Duration) -> io::Result<Option<String>> {
             Some(status) if status.success() => return Ok(None),
             Some(status) => return Ok(Some(format!("it ended with {status}"))),
             None if began.elapsed() > limit => {
-                child.kill()?;
+                end(&child)?;
                 child.wait()?;
                 return Ok(Some(format!("it did not end within {limit:?}")));
             }
             None => thread::sleep(PAUSE),
         }
     }
+}
+
+/// Ends a process and all that it has started, which are the group of its number.
+fn end(child: &Child) -> io::Result<()> {
+    let kill = format!("kill -KILL -- -{}", child.id());
+    Command::new("sh").args(["-c", &kill]).status().map(|_| ())
 }
