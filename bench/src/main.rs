@@ -1,6 +1,6 @@
 //! The same requests through the Rust emulator and through libhandset.a: `bench/run` prints the table.
 //!
-//! `rows` prints how many rows there are, `count ROW SIDE N` serves the requests of one row N times on one side (0 the
+//! `rows` prints the names of the rows, `count ROW SIDE N` serves the requests of one row N times on one side (0 the
 //! Rust, 1 the library) and does nothing else that grows with N, `table [COUNTS]` measures and prints the table. COUNTS
 //! has the instructions of a request, a line for each row: the Rust's, the library's, `-` for unknown.
 
@@ -33,7 +33,7 @@ fn main() -> ExitCode {
     let number = |word: &str| word.parse::<usize>().expect("a number");
     let rows = rows::all();
     match words[..] {
-        ["rows"] => println!("{}", rows.len()),
+        ["rows"] => rows.iter().for_each(|row| println!("{}", row.name)),
         ["count", row, side, times] => count(&rows[number(row)], number(side), number(times)),
         ["table"] => table::print(&rows, ""),
         ["table", counts] => {

@@ -26,12 +26,12 @@ const LANES: u16 = 0x10C9;
 /// How many blocks each service has, where nothing else is said.
 const BLOCKS: u32 = 8;
 
-/// An area that holds all the services, then the services with their counts of blocks.
-fn card(services: impl Iterator<Item = (u16, u32)>) -> Vec<Addition> {
+/// An area of these codes, then its services with their counts of blocks.
+fn area(code: u16, end: u16, services: impl Iterator<Item = (u16, u32)>) -> Vec<Addition> {
     let area = Addition::Area {
         depth: 1,
-        code: 0x1000,
-        end: 0x2FFF,
+        code,
+        end,
         version: 0,
     };
     let service = |(code, blocks)| Addition::Service {
@@ -41,6 +41,11 @@ fn card(services: impl Iterator<Item = (u16, u32)>) -> Vec<Addition> {
         version: 0,
     };
     std::iter::once(area).chain(services.map(service)).collect()
+}
+
+/// A card with one area, which holds all the services.
+fn card(services: impl Iterator<Item = (u16, u32)>) -> Vec<Addition> {
+    area(0x1000, 0x2FFF, services)
 }
 
 /// A card of six nodes, the last of which has this many blocks.
@@ -57,6 +62,23 @@ fn of_many(at: usize) -> u16 {
 /// A card with so many services, beside its root and an area.
 fn many(services: usize) -> Vec<Addition> {
     card((0..services).map(|at| (of_many(at), BLOCKS)))
+}
+
+/// A full card whose services stand in falling order of their numbers.
+fn falling() -> Vec<Addition> {
+    card((0..62).rev().map(|at| (of_many(at), BLOCKS)))
+}
+
+/// The code of a service of a card of pairs: seven numbers to an area, each with a service that writes and one that only reads.
+fn of_pairs(area: u16, at: u16) -> u16 {
+    0x1009 + 0x400 * area + 64 * (at / 2) + 2 * (at % 2)
+}
+
+/// A card of 61 nodes: four areas with seven pairs of services each, a pair on one store.
+fn pairs() -> Vec<Addition> {
+    let services = |of| (0..14).map(move |at| (of_pairs(of, at), BLOCKS));
+    let one = |of| area(0x1000 + 0x400 * of, 0x13FF + 0x400 * of, services(of));
+    (0..4).flat_map(one).collect()
 }
 
 /// An element as a list has it: a number over 255 takes three bytes.
@@ -104,11 +126,14 @@ fn both(name: &str, card: Vec<Addition>, codes: &[u16], elements: &[(u8, u16)]) 
     })
 }
 
-/// One element, on a small card and on a full one.
+/// One element of a card's last service that writes: on a small card, on full ones, and on one of several areas.
 fn single() -> impl Iterator<Item = Row> {
-    let small = both("1, 6 nodes", small(BLOCKS), &[LANES], &[(0, 3)]);
-    let full = both("1, 64 nodes", many(62), &[of_many(61)], &[(0, 3)]);
-    small.into_iter().chain(full)
+    let one = |name, card, code| both(name, card, &[code], &[(0, 3)]);
+    let small = one("1, 6 nodes", small(BLOCKS), LANES);
+    let full = one("1, 64 nodes", many(62), of_many(61));
+    let falling = one("1, 64 nodes, numbers fall", falling(), of_many(0));
+    let pairs = one("1, 61 nodes, pairs in four areas", pairs(), of_pairs(3, 12));
+    [small, full, falling, pairs].into_iter().flatten()
 }
 
 /// Twelve elements over the last eight services of a card.

@@ -1,6 +1,7 @@
 //! The two that are asked: the emulator and the library. Each has a card of its own, built by the same additions.
 
 use crate::rows::Row;
+use std::collections::BTreeSet;
 use std::hint::black_box;
 use uluvoli::{Card, Failure, Request};
 use uluvoli_oracle::felica_standard::emulator::doors::{self, Block, Pair};
@@ -113,6 +114,7 @@ impl<'a> Library<'a> {
         let mut card = Card::joining(0x0001, 0x0000);
         let mut arena = vec![0; ARENA];
         let mut used = 0;
+        let mut numbers = BTreeSet::new();
         for &addition in &row.card {
             let added = match addition {
                 Addition::Area {
@@ -127,7 +129,9 @@ impl<'a> Library<'a> {
                     blocks,
                     version,
                 } => {
-                    used += BLOCK_SIZE * blocks as usize;
+                    if numbers.insert(code / 64) {
+                        used += BLOCK_SIZE * blocks as usize;
+                    }
                     card.add_service(&mut arena, depth, code, blocks, version)
                 }
                 Addition::Limit(limit) => card.set_limit(
