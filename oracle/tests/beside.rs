@@ -93,7 +93,7 @@ fn other_ends() {
         ("after", "cat; echo", 3),
         ("less", "head -n 3", 1),
         ("fails", "cat; exit 1", 3),
-        ("hangs", "head -n 3; exec sleep 30 >&-", 1),
+        ("hangs", "head -n 3; sleep 600", 1),
     ] {
         let run = filtered(name, filter);
         let beside = Beside::new(&REPLAY, &run, Duration::from_secs(2)).unwrap();

@@ -69,6 +69,6 @@ fn wait(child: &mut Child, limit: Duration) -> io::Result<Option<String>> {
 
 /// Ends a process and all that it has started, which are the group of its number.
 fn end(child: &Child) -> io::Result<()> {
-    let kill = format!("kill -KILL -- -{}", child.id());
+    let kill = format!("kill -KILL -{}", child.id());
     Command::new("sh").args(["-c", &kill]).status().map(|_| ())
 }
