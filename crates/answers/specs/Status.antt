@@ -1,5 +1,7 @@
 -- Status bytes. Manual, section 4.5.1: status flag 1, the encoding by order; section 4.5.2: status flag 2.
 use Prim.Native.Nat.{ℕ, _+_, min}
+use mathlib.Core.Bool.{cond}
+use lib.Dec.{ltb}
 use Rattle.answers.specs.declared.status.Fault.{Fault}
 use Rattle.answers.specs.declared.status.Fault.the-variants.{ListIndex, AccessMode, Attribute, NoService, KeyNeeded, ReadOnly, NoCashback, BlockNumber, CyclicBlock, PurseRaised, CashbackRaised, SumTooLarge, OutsideLimits, OutsideWord, CashbackExceeds, CyclicTooLong}
 
@@ -44,3 +46,7 @@ causeOf OutsideLimits = 0
 causeOf OutsideWord = 0
 causeOf CashbackExceeds = 0
 causeOf CyclicTooLong = 0
+
+-- those of the rules, from 4 on; 0 for every other fault
+abbrev pub ruleCauseOf : Fault → ℕ
+ruleCauseOf f = cond (ltb (causeOf f) 4) 0 (causeOf f)

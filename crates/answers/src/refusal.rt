@@ -1,6 +1,6 @@
 // Refusals: why a call is not carried out at all, each with its number. A refused call has changed nothing.
 ghost use mathlib.Core.Path.{_≡_};
-ghost use Rattle.answers.specs.Refusal.{refusalNumber};
+ghost use Rattle.answers.specs.Refusal.{refusalNumber, numberFrom11};
 
 // Why a call is refused. 11 to 19 have the names that the Rust has for them; the others are for what the Rust never meets.
 pub enum Refusal {
@@ -66,7 +66,7 @@ pub enum Told {
 }
 
 impl Refusal {
-    // Gives the number of a refusal. Numbers that are left out are no refusal's.
+    // Gives the number of a refusal. Numbers that are left out are no refusal's, but 40 to 43, which are a board's.
     pub fn number(self) -> u8
         ensures { λ r. ⌜ r ≡ refusalNumber self ⌝ }
     {
@@ -79,6 +79,15 @@ impl Refusal {
             Refusal::MalformedRequest => 6,
             Refusal::ShortArena => 7,
             Refusal::NotBuilt => 8,
+            _ => self.number_from_11(),
+        }
+    }
+
+    // Gives the number of a refusal from 11 on, and 0 for one below: a card or an image that is not made, a question that is not answered.
+    fn number_from_11(self) -> u8
+        ensures { λ r. ⌜ r ≡ numberFrom11 self ⌝ }
+    {
+        match self {
             Refusal::InvalidAreaRange => 11,
             Refusal::InvalidRootAreaRange => 12,
             Refusal::NodeCodeOutOfRange => 13,
@@ -99,6 +108,7 @@ impl Refusal {
             Refusal::PacketPastEnd => 45,
             Refusal::TooManyNodes => 46,
             Refusal::NotAMessage => 47,
+            _ => 0,
         }
     }
 }

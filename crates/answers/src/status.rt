@@ -1,6 +1,7 @@
 // Status bytes: where in a list an error is (status flag 1), and what it is (status flag 2).
 ghost use mathlib.Core.Path.{_≡_};
-ghost use Rattle.answers.specs.Status.{sf1Of, sf2Of, causeOf};
+ghost use Prim.Native.Nat.{min};
+ghost use Rattle.answers.specs.Status.{sf1Of, sf2Of, causeOf, ruleCauseOf};
 
 // Why an element or a rule fails. Several share a status byte; they stand apart so that a contract says which one it was.
 pub enum Fault {
@@ -68,14 +69,18 @@ impl Fault {
         ensures { λ r. ⌜ r ≡ causeOf self ⌝ }
     {
         match self {
-            Fault::ListIndex => 0,
-            Fault::AccessMode => 0,
-            Fault::Attribute => 0,
-            Fault::NoService => 0,
             Fault::KeyNeeded => 1,
             Fault::ReadOnly => 2,
             Fault::NoCashback => 3,
-            Fault::BlockNumber => 0,
+            _ => self.rule_cause(),
+        }
+    }
+
+    // Gives which of its causes an A5 of a rule has, 4 to 7; 0 for a rule's other faults, and for those of the element check.
+    fn rule_cause(self) -> u8
+        ensures { λ r. ⌜ r ≡ ruleCauseOf self ⌝ }
+    {
+        match self {
             Fault::CyclicBlock => 4,
             Fault::PurseRaised => 5,
             Fault::CashbackRaised => 6,
@@ -84,8 +89,16 @@ impl Fault {
             Fault::OutsideWord => 0,
             Fault::CashbackExceeds => 0,
             Fault::CyclicTooLong => 0,
+            _ => 0,
         }
     }
+}
+
+// Gives an index as a byte, and 254 for any above.
+fn held(index: usize) -> u8
+    ensures { λ r. ⌜ r ≡ min index 254 ⌝ }
+{
+    if index < 254 { index as u8 } else { 254 }
 }
 
 // Gives status flag 1 of an error at `index` of the block list, counted from 0: its place, counted from 1, and 255 for any place that
@@ -93,7 +106,7 @@ impl Fault {
 pub fn list_error_index(index: usize) -> u8
     ensures { λ r. ⌜ r ≡ sf1Of index ⌝ }
 {
-    if index < 254 { index as u8 + 1 } else { 255 }
+    held(index) + 1
 }
 
 // How a rule ended: the bytes lent to it are now those to store, or it failed and they are as they were.
