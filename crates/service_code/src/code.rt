@@ -1,7 +1,7 @@
 // Service codes (`types.rs` of the Rust): a number, which services share where they share a store, and an attribute, which says what
 // a service is for and whether it needs a key.
 ghost use mathlib.Core.Path.{_≡_};
-ghost use Rattle.service_code.specs.Code.{numberOf, attributesOf, plainOf, purseOf, decodedOf, attributeOf, kindOf, codeKindOf, requiresKey, allowsWrite, allowsCashback};
+ghost use Rattle.service_code.specs.Code.{numberOf, attributesOf, plainOf, purseOf, tableOf, decodedOf, attributeOf, kindOf, codeKindOf, requiresKey, allowsWrite, allowsCashback};
 
 // The kinds of service, each with its own rule for a write.
 pub enum ServiceKind {
@@ -67,13 +67,10 @@ impl ServiceAttribute {
         }
     }
 
-    // Gives what the low six bits of `attribute` stand for: three kind bits, two rights bits, and the key bit, which is left aside.
-    pub fn from_attribute_bits(attribute: u8) -> Decoded
-        ensures { λ r. ⌜ r ≡ decodedOf attribute ⌝ }
+    // Gives the service of a kind with these rights bits; every other kind is undefined.
+    fn table(kind: u8, upper: bool, lower: bool) -> Decoded
+        ensures { λ r. ⌜ r ≡ tableOf kind upper lower ⌝ }
     {
-        let kind = attribute % 64 / 8;
-        let upper = attribute / 4 % 2 == 1;
-        let lower = attribute / 2 % 2 == 1;
         if kind == 0b001 {
             return Decoded::Defined(ServiceAttribute::plain(upper, lower));
         }
@@ -81,6 +78,16 @@ impl ServiceAttribute {
             return Decoded::Defined(ServiceAttribute::purse(upper, lower));
         }
         Decoded::Undefined
+    }
+
+    // Gives what the low six bits of `attribute` stand for: three kind bits, two rights bits, and the key bit, which is left aside.
+    pub fn from_attribute_bits(attribute: u8) -> Decoded
+        ensures { λ r. ⌜ r ≡ decodedOf attribute ⌝ }
+    {
+        let kind = attribute % 64 / 8;
+        let upper = attribute / 4 % 2 == 1;
+        let lower = attribute / 2 % 2 == 1;
+        ServiceAttribute::table(kind, upper, lower)
     }
 
     // Gives the kind of service that an attribute belongs to.
