@@ -34,30 +34,31 @@ pads [] n m h l = take-zeros n m l
 pads (x ∷ xs) zero m h l = absurd (omega arith)
 pads (x ∷ xs) (suc n) m h l = ap (λ (t : List ℕ). x ∷ t) (pads xs n m (omega arith) (omega arith))
 
--- two runs, the second stored where the first ends, in a list of zeros
-stored : (n : ℕ) (xs ys : List ℕ) → length xs + length ys ≤ n → sets (sets (replicate n 0) 0 xs) (length xs) ys ≡ padded n (xs ++ ys)
+-- a list stored in front of zeros
+stored : (n : ℕ) (xs : List ℕ) → length xs ≤ n → sets (replicate n 0) 0 xs ≡ padded n xs
 unfolding padded zeros
-stored n xs ys h =
-    let both : length (xs ++ ys) ≤ n = rw length-append h in
-    let e : sets (zeros n) 0 (xs ++ ys) ≡ _ = sets-eq (xs ++ ys) (zeros n) 0 (simp (length-replicate, zero-add) both) in
-    ap (λ (i : ℕ). sets (sets (zeros n) 0 xs) i ys) (sym (zero-add (length xs)))
-    ∙ sym (sets-append (zeros n) 0 xs ys) ∙ e ∙ rw zero-add (sym (pads (xs ++ ys) n n both (omega arith)))
+stored n xs h =
+    let e : sets (zeros n) 0 xs ≡ _ = sets-eq xs (zeros n) 0 (simp (length-replicate, zero-add) h) in
+    e ∙ rw zero-add (sym (pads xs n n h (omega arith)))
 
--- the two runs of places that a byte denotes, one after the other, with zeros behind
-runs : (v : ℕ) → v < 256 → sets (sets (replicate 15 0) 0 (placesFrom 8 1 v)) (ones v) (placesFrom 8 9 (v % 128)) ≡ padded 15 (placesOf v)
+-- the two runs of places that a byte denotes, one written after the other
+pub both-runs
+    : (l : List ℕ) (v : ℕ) (low all : List ℕ) → v < 256 → low ≡ sets l 0 (placesFrom 8 1 v)
+    → all ≡ sets low (ones v) (placesFrom 8 9 (v % 128)) → all ≡ sets l 0 (placesOf v)
 unfolding placesOf
-runs v byte =
+both-runs l v low all byte e a =
     let first = count-from 8 1 v byte in
-    let second = rw (low-bits 7 9 v) at (count-from 8 9 (v % 128) (omega arith)) in
-    let few = ones-le 8 v byte in
-    let fewer = ones-le 7 (v % 128) (omega arith) in
-    rw (← first, low-bits 7 9 v) (stored 15 (placesFrom 8 1 v) (placesFrom 7 9 v) (omega arith))
+    let k : ones v ≡ 0 + length (placesFrom 8 1 v) = omega (arith, first) in
+    a ∙ rw (e, low-bits 7 9 v, k) (sym (sets-append l 0 (placesFrom 8 1 v) (placesFrom 7 9 v)))
 
--- written so, and counted by ones, they are the byte's bitmap
+-- at most fifteen
+pub fifteen : (v : ℕ) → v < 256 → length (placesOf v) ≤ 15
+fifteen v byte = omega (arith, count v byte, ones-le 8 v byte, ones-le 7 (v % 128) (omega arith))
+
+-- written in front of zeros, and counted, they are the byte's bitmap
 pub bitmap
-    : (v : ℕ) (low all : List ℕ) → v < 256 → low ≡ sets (replicate 15 0) 0 (placesFrom 8 1 v)
-    → all ≡ sets low (ones v) (placesFrom 8 9 (v % 128))
-    → record { places = all; count = ones v + ones (v % 128) } ≡ bitmapOf v
+    : (v n : ℕ) (all : List ℕ) → v < 256 → all ≡ sets (replicate 15 0) 0 (placesOf v) → n ≡ length (placesOf v)
+    → record { places = all; count = n } ≡ bitmapOf v
 unfolding bitmapOf
-bitmap v low all byte l a =
-    let p : all ≡ padded 15 (placesOf v) = rw (a, l) (runs v byte) in λ i. record { places = p i; count = sym (count v byte) i }
+bitmap v n all byte a e =
+    let p : all ≡ padded 15 (placesOf v) = a ∙ stored 15 (placesOf v) (fifteen v byte) in λ i. record { places = p i; count = e i }

@@ -5,7 +5,7 @@ ghost use Prim.Native.Nat.{_+_, _≤_, _<_};
 ghost use lib.Count.{ones};
 ghost use lib.ListN.{length};
 ghost use lib.Seq.{sets};
-ghost use Rattle.error_places.specs.Bitmap.{placesFrom, bitmapOf};
+ghost use Rattle.error_places.specs.Bitmap.{placesFrom, placesOf, bitmapOf};
 
 // The places that an error byte denotes, ascending, and how many they are; unused entries are 0.
 pub struct Positions {
@@ -13,19 +13,35 @@ pub struct Positions {
     pub count: usize,
 }
 
-// Lists the places that the set bits of `value` denote: those of all eight bits, then those of the low seven again, nine on.
+// Lists the places that the set bits of `value` denote.
 pub fn bitmap_positions(value: u8) -> Positions
     ensures { λ r. ⌜ r ≡ bitmapOf value ⌝ }
 {
     let mut places = [0u8; 15];
-    let low = u8::count_ones(value) as usize;
-    let high = u8::count_ones(value % 128) as usize;
-    places_from(&mut places, 0, value, 1);
-    places_from(&mut places, low, value % 128, 9);
+    put_places(&mut places, value);
     Positions {
         places: places,
-        count: low + high,
+        count: count_places(value),
     }
+}
+
+// Counts them: the ones of all eight bits, and those of the low seven again.
+fn count_places(value: u8) -> usize
+    ensures { λ r. ⌜ r ≡ length (placesOf value) ⌝ }
+{
+    let low = u8::count_ones(value) as usize;
+    let high = u8::count_ones(value % 128) as usize;
+    low + high
+}
+
+// Writes them: those of all eight bits, then those of the low seven again, nine on.
+fn put_places(places: &mut [u8], value: u8)
+    requires { ⌜ 15 ≤ length (now places) ⌝ }
+    ensures { λ _. ⌜ now (places .exit) ≡ sets (now (places .entry)) 0 (placesOf value) ⌝ }
+{
+    let past = u8::count_ones(value) as usize;
+    places_from(places, 0, value, 1);
+    places_from(places, past, value % 128, 9);
 }
 
 // Writes the places of the set bits of `bits` from index `at` on, `place` being the lowest bit's. Trailing zeros lead from a set bit to
