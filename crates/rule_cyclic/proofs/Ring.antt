@@ -6,7 +6,7 @@ use native.Mathlib.Nat.{zero-add}
 use mathlib.Core.Path.{_≡_, sym, ap, _∙_}
 use mathlib.Core.Logic.{inl}
 use mathlib.Core.Bool.{true, false}
-use mathlib.Core.List.{List}
+use mathlib.Core.List.{List, _++_}
 use lib.ListN.{length, getD, set, take, drop, length-drop}
 use lib.Seq.{drop-cons, take-all, take-length}
 use borrow.Author.Tests.{lt-ltb, le-ltb}
@@ -47,15 +47,20 @@ module _ (s r : List ℕ) where
     unfolding cyclicOf
     cyclic-kept e = rw (le-ltb (length s) (length r) h, e)
 
-    -- Any other run: t is what a shift leaves, u what a copy then does.
-    pub cyclic-moved
-        : sameBytes (take (length r) s) r ≡ false → (t u : List ℕ) → t ≡ put s (length r) (length s - length r) s
-        → u ≡ put t 0 (length r) r → cyclicOf s r ≡ passed u
-    unfolding cyclicOf part
-    cyclic-moved e t u et eu =
+    -- Any other run, put ahead.
+    pub cyclic-moved : sameBytes (take (length r) s) r ≡ false → cyclicOf s r ≡ passed (r ++ take (length s - length r) s)
+    unfolding cyclicOf
+    cyclic-moved e = rw (le-ltb (length s) (length r) h, e)
+
+    -- A run is put ahead: t is what a shift leaves, u what a copy then does.
+    pub put-ahead
+        : (t u : List ℕ) → t ≡ put s (length r) (length s - length r) s → u ≡ put t 0 (length r) r
+        → u ≡ r ++ take (length s - length r) s
+    unfolding part
+    put-ahead t u et eu =
         let n = length r in
         let m = length s - n in
         let l : length t ≡ length s = ap length et ∙ length-put s n m s in
         let k : length (drop n t) ≤ m = rw (length-drop n t, l) (omega arith) in
         let f : drop n t ≡ take m s = sym (take-all m (drop n t) k) ∙ rw et (part-put s n m s (omega arith) (omega arith)) in
-        rw (le-ltb (length s) n h, e, eu, put-split t 0 n r (omega arith) (omega arith), zero-add n, f, take-length r)
+        rw (eu, put-split t 0 n r (omega arith) (omega arith), zero-add n, f, take-length r)

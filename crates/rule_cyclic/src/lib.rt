@@ -4,9 +4,10 @@ use answers::status::Fault;
 use answers::status::Written;
 use byte_parts::spans;
 ghost use mathlib.Core.Path.{_≡_};
+ghost use mathlib.Core.List.{_++_};
 ghost use Prim.Native.Nat.{_-_, _≤_};
-ghost use lib.ListN.{length};
-ghost use Rattle.byte_parts.specs.Part.{put};
+ghost use lib.ListN.{length, take};
+ghost use Rattle.byte_parts.specs.Part.{put, sameBytes};
 ghost use Rattle.answers.specs.Outcome.{writtenOf, bytesAfter};
 ghost use Rattle.rule_cyclic.specs.Cyclic.{cyclicOf};
 
@@ -16,16 +17,33 @@ pub fn apply_cyclic_write(store: &mut [u8], run: &[u8]) -> Written
     ensures { λ r. ⌜ r ≡ writtenOf (cyclicOf (now (store .entry)) (now (run .entry))) ⌝ }
     ensures { λ r. ⌜ now (store .exit) ≡ bytesAfter (now (store .entry)) (cyclicOf (now (store .entry)) (now (run .entry))) ⌝ }
 {
-    let n = run.len();
-    if store.len() < n {
+    if store.len() < run.len() {
         return Written::Failed(Fault::CyclicTooLong);
     }
-    if spans::same(&store[0..n], &run[0..n]) {
+    if begins(store, run) {
         return Written::Done;
     }
+    push(store, run);
+    Written::Done
+}
+
+// Tells whether a store begins with a run.
+fn begins(store: &[u8], run: &[u8]) -> bool
+    requires { ⌜ length (now run) ≤ length (now store) ⌝ }
+    ensures { λ r. ⌜ r ≡ sameBytes (take (length (now (run .entry))) (now (store .entry))) (now (run .entry)) ⌝ }
+{
+    let n = run.len();
+    spans::same(&store[0..n], &run[0..n])
+}
+
+// Puts a run ahead of what a store has; as many of its last bytes are lost.
+fn push(store: &mut [u8], run: &[u8])
+    requires { ⌜ length (now run) ≤ length (now store) ⌝ }
+    ensures { λ _. ⌜ now (store .exit) ≡ now (run .entry) ++ take (length (now (store .entry)) - length (now (run .entry))) (now (store .entry)) ⌝ }
+{
+    let n = run.len();
     shift(store, n);
     spans::copy(store, 0, run, 0, n);
-    Written::Done
 }
 
 // Moves the bytes of a store back by n; the last n are lost. From the last on, so that each has moved before it is overwritten.
