@@ -15,34 +15,37 @@ use Rattle.rule_purse.specs.declared.fields.Sum.{Sum}
 use Rattle.rule_purse.specs.Purse.{valueOf, insideOf, outsideOf, sumOf, storedOf, purseRule}
 
 module _ (limit : Limit) (s c : PurseData) where
-  module _ (a : Bool) (ea : a ≡ ltZ (valueOf limit (s .purse)) (valueOf limit (c .purse))) where
-    -- A direct write of a purse above the stored one.
-    pub purse-raised : a ≡ true → Failed PurseRaised ≡ purseRule Direct limit s c
+  -- A direct write of a purse above the stored one.
+  pub purse-raised
+      : (a : Bool) → a ≡ ltZ (valueOf limit (s .purse)) (valueOf limit (c .purse)) → a ≡ true
+      → Failed PurseRaised ≡ purseRule Direct limit s c
+  unfolding purseRule
+  purse-raised a ea ta = rw (sym ea ∙ ta)
+
+  -- Of one that is not.
+  module _ (na : ltZ (valueOf limit (s .purse)) (valueOf limit (c .purse)) ≡ false) (b : Bool)
+      (eb : b ≡ ltZ (valueOf limit (s .cashback)) (valueOf limit (c .cashback))) where
+    -- Of a cashback above the stored one.
+    pub cashback-raised : b ≡ true → Failed CashbackRaised ≡ purseRule Direct limit s c
     unfolding purseRule
-    purse-raised ta = rw (sym ea ∙ ta)
+    cashback-raised tb = rw (na, sym eb ∙ tb)
 
-    module _ (ta : a ≡ false) (b : Bool) (eb : b ≡ ltZ (valueOf limit (s .cashback)) (valueOf limit (c .cashback))) where
-      -- Of a cashback above the stored one.
-      pub cashback-raised : b ≡ true → Failed CashbackRaised ≡ purseRule Direct limit s c
+    module _ (tb : b ≡ false) (d : Bool) (ed : d ≡ ltZ (pos 4294967295) (valueOf limit (s .purse) +ℤ valueOf limit (c .cashback))) where
+      -- Of a cashback that exceeds four bytes with the stored purse.
+      pub sum-large : d ≡ true → Failed SumTooLarge ≡ purseRule Direct limit s c
       unfolding purseRule
-      cashback-raised tb = rw (sym ea ∙ ta, sym eb ∙ tb)
+      sum-large td = rw (na, sym eb ∙ tb, sym ed ∙ td)
 
-      module _ (tb : b ≡ false) (d : Bool) (ed : d ≡ ltZ (pos 4294967295) (valueOf limit (s .purse) +ℤ valueOf limit (c .cashback))) where
-        -- Of a cashback that exceeds four bytes with the stored purse.
-        pub sum-large : d ≡ true → Failed SumTooLarge ≡ purseRule Direct limit s c
+      module _ (td : d ≡ false) (i : Bool) (ei : i ≡ insideOf limit (valueOf limit (c .purse))) where
+        -- Of a purse in range.
+        pub direct-whole : i ≡ true → Whole ≡ purseRule Direct limit s c
         unfolding purseRule
-        sum-large td = rw (sym ea ∙ ta, sym eb ∙ tb, sym ed ∙ td)
+        direct-whole ti = rw (na, sym eb ∙ tb, sym ed ∙ td, sym ei ∙ ti)
 
-        module _ (td : d ≡ false) (i : Bool) (ei : i ≡ insideOf limit (valueOf limit (c .purse))) where
-          -- Of a purse in range.
-          pub direct-whole : i ≡ true → Whole ≡ purseRule Direct limit s c
-          unfolding purseRule
-          direct-whole ti = rw (sym ea ∙ ta, sym eb ∙ tb, sym ed ∙ td, sym ei ∙ ti)
-
-          -- Of a purse out of range.
-          pub direct-outside : i ≡ false → (f : Fault) → f ≡ outsideOf limit → Failed f ≡ purseRule Direct limit s c
-          unfolding purseRule
-          direct-outside ti f ef = rw (sym ea ∙ ta, sym eb ∙ tb, sym ed ∙ td, sym ei ∙ ti, ef)
+        -- Of a purse out of range.
+        pub direct-outside : i ≡ false → (f : Fault) → f ≡ outsideOf limit → Failed f ≡ purseRule Direct limit s c
+        unfolding purseRule
+        direct-outside ti f ef = rw (na, sym eb ∙ tb, sym ed ∙ td, sym ei ∙ ti, ef)
 
   -- A decrement with the stored execution id.
   pub decrement-same : c .id ≡ s .id → Unchanged ≡ purseRule Decrement limit s c

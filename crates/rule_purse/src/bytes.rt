@@ -10,7 +10,8 @@ use byte_parts::word;
 use service_code::limit::Limit;
 ghost use mathlib.Core.Path.{_≡_};
 ghost use Prim.Native.Nat.{_≤_};
-ghost use lib.ListN.{length};
+ghost use lib.ListN.{length, drop};
+ghost use Rattle.byte_parts.specs.Part.{put};
 ghost use Rattle.byte_parts.specs.Sizes.{blockSize};
 ghost use Rattle.answers.specs.Outcome.{writtenOf, bytesAfter};
 ghost use Rattle.rule_purse.specs.Bytes.{purseDataOf, purseOf};
@@ -25,6 +26,14 @@ fn purse_data(block: &[u8]) -> PurseData
         cashback: word::word(block, 4),
         id: word::word(block, 12),
     }
+}
+
+// Gives a block the execution id of a command.
+fn put_id(block: &mut [u8], command: &[u8])
+    requires { ⌜ (blockSize ≤ length (now block)) × (blockSize ≤ length (now command)) ⌝ }
+    ensures { λ _. ⌜ now (block .exit) ≡ put (now (block .entry)) 12 4 (drop 12 (now (command .entry))) ⌝ }
+{
+    spans::copy(block, 12, command, 12, 4);
 }
 
 // Carries a purse write out on `block`, with the fields of `command`. Bytes 8 to 11 are the user's own: only a direct write touches them.
@@ -49,7 +58,7 @@ pub fn apply_purse_write(
         PurseWrite::Stored { purse, cashback } => {
             word::put_word(block, 0, purse);
             word::put_word(block, 4, cashback);
-            spans::copy(block, 12, command, 12, 4);
+            put_id(block, command);
             Written::Done
         }
         PurseWrite::Failed(fault) => Written::Failed(fault),

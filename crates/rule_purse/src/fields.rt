@@ -4,7 +4,7 @@ use answers::status::Fault;
 use byte_parts::word;
 use service_code::limit::Limit;
 ghost use mathlib.Core.Path.{_≡_};
-ghost use mathlib.Core.Bool.{true};
+ghost use mathlib.Core.Bool.{true, false};
 ghost use Prim.Native.Nat.{_<_, _^_};
 ghost use lib.IntN.{pos, _+ℤ_, _-ℤ_};
 ghost use lib.Signed.{mag, ltZ};
@@ -163,6 +163,14 @@ fn direct(limit: Limit, stored: PurseData, command: PurseData) -> PurseWrite
     if below(limit, stored.purse, command.purse) {
         return PurseWrite::Failed(Fault::PurseRaised);
     }
+    not_raised(limit, stored, command)
+}
+
+// The same for a purse that does not rise: what is left to test.
+fn not_raised(limit: Limit, stored: PurseData, command: PurseData) -> PurseWrite
+    requires { ⌜ ltZ (valueOf limit (stored .purse)) (valueOf limit (command .purse)) ≡ false ⌝ }
+    ensures { λ r. ⌜ r ≡ purseRule PurseOperation.Direct limit stored command ⌝ }
+{
     if below(limit, stored.cashback, command.cashback) {
         return PurseWrite::Failed(Fault::CashbackRaised);
     }

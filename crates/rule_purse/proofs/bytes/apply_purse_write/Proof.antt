@@ -35,7 +35,7 @@ returns-3 c =
     let a = k .before .before .before .before .before .before .before .before .args in
     rw (
       decided (k .before .before) (Stored (m .0 .0) (m .0 .1 .0)) (m .1),
-      stored-block (now (a .block)) (now (a .command)) (m .0 .0) (m .0 .1 .0) _ _ _ (w .put-word .ensures) (e .put-word2 .ensures) (c .before .before .copy2 .ensures),
+      stored-block (now (a .block)) (now (a .command)) (m .0 .0) (m .0 .1 .0) _ _ _ (w .put-word .ensures) (e .put-word2 .ensures) (c .before .before .put-id .ensures),
     ) (refl, refl)
 
 returns-4 : tie.Need-returns-4

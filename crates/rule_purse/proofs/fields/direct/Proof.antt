@@ -1,35 +1,18 @@
--- `fields::direct` meets its contract: each way out is a case of the rule. Assumes nothing.
+-- `fields::direct` meets its contract: a purse that rises fails, any other is tested on. Assumes nothing.
+use mathlib.Core.Path.{sym, _∙_}
 use borrow.Author.Needs.{needs}
-use Rattle.rule_purse.proofs.Rule.{purse-raised, cashback-raised, sum-large, direct-whole, direct-outside}
+use Rattle.rule_purse.proofs.Rule.{purse-raised}
 use Rattle.rule_purse.proofs.fields.direct.Statement.{statement}
 use Rattle.rule_purse.proofs.fields.direct.Tie as tie
 
 returns : tie.Need-returns
 returns c = search purse-raised
 
+not-raised-requires : tie.Need-not-raised-requires
+not-raised-requires c κs = sym (c .before .below .ensures) ∙ c .if1 .left
+
 returns-2 : tie.Need-returns-2
-returns-2 c = search cashback-raised
-
-returns-3 : tie.Need-returns-3
-returns-3 c = search sum-large
-
-returns-4 : tie.Need-returns-4
-returns-4 c = search direct-whole
-
-returns-5 : tie.Need-returns-5
-returns-5 c = search direct-outside
+returns-2 c = c .not-raised .ensures
 
 pub direct-spec : {M : Type 1} → statement M
-direct-spec =
-    tie.close
-    (tie.spec
-    (λ c κs. search needs)
-    returns
-    (λ c κs. search needs)
-    returns-2
-    (λ c κs. search needs)
-    returns-3
-    (λ c κs. search needs)
-    (λ c κs. search needs)
-    returns-4
-    returns-5)
+direct-spec = tie.close (tie.spec (λ c κs. search needs) returns not-raised-requires returns-2)
