@@ -2,7 +2,7 @@
 use Prim.Native.Nat.{ℕ, _+_, _*_, _≤_, _<_}
 use native.Mathlib.Omega.{arith}
 use mathlib.Core.Path.{_≡_, refl, sym, _∙_}
-use mathlib.Core.Bool.{true, false, and-eq-true-iff}
+use mathlib.Core.Bool.{Bool, true, false, and-eq-true-iff}
 use mathlib.Core.List.{List}
 use lib.Dec.{leb, eqb}
 use lib.ListN.{length, getD, drop, replicate}
@@ -12,7 +12,7 @@ use Rattle.byte_parts.specs.Part.{put}
 use Rattle.node_messages.specs.declared.code_list.CodeList.{CodeList}
 use Rattle.node_messages.specs.declared.information.BlockInformation.{BlockInformation}
 use Rattle.node_messages.specs.Numbers.{numbersIn}
-use Rattle.node_messages.specs.CodeList.{areasIn, servicesIn, isCodeList, listTold, listRefused, readCodeList}
+use Rattle.node_messages.specs.CodeList.{areasIn, servicesIn, isCounted, isCodeList, listTold, listRefused, readCodeList}
 use Rattle.node_messages.specs.Information.{nodesIn, isInformation, informationTold, informationRefused, readInformation}
 use Rattle.node_messages.proofs.NumberLaws.{length-in, put-padded}
 
@@ -42,18 +42,22 @@ pub flag-above : (s : List ℕ) {f : ℕ} → f ≡ getD s 0 0 → 1 < f → fal
 unfolding isCodeList
 flag-above s e h = rw (lt-leb (getD s 0 0) 1 (omega arith))
 
-module _ (s : List ℕ) {f a b : ℕ} (ef : f ≡ getD s 0 0) (ea : a ≡ getD s 1 0) (eb : b ≡ getD s (2 + 4 * a) 0) (h : f ≤ 1) where
-  pub too-many : 16 < a + b → false ≡ isCodeList s
-  unfolding isCodeList
+pub flag-within : (s : List ℕ) {f : ℕ} {r : Bool} → f ≡ getD s 0 0 → f ≤ 1 → r ≡ isCounted s → r ≡ isCodeList s
+unfolding isCodeList isCounted
+flag-within s e h c = rw (le-leb (getD s 0 0) 1 (omega arith)) c
+
+module _ (s : List ℕ) {a b : ℕ} (ea : a ≡ getD s 1 0) (eb : b ≡ getD s (2 + 4 * a) 0) where
+  pub too-many : 16 < a + b → false ≡ isCounted s
+  unfolding isCounted
   too-many k =
       let eb′ : b ≡ servicesIn s = rw ea at eb in
-      rw (le-leb (getD s 0 0) 1 (omega arith), lt-leb (areasIn s + servicesIn s) 16 (omega arith))
+      rw (lt-leb (areasIn s + servicesIn s) 16 (omega arith))
 
-  pub by-length : a + b ≤ 16 → eqb (length s) (3 + 4 * a + 2 * b) ≡ isCodeList s
-  unfolding isCodeList
+  pub by-length : a + b ≤ 16 → eqb (length s) (3 + 4 * a + 2 * b) ≡ isCounted s
+  unfolding isCounted
   by-length k =
       let eb′ : b ≡ servicesIn s = rw ea at eb in
-      rw (eb′, ea, le-leb (getD s 0 0) 1 (omega arith), le-leb (areasIn s + servicesIn s) 16 (omega arith))
+      rw (eb′, ea, le-leb (areasIn s + servicesIn s) 16 (omega arith))
 
 -- no list, and 47
 pub list-none : (s : List ℕ) → isCodeList s ≡ false → listRefused NotAMessage ≡ readCodeList s

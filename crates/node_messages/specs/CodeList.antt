@@ -45,6 +45,10 @@ areasIn s = getD s 1 0
 abbrev pub servicesIn : List ℕ → ℕ
 servicesIn s = getD s (2 + 4 * areasIn s) 0
 
+-- at most sixteen entries in all, and exactly as many bytes as they take
+unfoldable pub isCounted : List ℕ → Bool
+isCounted s = leb (areasIn s + servicesIn s) mostEntries && eqb (length s) (3 + 4 * areasIn s + 2 * servicesIn s)
+
 -- flag 0 or 1, at most sixteen entries in all, and exactly as many bytes as they take
 unfoldable pub isCodeList : List ℕ → Bool
 isCodeList s =

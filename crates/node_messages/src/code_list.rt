@@ -5,9 +5,10 @@ use answers::refusal::Answer;
 use answers::refusal::Refusal;
 use byte_parts::spans;
 ghost use mathlib.Core.Path.{_≡_};
-ghost use lib.ListN.{length};
+ghost use Prim.Native.Nat.{_+_, _-_, _*_, _≤_, min};
+ghost use lib.ListN.{length, getD};
 ghost use Rattle.node_messages.specs.Message.{putOf, outputAfter};
-ghost use Rattle.node_messages.specs.CodeList.{emptyList, listRefused, flagOf, codeListBytes, isCodeList, readCodeList};
+ghost use Rattle.node_messages.specs.CodeList.{mostEntries, emptyList, listRefused, flagOf, codeListBytes, isCounted, isCodeList, readCodeList};
 
 // Whether more packets follow; how many areas this one has, with code and end of each; how many services, with their codes. Entries
 // past their count are 0.
@@ -59,6 +60,14 @@ fn flag(more: bool) -> u8
     if more { 1 } else { 0 }
 }
 
+// How many services are written behind `areas` areas: as many as the sixteen entries leave.
+fn services_left(services: usize, areas: usize) -> usize
+    requires { ⌜ areas ≤ mostEntries ⌝ }
+    ensures { λ r. ⌜ r ≡ min services (mostEntries - areas) ⌝ }
+{
+    spans::least(services, 16 - areas)
+}
+
 // Writes a code list: flag, area count, code and end of each, service count, codes. A list that counts more than sixteen entries is
 // cut to them. The output beyond the message stays as it was.
 pub fn put_code_list(list: CodeList, out: &mut [u8]) -> Put
@@ -66,7 +75,7 @@ pub fn put_code_list(list: CodeList, out: &mut [u8]) -> Put
     ensures { λ _. ⌜ now (out .exit) ≡ outputAfter (codeListBytes list) (now (out .entry)) ⌝ }
 {
     let areas = spans::least(list.areas, 16);
-    let services = spans::least(list.services, 16 - areas);
+    let services = services_left(list.services, areas);
     let size = 3 + 4 * areas + 2 * services;
     // refusal 5
     if out.len() < size {
@@ -83,20 +92,35 @@ pub fn put_code_list(list: CodeList, out: &mut [u8]) -> Put
     Put::Bytes(size)
 }
 
-// Whether bytes are a code list: flag 0 or 1, at most sixteen entries, and no byte too few or left over.
-fn is_code_list(bytes: &[u8]) -> bool
-    ensures { λ r. ⌜ r ≡ isCodeList (now (bytes .entry)) ⌝ }
+// The count of services that stands behind `areas` areas, or 0 where there is none.
+fn services_at(bytes: &[u8], areas: usize) -> usize
+    requires { ⌜ areas ≤ 255 ⌝ }
+    ensures { λ r. ⌜ (r ≡ getD (now (bytes .entry)) (2 + 4 * areas) 0) × (r ≤ 255) ⌝ }
 {
-    let first = numbers::byte_at(bytes, 0);
+    numbers::byte_at(bytes, 2 + 4 * areas)
+}
+
+// Whether bytes count at most sixteen entries, and there is no byte too few or left over.
+fn is_counted(bytes: &[u8]) -> bool
+    ensures { λ r. ⌜ r ≡ isCounted (now (bytes .entry)) ⌝ }
+{
     let areas = numbers::byte_at(bytes, 1);
-    let services = numbers::byte_at(bytes, 2 + 4 * areas);
-    if 1 < first {
-        return false;
-    }
+    let services = services_at(bytes, areas);
     if 16 < areas + services {
         return false;
     }
     bytes.len() == 3 + 4 * areas + 2 * services
+}
+
+// Whether bytes are a code list: flag 0 or 1, and what its counts say.
+fn is_code_list(bytes: &[u8]) -> bool
+    ensures { λ r. ⌜ r ≡ isCodeList (now (bytes .entry)) ⌝ }
+{
+    let first = numbers::byte_at(bytes, 0);
+    if 1 < first {
+        return false;
+    }
+    is_counted(bytes)
 }
 
 // Reads a code list, or refuses with 47. Its codes are not judged.
@@ -109,7 +133,7 @@ pub fn read_code_list(bytes: &[u8]) -> Listed
     }
     let first = numbers::byte_at(bytes, 0);
     let areas = numbers::byte_at(bytes, 1);
-    let services = numbers::byte_at(bytes, 2 + 4 * areas);
+    let services = services_at(bytes, areas);
     let mut ranges = [0u16; 32];
     numbers::read_numbers(bytes, 2, 2 * areas, &mut ranges[0..32]);
     let mut codes = [0u16; 16];

@@ -22,10 +22,10 @@ record Room (m : CodeList) (out a s : ℕ) : Type 0 where
   enough : 3 + 4 * a + 2 * s ≤ out
   arrays : ListSized m
 
-room : (c : tie.Else1) → Room (c .before .before .before .before .args .list) (length (now (c .before .before .before .before .args .out))) (c .before .before .least .result) (c .before .least2 .result)
+room : (c : tie.Else1) → Room (c .before .before .before .before .args .list) (length (now (c .before .before .before .before .args .out))) (c .before .before .least .result) (c .before .services-left .result)
 room c = record {
   areas = c .before .before .least .ensures;
-  services = c .before .least2 .ensures ∙ rw (c .before .before .least .ensures);
+  services = c .before .services-left .ensures ∙ rw (c .before .before .least .ensures);
   enough = c .if1 .left;
   arrays = sized (c .before .before .before .before);
 }
@@ -35,7 +35,7 @@ returns c =
     let two = c .before in
     let one = two .before in
     let st = one .before .before in
-    let es : two .least2 .result ≡ servicesOf (st .args .list) = two .least2 .ensures ∙ rw (one .least .ensures) in
+    let es : two .services-left .result ≡ servicesOf (st .args .list) = two .services-left .ensures ∙ rw (one .least .ensures) in
     short _ (now (st .args .out)) (list-long (sized st)) (omega (arith, one .least .ensures, es, c .if1 .taken))
 
 slice-write-out-2 : tie.Need-slice-write-out-2
@@ -83,7 +83,6 @@ put-code-list-spec =
     tie.close
     (tie.spec
     (λ c κs. search needs)
-    (λ c. search needs)
     (λ c κs. search needs)
     (λ c. search needs)
     (λ c. search needs)

@@ -20,18 +20,18 @@ returns c = c .refused .ensures ∙ list-none _ (sym (c .before .before .is-code
 
 read-numbers-requires : tie.Need-read-numbers-requires
 read-numbers-requires c κs =
-    let f = list-fits _ (taken (c .before .before .before .before)) (c .before .before .byte-at2 .ensures .0) (c .before .byte-at3 .ensures .0) in (f .0, f .1)
+    let f = list-fits _ (taken (c .before .before .before .before)) (c .before .before .byte-at2 .ensures .0) (c .before .services-at .ensures .0) in (f .0, f .1)
 
 read-numbers-requires-2 : tie.Need-read-numbers-requires-2
 read-numbers-requires-2 c κs =
-    let f = list-fits _ (taken (c .before .before .before .before .before .before .before)) (c .before .before .before .before .before .byte-at2 .ensures .0) (c .before .before .before .before .byte-at3 .ensures .0) in (f .2, f .3)
+    let f = list-fits _ (taken (c .before .before .before .before .before .before .before)) (c .before .before .before .before .before .byte-at2 .ensures .0) (c .before .before .before .before .services-at .ensures .0) in (f .2, f .3)
 
 returns-2 : tie.Need-returns-2
 returns-2 c =
     let first = c .before .before .before .before in
     let three = first .before .before in
     let two = three .before in
-    list-read _ (taken (two .before .before)) (two .before .byte-at .ensures .0) (two .byte-at2 .ensures .0) (three .byte-at3 .ensures .0) (append-nil _ ∙ first .read-numbers .ensures) (append-nil _ ∙ c .before .read-numbers2 .ensures)
+    list-read _ (taken (two .before .before)) (two .before .byte-at .ensures .0) (two .byte-at2 .ensures .0) (three .services-at .ensures .0) (append-nil _ ∙ first .read-numbers .ensures) (append-nil _ ∙ c .before .read-numbers2 .ensures)
 
 pub read-code-list-spec : {M : Type 1} → statement M
 read-code-list-spec =
@@ -42,8 +42,6 @@ read-code-list-spec =
     returns
     (λ c κs. search needs)
     (λ c κs. search needs)
-    (λ c. search needs)
-    (λ c. search needs)
     (λ c κs. search needs)
     (λ c. search needs)
     (λ c. search needs)
