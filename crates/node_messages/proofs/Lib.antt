@@ -6,3 +6,5 @@ pub mod Takes
 -- Written and read, read and written.
 pub mod Round
 pub mod Beyond
+-- Examples.
+pub mod Rows
