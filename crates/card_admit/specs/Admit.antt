@@ -39,6 +39,29 @@ rootMisfit code end = cond (eqb code 0) (not (eqb end 0xfffe)) false
 unfoldable pub outside : ℕ → ℕ → ℕ → ℕ → Bool
 outside code end first last = cond (ltb code first) true (ltb last end)
 
+-- 13 is given to a code past FFFE, or else to an end past it
+unfoldable pub outOfRange : ℕ → ℕ → Bool
+outOfRange code end = cond (ltb 0xfffe code) true (ltb 0xfffe end)
+
+-- and 15 under an area whose low six bits are not 0
+abbrev pub barsAreas : ℕ → Bool
+barsAreas code = not (eqb (code % 64) 0)
+
+-- the refusals of an area's code and end by themselves: 13, 12
+unfoldable pub codesMisfit : ℕ → ℕ → Answer
+codesMisfit code end =
+    cond (outOfRange code end) (Refused NodeCodeOutOfRange)
+    (cond (rootMisfit code end) (Refused InvalidRootAreaRange)
+    Done)
+
+-- those of its range under its parent: 11, 15, 18
+unfoldable pub rangeUnder : Node → ℕ → ℕ → Answer
+rangeUnder above code end =
+    cond (ltb end code) (Refused InvalidAreaRange)
+    (cond (barsAreas (above .code)) (Refused ChildAreaForbidden)
+    (cond (outside code end (above .code) (endOf (above .entry))) (Refused AreaOutOfRange)
+    Done))
+
 -- 13 (code, then end), 12, 14 (low six bits 0 or 1 only), 11, 15 (parent's low bits not 0), 18
 unfoldable pub areaUnder : Node → ℕ → ℕ → Answer
 areaUnder above code end =

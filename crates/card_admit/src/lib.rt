@@ -11,7 +11,8 @@ use service_code::code::ServiceCode;
 use service_code::code::ServiceKind;
 ghost use mathlib.Core.Path.{_≡_};
 ghost use Rattle.service_code.specs.Code.{attributeOf};
-ghost use Rattle.card_admit.specs.Admit.{isDepth, rootMisfit, outside, areaUnder, isUndefined, serviceUnder, kindNumber, sameKind, joinedTo, usable, newStore, placedUnder, mayJoin, agreed};
+ghost use Rattle.card_nodes.specs.Node.{endOf};
+ghost use Rattle.card_admit.specs.Admit.{isDepth, rootMisfit, outside, outOfRange, barsAreas, codesMisfit, rangeUnder, areaUnder, isUndefined, serviceUnder, kindNumber, sameKind, joinedTo, usable, newStore, placedUnder, mayJoin, agreed};
 
 // Where a new service's store lies, and the blocks in use after it.
 pub enum Placed {
@@ -53,42 +54,77 @@ fn is_outside(code: u16, end: u16, first: u16, last: u16) -> bool
     if code < first { true } else { last < end }
 }
 
-// The refusal of an area from `code` to `end` under the node `above`, or none.
-pub fn area_under(above: Node, code: u16, end: u16) -> Answer
-    ensures { λ r. ⌜ r ≡ areaUnder above code end ⌝ }
+// Whether an area's code or its end is past FFFE.
+fn out_of_range(code: u16, end: u16) -> bool
+    ensures { λ r. ⌜ r ≡ outOfRange code end ⌝ }
+{
+    if 0xfffe < code { true } else { 0xfffe < end }
+}
+
+// Whether codes from `code` to `end` leave those of the node `above`.
+fn leaves(above: Node, code: u16, end: u16) -> bool
+    ensures { λ r. ⌜ r ≡ outside code end (above .code) (endOf (above .entry)) ⌝ }
+{
+    let entry = above.entry;
+    let last = node::end_of(entry);
+    is_outside(code, end, above.code, last)
+}
+
+// Whether no area may come under one of `code`: its low six bits are not 0.
+fn bars_areas(code: u16) -> bool
+    ensures { λ r. ⌜ r ≡ barsAreas code ⌝ }
+{
+    code % 64 != 0
+}
+
+// The refusal of an area's code and end by themselves, or none.
+fn codes_misfit(code: u16, end: u16) -> Answer
+    ensures { λ r. ⌜ r ≡ codesMisfit code end ⌝ }
 {
     // 13: first the code, then the end
-    if 0xfffe < code {
-        return Answer::Refused(Refusal::NodeCodeOutOfRange);
-    }
-    if 0xfffe < end {
+    if out_of_range(code, end) {
         return Answer::Refused(Refusal::NodeCodeOutOfRange);
     }
     // 12
     if root_misfit(code, end) {
         return Answer::Refused(Refusal::InvalidRootAreaRange);
     }
-    // 14: an area's low six bits are 0 or 1
-    if 1 < code % 64 {
-        return Answer::Refused(Refusal::InvalidAreaAttribute);
-    }
-    let forbidden = above.code % 64 != 0;
-    let entry = above.entry;
-    let last = node::end_of(entry);
-    let outside = is_outside(code, end, above.code, last);
+    Answer::Done
+}
+
+// The refusal of the range from `code` to `end` under the node `above`, or none.
+fn range_under(above: Node, code: u16, end: u16) -> Answer
+    ensures { λ r. ⌜ r ≡ rangeUnder above code end ⌝ }
+{
     // 11
     if end < code {
         return Answer::Refused(Refusal::InvalidAreaRange);
     }
-    // 15: under an area whose low six bits are not 0
-    if forbidden {
+    // 15
+    if bars_areas(above.code) {
         return Answer::Refused(Refusal::ChildAreaForbidden);
     }
     // 18
-    if outside {
+    if leaves(above, code, end) {
         return Answer::Refused(Refusal::AreaOutOfRange);
     }
     Answer::Done
+}
+
+// The refusal of an area from `code` to `end` under the node `above`, or none.
+pub fn area_under(above: Node, code: u16, end: u16) -> Answer
+    ensures { λ r. ⌜ r ≡ areaUnder above code end ⌝ }
+{
+    // 13, 12
+    if let Answer::Refused(r) = codes_misfit(code, end) {
+        return Answer::Refused(r);
+    }
+    // 14: an area's low six bits are 0 or 1
+    if 1 < code % 64 {
+        return Answer::Refused(Refusal::InvalidAreaAttribute);
+    }
+    // 11, 15, 18
+    range_under(above, code, end)
 }
 
 // Whether the attribute of `code` is none of those that are defined.
@@ -105,20 +141,16 @@ fn is_undefined(code: u16) -> bool
 fn service_under(above: Node, code: u16) -> Answer
     ensures { λ r. ⌜ r ≡ serviceUnder above code ⌝ }
 {
-    let undefined = is_undefined(code);
-    let entry = above.entry;
-    let last = node::end_of(entry);
-    let outside = is_outside(code, code, above.code, last);
     // 13
-    if code > 0xfffe {
+    if 0xfffe < code {
         return Answer::Refused(Refusal::NodeCodeOutOfRange);
     }
     // 16
-    if undefined {
+    if is_undefined(code) {
         return Answer::Refused(Refusal::UndefinedServiceAttribute);
     }
     // 17
-    if outside {
+    if leaves(above, code, code) {
         return Answer::Refused(Refusal::ServiceOutOfRange);
     }
     Answer::Done
