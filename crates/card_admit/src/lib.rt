@@ -4,6 +4,7 @@ use answers::refusal::Refusal;
 use byte_parts::sizes::BLOCK_SIZE;
 use byte_parts::sizes::MOST_BLOCKS;
 use card_nodes::node;
+use card_nodes::node::Entry;
 use card_nodes::node::Node;
 use service_code::code::Decoded;
 use service_code::code::DecodedKind;
@@ -61,13 +62,12 @@ fn out_of_range(code: u16, end: u16) -> bool
     if 0xfffe < code { true } else { 0xfffe < end }
 }
 
-// Whether codes from `code` to `end` leave those of the node `above`.
-fn leaves(above: Node, code: u16, end: u16) -> bool
-    ensures { λ r. ⌜ r ≡ outside code end (above .code) (endOf (above .entry)) ⌝ }
+// Whether codes from `code` to `end` leave those of a node, from `first` to the end that its entry has.
+fn leaves(first: u16, entry: Entry, code: u16, end: u16) -> bool
+    ensures { λ r. ⌜ r ≡ outside code end first (endOf entry) ⌝ }
 {
-    let entry = above.entry;
     let last = node::end_of(entry);
-    is_outside(code, end, above.code, last)
+    is_outside(code, end, first, last)
 }
 
 // Whether no area may come under one of `code`: its low six bits are not 0.
@@ -96,16 +96,18 @@ fn codes_misfit(code: u16, end: u16) -> Answer
 fn range_under(above: Node, code: u16, end: u16) -> Answer
     ensures { λ r. ⌜ r ≡ rangeUnder above code end ⌝ }
 {
+    let first = above.code;
+    let entry = above.entry;
     // 11
     if end < code {
         return Answer::Refused(Refusal::InvalidAreaRange);
     }
     // 15
-    if bars_areas(above.code) {
+    if bars_areas(first) {
         return Answer::Refused(Refusal::ChildAreaForbidden);
     }
     // 18
-    if leaves(above, code, end) {
+    if leaves(first, entry, code, end) {
         return Answer::Refused(Refusal::AreaOutOfRange);
     }
     Answer::Done
@@ -141,8 +143,10 @@ fn is_undefined(code: u16) -> bool
 fn service_under(above: Node, code: u16) -> Answer
     ensures { λ r. ⌜ r ≡ serviceUnder above code ⌝ }
 {
+    let first = above.code;
+    let entry = above.entry;
     // 13
-    if 0xfffe < code {
+    if code > 0xfffe {
         return Answer::Refused(Refusal::NodeCodeOutOfRange);
     }
     // 16
@@ -150,7 +154,7 @@ fn service_under(above: Node, code: u16) -> Answer
         return Answer::Refused(Refusal::UndefinedServiceAttribute);
     }
     // 17
-    if leaves(above, code, code) {
+    if leaves(first, entry, code, code) {
         return Answer::Refused(Refusal::ServiceOutOfRange);
     }
     Answer::Done

@@ -14,7 +14,7 @@ use Rattle.card_admit.specs.Admit.{parentAt, areaFound, areaJudged, usable, ser
 use Rattle.card_admit.proofs.Growth.{parent-deep, stored, used-grows}
 
 -- a refusal of an area is no acceptance
-not-done : {r : Refusal} → Refused r ≡ Done → ⊥
+pub not-done : {r : Refusal} → Refused r ≡ Done → ⊥
 not-done e = let z : _≡_ {A = ℕ} 0 1 = cc in omega arith
 
 -- and neither is one of a service

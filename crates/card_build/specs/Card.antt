@@ -16,6 +16,10 @@ use Rattle.card_build.specs.declared.card.Added.{Added}
 abbrev pub systemOf : ℕ → ℕ → Bool → System
 systemOf code version join = record { code = code; version = version; join = join }
 
+-- 64 records that are alike, of which the first is taken, and no block in use
+abbrev pub ofOne : Node → System → Card
+ofOne n system = record { nodes = replicate 64 n; count = 1; used = 0; system = system }
+
 -- the root alone; unused records read the same
 abbrev pub newCard : System → Card
 newCard system = record { nodes = replicate 64 rootNode; count = 1; used = 0; system = system }

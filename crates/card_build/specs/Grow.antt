@@ -1,10 +1,10 @@
 -- The additions and the limit, on a card that is sound.
 use Prim.Native.Nat.{ℕ, _+_, _-_, _*_}
-use mathlib.Core.Bool.{cond}
+use mathlib.Core.Bool.{Bool, cond, not}
 use lib.Dec.{ltb, leb}
 use lib.IntN.{ℤ}
 use lib.ListN.{getD, set}
-use Rattle.answers.specs.declared.refusal.Refusal.the-variants.{TableFull, ShortArena, NotAService}
+use Rattle.answers.specs.declared.refusal.Refusal.the-variants.{NotBuilt, TableFull, ShortArena, NotAService}
 use Rattle.service_code.specs.declared.limit.Limit.{Limit}
 use Rattle.service_code.specs.declared.limit.Limit.the-variants.{Unlimited, Limited}
 use Rattle.card_nodes.specs.declared.node.Entry.{Entry}
@@ -18,11 +18,20 @@ use Rattle.card_nodes.specs.Node.{rootNode}
 use Rattle.card_admit.specs.Admit.{areaJudged, placedOf, agreed}
 use Rattle.card_build.specs.declared.card.Card.{Card}
 use Rattle.card_build.specs.declared.card.Added.{Added}
+use Rattle.card_build.specs.declared.build.Growth.{Growth}
 use Rattle.card_build.specs.Card.{nodesOf, grown, accepted, refused}
 
 -- the record of a node
 abbrev pub nodeAs : ℕ → ℕ → ℕ → Entry → Node
 nodeAs depth code version entry = record { depth = depth; code = code; version = version; entry = entry }
+
+-- a node's record after `count` others, with `used` blocks in use
+abbrev pub growthOf : Node → ℕ → ℕ → Growth
+growthOf n count used = record { node = n; count = count + 1; used = used }
+
+-- the card with that record next
+abbrev pub grownBy : Card → Growth → Added
+grownBy c g = accepted (record { nodes = set (c .nodes) (c .count) (g .node); count = g .count; used = g .used; system = c .system })
 
 -- a refused area leaves the card as it was
 abbrev pub areaBy : Card → Node → Answer → Added
@@ -34,6 +43,14 @@ unfoldable pub addArea : Card → ℕ → ℕ → ℕ → ℕ → Added
 addArea c depth code end version =
     cond (leb 64 (c .count)) (refused c TableFull)
     (areaBy c (nodeAs depth code version (Area end)) (areaJudged (nodesOf c) depth code end))
+
+-- what comes ahead of a service's own refusals: 8 of a card that is not sound, 7 of an arena that is short, 20 of a card that is full
+unfoldable pub aheadOf : Bool → Bool → Bool → Answer
+aheadOf sound short full =
+    cond (not sound) (Refused NotBuilt)
+    (cond short (Refused ShortArena)
+    (cond full (Refused TableFull)
+    Done))
 
 -- and so does a refused service, by 19 too
 abbrev pub serviceBy : Card → ℕ → ℕ → ℕ → Placed → Added

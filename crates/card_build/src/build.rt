@@ -10,10 +10,22 @@ use card_nodes::node::Entry;
 use card_nodes::node::Node;
 use service_code::limit::Limit;
 ghost use mathlib.Core.Path.{_≡_};
-ghost use Prim.Native.Nat.{_<_};
-ghost use lib.ListN.{length};
-ghost use Rattle.card_build.specs.Card.{refused, grown, accepted};
+ghost use Prim.Native.Nat.{_-_, _*_, _/_, _≤_, _<_};
+ghost use lib.Dec.{ltb, leb};
+ghost use lib.ListN.{length, replicate};
+ghost use Rattle.service_code.specs.declared.limit.Limit.the-variants.{Limited};
+ghost use Rattle.byte_parts.specs.Part.{put};
+ghost use Rattle.card_nodes.specs.declared.node.Entry.the-variants.{Service};
+ghost use Rattle.card_build.specs.Card.{refused};
+ghost use Rattle.card_build.specs.Grow.{nodeAs, growthOf, grownBy, aheadOf};
 ghost use Rattle.card_build.specs.Build.{areaAdded, serviceAdded, limitAdded, arenaAdded};
+
+// What an addition makes of a card: its next record, and how many records and blocks are then in use.
+struct Growth {
+    node: Node,
+    count: usize,
+    used: usize,
+}
 
 // Refuses: the card is handed back as it was.
 fn refuse(card: Card, refusal: Refusal) -> Added
@@ -25,16 +37,102 @@ fn refuse(card: Card, refusal: Refusal) -> Added
     }
 }
 
+// Whether no record is free.
+fn is_full(count: usize) -> bool
+    ensures { λ r. ⌜ r ≡ leb 64 count ⌝ }
+{
+    64 <= count
+}
+
+// Whether an arena of `arena_len` bytes is shorter than the blocks in use.
+fn is_short(arena_len: usize, used: usize) -> bool
+    ensures { λ r. ⌜ r ≡ ltb («arena_len» / 16) used ⌝ }
+{
+    arena_len / 16 < used
+}
+
+// What is refused ahead of a service's own refusals, in an arena of `arena_len` bytes, or nothing.
+fn ahead(sound: bool, arena_len: usize, used: usize, full: bool) -> Answer
+    ensures { λ r. ⌜ r ≡ aheadOf sound (ltb («arena_len» / 16) used) full ⌝ }
+{
+    // 8
+    if !sound {
+        return Answer::Refused(Refusal::NotBuilt);
+    }
+    // 7
+    if is_short(arena_len, used) {
+        return Answer::Refused(Refusal::ShortArena);
+    }
+    // 20
+    if full {
+        return Answer::Refused(Refusal::TableFull);
+    }
+    Answer::Done
+}
+
+// The record of a node that comes after `count` others; `in_use` blocks are then in use.
+fn next_record(
+    depth: u8,
+    code: u16,
+    version: u16,
+    entry: Entry,
+    count: usize,
+    in_use: usize,
+) -> Growth
+    requires { ⌜ count < 64 ⌝ }
+    ensures { λ r. ⌜ r ≡ growthOf (nodeAs depth code version entry) count «in_use» ⌝ }
+{
+    Growth {
+        node: Node {
+            depth,
+            code,
+            version,
+            entry,
+        },
+        count: count + 1,
+        used: in_use,
+    }
+}
+
+// Makes the blocks that an addition takes, from `used` to `after`, 0.
+fn zero_blocks(arena: &mut [u8], used: usize, after: usize)
+    requires { ⌜ (used ≤ after) × (after ≤ length (now arena) / 16) ⌝ }
+    ensures { λ _. ⌜ now (arena .exit) ≡ put (now (arena .entry)) (16 * used) (16 * (after - used)) (replicate (16 * (after - used)) 0) ⌝ }
+{
+    spans::zero(arena, 16 * used, 16 * (after - used));
+}
+
+// The record of a service's node, of a store, with a purse limit.
+fn limited(node: Node, start: u16, blocks: u16, upper: i32, lower: i32, generation: u8) -> Node
+    ensures { λ r. ⌜ r ≡ nodeAs (node .depth) (node .code) (node .version) (Service start blocks (Limited upper lower generation)) ⌝ }
+{
+    Node {
+        depth: node.depth,
+        code: node.code,
+        version: node.version,
+        entry: Entry::Service {
+            start,
+            blocks,
+            limit: Limit::Limited {
+                upper,
+                lower,
+                generation,
+            },
+        },
+    }
+}
+
 impl Card {
-    // Adds `node` as the next record; `used` blocks are then in use.
-    fn grow(mut self, node: Node, used: usize) -> Added
+    // Grows by a record.
+    fn grow(mut self, next: Growth) -> Added
         requires { ⌜ self .count < 64 ⌝ }
-        ensures { λ r. ⌜ r ≡ accepted (grown self node used) ⌝ }
+        ensures { λ r. ⌜ r ≡ grownBy self next ⌝ }
     {
         let n = self.count;
+        let node = next.node;
         self.nodes[n] = node;
-        self.count = n + 1;
-        self.used = used;
+        self.count = next.count;
+        self.used = next.used;
         Added {
             card: self,
             answer: Answer::Done,
@@ -53,20 +151,19 @@ impl Card {
         let count = self.count;
         let used = self.used;
         // 20
-        if 64 <= count {
+        if is_full(count) {
             return refuse(self, Refusal::TableFull);
         }
         match fits::judge_area(nodes, count, depth, code, end) {
             Answer::Refused(refusal) => refuse(self, refusal),
-            Answer::Done => self.grow(
-                Node {
-                    depth: depth as u8,
-                    code,
-                    version,
-                    entry: Entry::Area { end },
-                },
+            Answer::Done => self.grow(next_record(
+                depth as u8,
+                code,
+                version,
+                Entry::Area { end },
+                count,
                 used,
-            ),
+            )),
         }
     }
 
@@ -82,25 +179,19 @@ impl Card {
         ensures { λ r. ⌜ r ≡ serviceAdded self (length (now (arena .entry))) depth code blocks version ⌝ }
         ensures { λ r. ⌜ now (arena .exit) ≡ arenaAdded self (serviceAdded self (length (now (arena .entry))) depth code blocks version) (now (arena .entry)) ⌝ }
     {
-        let sound = self.is_sound();
-        let nodes = self.nodes;
         let count = self.count;
         let used = self.used;
+        // 8, 7, 20
+        if let Answer::Refused(refusal) = ahead(
+            self.is_sound(),
+            arena.len(),
+            used,
+            is_full(count),
+        ) {
+            return refuse(self, refusal);
+        }
+        let nodes = self.nodes;
         let join = self.system.join;
-        let short = arena.len() / 16 < used;
-        let full = 64 <= count;
-        // 8
-        if !sound {
-            return refuse(self, Refusal::NotBuilt);
-        }
-        // 7
-        if short {
-            return refuse(self, Refusal::ShortArena);
-        }
-        // 20
-        if full {
-            return refuse(self, Refusal::TableFull);
-        }
         match fits::place_service(nodes, count, join, used, arena.len(), depth, code, blocks) {
             Placed::Refused(refusal) => refuse(self, refusal),
             Placed::Store {
@@ -108,20 +199,13 @@ impl Card {
                 blocks: own,
                 used: after,
             } => {
-                spans::zero(arena, 16 * used, 16 * (after - used));
-                self.grow(
-                    Node {
-                        depth: depth as u8,
-                        code,
-                        version,
-                        entry: Entry::Service {
-                            start,
-                            blocks: own,
-                            limit: Limit::Unlimited,
-                        },
-                    },
-                    after,
-                )
+                zero_blocks(arena, used, after);
+                let entry = Entry::Service {
+                    start,
+                    blocks: own,
+                    limit: Limit::Unlimited,
+                };
+                self.grow(next_record(depth as u8, code, version, entry, count, after))
             }
         }
     }
@@ -145,20 +229,7 @@ impl Card {
                 blocks,
                 limit: _,
             } => {
-                self.nodes[last] = Node {
-                    depth: node.depth,
-                    code: node.code,
-                    version: node.version,
-                    entry: Entry::Service {
-                        start,
-                        blocks,
-                        limit: Limit::Limited {
-                            upper,
-                            lower,
-                            generation,
-                        },
-                    },
-                };
+                self.nodes[last] = limited(node, start, blocks, upper, lower, generation);
                 Added {
                     card: self,
                     answer: Answer::Done,

@@ -2,7 +2,7 @@
 use answers::refusal::Answer;
 use card_nodes::node::Node;
 ghost use mathlib.Core.Path.{_≡_};
-ghost use Rattle.card_build.specs.Card.{newCard, isSound};
+ghost use Rattle.card_build.specs.Card.{ofOne, newCard, isSound};
 
 // The system of a card: its code, its key version, and whether a service may join a store of another block count.
 pub struct System {
@@ -26,17 +26,23 @@ pub struct Added {
 }
 
 impl Card {
-    // A card of a system with nothing but its root.
-    pub fn new(system: System) -> Self
-        ensures { λ r. ⌜ r ≡ newCard system ⌝ }
+    // A card of a system whose records all read `node`: the first is taken, and no block is in use.
+    fn of_one(node: Node, system: System) -> Self
+        ensures { λ r. ⌜ r ≡ ofOne node system ⌝ }
     {
-        let root = Node::root();
         Self {
-            nodes: [root; 64],
+            nodes: [node; 64],
             count: 1,
             used: 0,
             system,
         }
+    }
+
+    // A card of a system with nothing but its root.
+    pub fn new(system: System) -> Self
+        ensures { λ r. ⌜ r ≡ newCard system ⌝ }
+    {
+        Self::of_one(Node::root(), system)
     }
 
     // Whether accepted additions and limits produce this card; if not, every call is refused with 8.

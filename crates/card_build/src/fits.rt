@@ -11,7 +11,7 @@ use card_nodes::node::Node;
 ghost use mathlib.Core.Path.{_≡_};
 ghost use lib.ListN.{take};
 ghost use Rattle.card_nodes.specs.Find.{sharedOf, parentOf, openAt};
-ghost use Rattle.card_admit.specs.Admit.{parentAt, areaJudged, firstIn, placedOf, agreed};
+ghost use Rattle.card_admit.specs.Admit.{parentAt, areaJudged, firstIn, placedUnder, placedOf, agreed};
 
 // The area under which a new node of `depth` comes: each node that is shallower decides anew.
 fn find_parent(nodes: [Node; 64], count: usize, depth: u8) -> Found
@@ -83,6 +83,22 @@ fn first_of(nodes: [Node; 64], count: usize, code: u16) -> First
     }
 }
 
+// Where the store of a service of `code` and `blocks` under the node `above` lies, after the first of its number, or its refusal.
+fn given_under(
+    above: Node,
+    first: First,
+    join: bool,
+    used: usize,
+    arena_len: usize,
+    code: u16,
+    blocks: u32,
+) -> Placed
+    ensures { λ r. ⌜ r ≡ agreed join blocks (placedUnder above first used «arena_len» code blocks) ⌝ }
+{
+    let placed = card_admit::placed_under(above, first, used, arena_len, code, blocks);
+    card_admit::agree(join, blocks, placed)
+}
+
 // Where the store of a service of `code` and `blocks` at `depth` after `count` nodes lies, or its refusal.
 pub fn place_service(
     nodes: [Node; 64],
@@ -101,13 +117,6 @@ pub fn place_service(
         return Placed::Refused(Refusal::NoParent);
     };
     let above = nodes[p];
-    let placed = card_admit::placed_under(
-        above,
-        first_of(nodes, count, code),
-        used,
-        arena_len,
-        code,
-        blocks,
-    );
-    card_admit::agree(join, blocks, placed)
+    let first = first_of(nodes, count, code);
+    given_under(above, first, join, used, arena_len, code, blocks)
 }

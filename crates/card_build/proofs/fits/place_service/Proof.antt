@@ -24,14 +24,12 @@ returns c =
 
 returns-2 : tie.Need-returns-2
 returns-2 c =
-    let u = c .before in
-    let f = u .before in
+    let f = c .before in
     let p = f .before .before .before in
     let b = p .before .before in
     let a = b .before .args in
-    c .agree .ensures
-    ∙ ap (agreed (a .join) (a .blocks))
-    (u .placed-under .ensures ∙ placed (records (b .before)) _ (b .parent-at .ensures) (p .p .given .1) _ _ _ _ _ (f .first-of .ensures))
+    c .given-under .ensures
+    ∙ ap (agreed (a .join) (a .blocks)) (placed (records (b .before)) _ (b .parent-at .ensures) (p .p .given .1) _ _ _ _ _ (f .first-of .ensures))
 
 pub place-service-spec : {M : Type 1} → statement M
 place-service-spec =
@@ -43,7 +41,6 @@ place-service-spec =
     returns
     (λ c. omega (arith, inside (c .before)))
     (λ c. inside (c .before))
-    (λ c κs. search needs)
     (λ c κs. search needs)
     (λ c κs. search needs)
     returns-2)

@@ -12,7 +12,7 @@ use Rattle.card_nodes.specs.Node.{rootNode}
 use Rattle.card_sound.proofs.Laws.{Counted, sound-count, same-read}
 use Rattle.card_build.specs.Card.{isSound}
 use Rattle.card_build.specs.Grow.{lastOf}
-use Rattle.card_build.proofs.Answers.{limit-unsound, limit-refused, limit-set}
+use Rattle.card_build.proofs.Answers.{with-last, limit-unsound, limit-refused, limit-set}
 use Rattle.card_build.proofs.card.Card.set_limit.Statement.{statement}
 use Rattle.card_build.proofs.card.Card.set_limit.Tie as tie
 
@@ -42,10 +42,11 @@ returns-2 c =
 
 returns-3 : tie.Need-returns-3
 returns-3 c =
-    let n = c .before .before .before in
+    let e = c .before .before in
+    let n = e .before .before in
     let s = n .before .before .before in
-    simp (toZ-ofZ (s .fits .upper), toZ-ofZ (s .fits .lower))
-    (limit-set _ _ _ _ _ (sound (n .before)) (last (n .before) _) (c .before .entry .given .1))
+    simp (toZ-ofZ (s .fits .upper), toZ-ofZ (s .fits .lower)) at (ap (with-last (s .args .t1)) (c .limited .ensures))
+    ∙ limit-set _ _ _ _ _ (sound (n .before)) (last (n .before) _) (e .entry .given .1)
 
 pub set-limit-spec : {M : Type 1} → statement M
 set-limit-spec =
@@ -60,7 +61,8 @@ set-limit-spec =
     (λ c. search needs)
     (λ c κs. search needs)
     (λ c. search needs)
-    (λ c. omega (arith, counted (c .before .before .before .before)))
-    (λ c. omega (arith, counted (c .before .before .before .before)))
+    (λ c κs. search needs)
+    (λ c. omega (arith, counted (c .before .before .before .before .before)))
+    (λ c. omega (arith, counted (c .before .before .before .before .before)))
     returns-2
     returns-3)
