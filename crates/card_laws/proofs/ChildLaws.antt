@@ -18,12 +18,12 @@ use Rattle.card_nodes.specs.Find.{isAreaOf, areaOf}
 use Rattle.card_nodes.proofs.Searches.{first-found}
 use Rattle.card_build.specs.declared.card.Card.{Card}
 use Rattle.card_build.specs.Card.{nodesOf}
 use Rattle.card_laws.specs.Built.{Built}
 use Rattle.card_laws.proofs.Steps.{deepestBy, deepestAfter, Steps, steps}
-use Rattle.card_questions.specs.Under.{spanUnder}
-use Rattle.card_questions.specs.Worded.{childSpan, byChildren}
-use Rattle.card_questions.proofs.UnderLaws.{le-or-lt}
-use Rattle.card_lists.specs.Children.{areaNamed, childrenUnder, childrenAt, childrenWorded}
+use Rattle.card_laws.specs.Under.{spanUnder}
+use Rattle.card_laws.specs.Worded.{childSpan, byChildren}
+use Rattle.card_laws.proofs.UnderLaws.{le-or-lt}
+use Rattle.card_laws.specs.Children.{areaNamed, childrenUnder, childrenAt, childrenWorded}
 
 -- nodes under a child are no children of the area
 skip : (d : ℕ) (ns : List Node) → childrenUnder d ns ≡ childrenUnder d (drop (spanUnder (d + 1) ns) ns)

@@ -7,3 +7,10 @@ pub mod Places
 pub mod Laid
 pub mod Kept
 pub mod Steps
+-- What lies under an area, and its recursions as docs/RULES.md words them.
+pub mod UnderLaws
+pub mod Worded
+pub mod TotalsWorded
+pub mod ChildLaws
+-- Which new stores there is room for, and which counts agree.
+pub mod Room

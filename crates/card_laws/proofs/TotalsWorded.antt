@@ -6,10 +6,10 @@ use native.Mathlib.Nat.{zero-add, add-assoc}
 use lib.ListN.{length}
 use Rattle.card_nodes.specs.declared.node.Node.{Node}
 use Rattle.card_nodes.specs.Node.{blocksOf}
-use Rattle.card_questions.proofs.UnderLaws.{Over}
-use Rattle.card_questions.proofs.Worded.{worded}
-use Rattle.card_questions.specs.Total.{sumUnder}
-use Rattle.card_questions.specs.TotalsWorded.{totalWorded}
+use Rattle.card_laws.proofs.UnderLaws.{Over}
+use Rattle.card_laws.proofs.Worded.{worded}
+use Rattle.card_laws.specs.Under.{sumUnder}
+use Rattle.card_laws.specs.TotalsWorded.{totalWorded}
 
 -- the blocks go over the nodes under an area
 pub sums : Over sumUnder 0 (λ n r. blocksOf (n .entry) + r) _+_

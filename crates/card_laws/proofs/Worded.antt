@@ -11,9 +11,9 @@ use Rattle.card_nodes.specs.declared.node.Entry.{Entry}
 use Rattle.card_nodes.specs.declared.node.Entry.the-variants.{Area, Service}
 use Rattle.card_nodes.specs.declared.node.Node.{Node}
 use Rattle.card_nodes.specs.Node.{rootNode}
-use Rattle.card_questions.specs.Under.{spanUnder}
-use Rattle.card_questions.specs.Worded.{childSpan, byChildren}
-use Rattle.card_questions.proofs.UnderLaws.{le-or-lt, Over, deeper, ends, split}
+use Rattle.card_laws.specs.Under.{spanUnder}
+use Rattle.card_laws.specs.Worded.{childSpan, byChildren}
+use Rattle.card_laws.proofs.UnderLaws.{le-or-lt, Over, deeper, ends, split}
 
 shorter : (i : ℕ) (ns : List Node) → length (drop i ns) ≤ length ns
 shorter i ns = simp length-drop (omega arith)

@@ -9,7 +9,7 @@ use Rattle.card_nodes.specs.declared.find.Found.{Found}
 use Rattle.card_nodes.specs.declared.find.Found.the-variants.{Nothing}
 use Rattle.card_nodes.specs.Node.{rootNode}
 use Rattle.card_nodes.specs.Find.{areaOf}
-use Rattle.card_questions.specs.Worded.{byChildren}
+use Rattle.card_laws.specs.Worded.{byChildren}
 
 -- the first area of a code; FFFF is the system, and no area
 unfoldable pub areaNamed : List Node → ℕ → Found

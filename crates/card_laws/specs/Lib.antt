@@ -1,1 +1,6 @@
 pub mod Built
+-- What lies under an area, and its recursions as docs/RULES.md words them.
+pub mod Under
+pub mod Worded
+pub mod TotalsWorded
+pub mod Children

@@ -4,7 +4,7 @@ use mathlib.Core.List.{List}
 use Rattle.card_nodes.specs.declared.node.Entry.{Entry}
 use Rattle.card_nodes.specs.declared.node.Entry.the-variants.{Area, Service}
 use Rattle.card_nodes.specs.declared.node.Node.{Node}
-use Rattle.card_questions.specs.Worded.{byChildren}
+use Rattle.card_laws.specs.Worded.{byChildren}
 
 -- a service adds its blocks, a child area its total
 abbrev pub childTotal : Entry → ℕ → ℕ

@@ -7,7 +7,7 @@ use lib.ListN.{drop}
 use Rattle.card_nodes.specs.declared.node.Entry.{Entry}
 use Rattle.card_nodes.specs.declared.node.Entry.the-variants.{Area, Service}
 use Rattle.card_nodes.specs.declared.node.Node.{Node}
-use Rattle.card_questions.specs.Under.{spanUnder}
+use Rattle.card_laws.specs.Under.{spanUnder}
 
 -- how many of the nodes after a child are its own: those under an area, none of a service
 abbrev pub childSpan : Entry → ℕ → ℕ

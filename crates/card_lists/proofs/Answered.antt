@@ -15,7 +15,7 @@ use Rattle.card_build.specs.declared.card.Card.{Card}
 use Rattle.card_build.specs.Card.{nodesOf}
 use Rattle.card_laws.specs.Built.{Built}
 use Rattle.card_laws.proofs.Built.{built-sound}
-use Rattle.card_lists.specs.Children.{areaNamed, childrenAt}
+use Rattle.card_laws.specs.Children.{areaNamed, childrenAt}
 use Rattle.card_lists.specs.Packet.{among, rangesAmong, codesAmong, listOf, packetOf, pastEnd, moreAfter, packetTold, codeListOf, joined}
 use Rattle.card_lists.proofs.Packets.{packet-few, list-ranges, list-codes, ranges-all, codes-all}
 

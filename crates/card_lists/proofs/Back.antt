@@ -31,7 +31,7 @@ use Rattle.card_build.specs.declared.card.Card.{Card}
 use Rattle.card_build.specs.Card.{nodesOf, isSound}
 use Rattle.card_laws.specs.Built.{Built}
 use Rattle.card_laws.proofs.Built.{built-sound}
-use Rattle.card_lists.specs.Children.{areaNamed, childrenUnder, childrenAt}
+use Rattle.card_laws.specs.Children.{areaNamed, childrenUnder, childrenAt}
 use Rattle.card_lists.specs.Coded.{Coded}
 use Rattle.card_lists.specs.Packet.{among, areasAmong, servicesAmong, rangesAmong, codesAmong, listOf, packetOf, pastEnd, moreAfter, packetTold, listFound, codeListOf}
 use Rattle.card_lists.specs.Information.{freeBy, freeFor, informationOf, blocksOf}

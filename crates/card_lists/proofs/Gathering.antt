@@ -21,9 +21,9 @@ use Rattle.card_nodes.specs.declared.node.Node.{Node}
 use Rattle.card_nodes.specs.Node.{rootNode, isArea, isService}
 use Rattle.card_nodes.proofs.Scan.{Left, here, turn, done}
 use Rattle.card_questions.specs.ListingWorded.{pairsOf}
-use Rattle.card_questions.proofs.UnderLaws.{le-or-lt}
+use Rattle.card_laws.proofs.UnderLaws.{le-or-lt}
 use Rattle.card_lists.specs.declared.gather.Gathered.{Gathered}
-use Rattle.card_lists.specs.Children.{childrenUnder}
+use Rattle.card_laws.specs.Children.{childrenUnder}
 use Rattle.card_lists.specs.Gather.{nothingGathered, areaAdded, serviceAdded, childBy, childAdded, nodeAdded, gatheredFrom}
 use Rattle.card_lists.specs.Packet.{among, areasAmong, servicesAmong, rangesAmong, codesAmong, listOf}
 use Rattle.card_lists.proofs.Among.{among-append, pairs-append, map-append, pairs-long, all-among, ranges-long, codes-long}

@@ -1,5 +1,3 @@
--- The children of an area, as directory and totals have them.
-pub mod ChildLaws
 -- Packets one after the other, their flag and their end.
 pub mod Among
 pub mod Packets
@@ -9,3 +7,4 @@ mod Told
 -- What a card answers.
 pub mod Answered
 pub mod Back
+pub mod Free

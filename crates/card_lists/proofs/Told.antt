@@ -2,12 +2,12 @@
 use mathlib.Core.Path.{_≡_, refl, sym, _∙_, ap}
 use mathlib.Core.Bool.{Bool, true, false, cond}
 use mathlib.Core.List.{List, [], _∷_, map}
-use Prim.Native.Nat.{ℕ, zero, suc, _+_, _-_, _*_, _/_, _≤_, _<_, min}
+use Prim.Native.Nat.{ℕ, zero, suc, _+_, _-_, _*_, _≤_, _<_, min}
 use native.Mathlib.Nat.{zero-add}
 use native.Mathlib.Omega.{arith}
 use lib.Dec.{ltb, leb}
 use lib.ListN.{length, take, drop, getD, set, replicate, length-map}
-use borrow.Author.Tests.{lt-ltb, le-ltb}
+use borrow.Author.Tests.{ltb-false}
 use Rattle.answers.specs.declared.refusal.Answer.{Answer}
 use Rattle.answers.specs.declared.refusal.Answer.the-variants.{Done, Refused}
 use Rattle.answers.specs.declared.refusal.Refusal.{Refusal}
@@ -34,11 +34,11 @@ use Rattle.card_questions.specs.Total.{totalOf}
 use Rattle.card_build.specs.declared.card.Card.{Card}
 use Rattle.card_build.specs.Card.{nodesOf, isSound}
 use Rattle.card_lists.specs.declared.gather.Gathered.{Gathered}
-use Rattle.card_lists.specs.Children.{areaNamed, childrenAt}
+use Rattle.card_laws.specs.Children.{areaNamed, childrenAt}
 use Rattle.card_lists.specs.Gather.{nothingGathered, gatheredFrom}
 use Rattle.card_lists.specs.Packet.{pastEnd, moreAfter, listMore, packetTold, listFound, codeListOf, codeListPut, codeListOut}
-use Rattle.card_lists.specs.Information.{freeFor, informationOf, blocksOf, blocksPut, blocksOut}
-use Rattle.card_lists.proofs.ChildLaws.{named}
+use Rattle.card_lists.specs.Information.{freeFor, informationOf, aheadOf, blocksOf, blocksPut, blocksOut}
+use Rattle.card_laws.proofs.ChildLaws.{named}
 use Rattle.card_lists.proofs.Gathering.{stateOf, gathered-all}
 
 module _ {nodes : List Node} {count : ℕ} (r : Records nodes count) (parent : ℕ) {f : Found} {at : ℕ} (told : f ≡ areaNamed (take count nodes) parent) (e : f ≡ At at) where
@@ -80,25 +80,48 @@ map-read f [] i h = absurd (omega arith)
 map-read f (x ∷ l) zero h = refl
 map-read f (x ∷ l) (suc i) h = map-read f l i (omega arith)
 
--- block information, where 8, 7 and 46 are not given
+-- block information that an answer refuses, and that is else told
+abbrev unless : Informed → Answer → Informed
+unless rest (Refused r) = informationRefused r
+unless rest Done = rest
+
+-- 7 and 46 as one answer
+as-one : (rest : Informed) (short many : Bool) →
+    unless rest (cond short (Refused ShortArena) (cond many (Refused TooManyNodes) Done))
+    ≡ cond short (informationRefused ShortArena) (cond many (informationRefused TooManyNodes) rest)
+as-one rest true many = refl
+as-one rest false true = refl
+as-one rest false false = refl
+
+-- once nothing is ahead, few are asked
+few : (short many : Bool) → cond short (Refused ShortArena) (cond many (Refused TooManyNodes) Done) ≡ Done → many ≡ false
+few true many e = absurd (let z : _≡_ {A = ℕ} 0 1 = cc in (omega arith))
+few false true e = absurd (let z : _≡_ {A = ℕ} 0 1 = cc in (omega arith))
+few false false e = refl
+
+-- block information: 8, what is ahead, the counts
 module _ (c : Card) (arenaLen : ℕ) (asked : List ℕ) where
   pub info-unsound : isSound c ≡ false → informationRefused NotBuilt ≡ blocksOf c arenaLen asked
   unfolding blocksOf
   info-unsound s = rw s
 
-  module _ (s : isSound c ≡ true) where
-    pub info-short : arenaLen / 16 < c .used → informationRefused ShortArena ≡ blocksOf c arenaLen asked
-    unfolding blocksOf
-    info-short h = rw (s, lt-ltb arenaLen (16 * c .used) (omega arith))
+  module _ (s : isSound c ≡ true) {a : Answer} (told : a ≡ aheadOf arenaLen (c .used) (length asked)) where
+    ordered : {b : Answer} → a ≡ b → unless (informationOf (nodesOf c) (usable arenaLen - c .used) asked) b ≡ blocksOf c arenaLen asked
+    unfolding blocksOf aheadOf
+    ordered e =
+        ap (unless (informationOf (nodesOf c) (usable arenaLen - c .used) asked)) (sym e ∙ told)
+        ∙ as-one (informationOf (nodesOf c) (usable arenaLen - c .used) asked) (ltb arenaLen (16 * c .used)) (ltb 32 (length asked))
+        ∙ rw s
 
-    module _ (h : c .used ≤ arenaLen / 16) where
-      pub info-many : 32 < length asked → informationRefused TooManyNodes ≡ blocksOf c arenaLen asked
-      unfolding blocksOf
-      info-many k = rw (s, le-ltb arenaLen (16 * c .used) (omega arith), lt-ltb 32 (length asked) k)
+    pub info-refused : {r : Refusal} → a ≡ Refused r → informationRefused r ≡ blocksOf c arenaLen asked
+    info-refused e = ordered e
 
-      pub info-told : {u : ℕ} {x : Informed} → length asked ≤ 32 → u ≡ usable arenaLen - c .used → x ≡ informationOf (nodesOf c) u asked → x ≡ blocksOf c arenaLen asked
-      unfolding blocksOf
-      info-told k e q = q ∙ rw (s, le-ltb arenaLen (16 * c .used) (omega arith), le-ltb 32 (length asked) k, e)
+    pub info-few : a ≡ Done → length asked ≤ 32
+    unfolding aheadOf
+    info-few e = ltb-false 32 (length asked) (few (ltb arenaLen (16 * c .used)) (ltb 32 (length asked)) (sym told ∙ e))
+
+    pub info-told : {u : ℕ} {x : Informed} → a ≡ Done → u ≡ usable arenaLen - c .used → x ≡ informationOf (nodesOf c) u asked → x ≡ blocksOf c arenaLen asked
+    info-told e k q = q ∙ ap (λ (n : ℕ). informationOf (nodesOf c) n asked) k ∙ ordered e
 
 -- the counts of the first i nodes, in front of zeros
 abbrev pub counted : (ℕ → ℕ) → List ℕ → ℕ → List ℕ

@@ -4,6 +4,8 @@ use mathlib.Core.List.{List, map}
 use mathlib.Core.Bool.{cond, not}
 use lib.Dec.{ltb}
 use lib.ListN.{length}
+use Rattle.answers.specs.declared.refusal.Answer.{Answer}
+use Rattle.answers.specs.declared.refusal.Answer.the-variants.{Done, Refused}
 use Rattle.answers.specs.declared.refusal.Refusal.the-variants.{NotBuilt, ShortArena, TooManyNodes}
 use Rattle.byte_parts.specs.Part.{padded}
 use Rattle.node_messages.specs.declared.information.Informed.{Informed}
@@ -16,7 +18,7 @@ use Rattle.card_admit.specs.Admit.{usable}
 use Rattle.card_questions.specs.Total.{totalOf}
 use Rattle.card_build.specs.declared.card.Card.{Card}
 use Rattle.card_build.specs.Card.{nodesOf, isSound}
-use Rattle.card_lists.specs.Children.{areaNamed}
+use Rattle.card_laws.specs.Children.{areaNamed}
 use Rattle.card_lists.specs.Packet.{putAnswered, outAnswered}
 
 -- free are the unused blocks for an area, and none for any other node
@@ -34,6 +36,13 @@ informationOf ns unused asked = informationTold (record {
   assigned = padded 32 (map (totalOf ns) asked);
   free = padded 32 (map (freeFor ns unused) asked);
 })
+
+-- what is refused ahead of any node, in an arena of `arenaLen` bytes: 7, then 46
+unfoldable pub aheadOf : ℕ → ℕ → ℕ → Answer
+aheadOf arenaLen used many =
+    cond (ltb arenaLen (16 * used)) (Refused ShortArena)
+    (cond (ltb mostNodes many) (Refused TooManyNodes)
+    Done)
 
 -- what a card answers: 8, then 7 and 46
 unfoldable pub blocksOf : Card → ℕ → List ℕ → Informed

@@ -1,4 +1,3 @@
-pub mod Children
 pub mod Gather
 pub mod Packet
 pub mod Information

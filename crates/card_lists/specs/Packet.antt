@@ -22,7 +22,7 @@ use Rattle.card_nodes.specs.Node.{isArea, isService}
 use Rattle.card_questions.specs.ListingWorded.{pairsOf}
 use Rattle.card_build.specs.declared.card.Card.{Card}
 use Rattle.card_build.specs.Card.{nodesOf, isSound}
-use Rattle.card_lists.specs.Children.{areaNamed, childrenAt}
+use Rattle.card_laws.specs.Children.{areaNamed, childrenAt}
 
 -- the nodes of a kind
 unfoldable pub among : (Entry → Bool) → List Node → List Node

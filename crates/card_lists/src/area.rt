@@ -4,7 +4,7 @@ use card_nodes::find::Found;
 use card_nodes::node::Node;
 ghost use mathlib.Core.Path.{_≡_};
 ghost use lib.ListN.{take};
-ghost use Rattle.card_lists.specs.Children.{areaNamed};
+ghost use Rattle.card_laws.specs.Children.{areaNamed};
 
 // The first area of `code` among `count` nodes. FFFF names the system, which is no area.
 pub(crate) fn area_named(nodes: [Node; 64], count: usize, code: u16) -> Found

@@ -14,7 +14,7 @@ ghost use mathlib.Core.Path.{_≡_};
 ghost use Prim.Native.Nat.{_≤_, _-_};
 ghost use lib.ListN.{length, take};
 ghost use Rattle.card_admit.specs.Admit.{usable};
-ghost use Rattle.card_lists.specs.Information.{freeFor, informationOf, blocksOf, blocksPut, blocksOut};
+ghost use Rattle.card_lists.specs.Information.{freeFor, informationOf, aheadOf, blocksOf, blocksPut, blocksOut};
 
 // The blocks free for the node of `code`: all that are unused for an area, none for any other.
 fn free_for(nodes: [Node; 64], count: usize, unused: u16, code: u16) -> u16
@@ -60,6 +60,21 @@ fn information_of(nodes: [Node; 64], count: usize, unused: u16, asked: &[u16]) -
     }
 }
 
+// What is refused ahead of any node, of an arena of `arena_len` bytes and of so many nodes asked, or nothing.
+fn ahead(arena_len: usize, used: usize, many: usize) -> Answer
+    ensures { λ r. ⌜ r ≡ aheadOf «arena_len» used many ⌝ }
+{
+    // 7
+    if arena_len / 16 < used {
+        return Answer::Refused(Refusal::ShortArena);
+    }
+    // 46
+    if 32 < many {
+        return Answer::Refused(Refusal::TooManyNodes);
+    }
+    Answer::Done
+}
+
 // The blocks of the nodes `asked`: assigned counts by the block total, and free counts. Refusals 8, 7, 46.
 pub fn block_information(card: Card, arena: &[u8], asked: &[u16]) -> Informed
     ensures { λ r. ⌜ r ≡ blocksOf card (length (now (arena .entry))) (now (asked .entry)) ⌝ }
@@ -68,13 +83,9 @@ pub fn block_information(card: Card, arena: &[u8], asked: &[u16]) -> Informed
     if !card.is_sound() {
         return Informed::refused(Refusal::NotBuilt);
     }
-    // 7
-    if arena.len() / 16 < card.used {
-        return Informed::refused(Refusal::ShortArena);
-    }
-    // 46
-    if 32 < asked.len() {
-        return Informed::refused(Refusal::TooManyNodes);
+    // 7, 46
+    if let Answer::Refused(refusal) = ahead(arena.len(), card.used, asked.len()) {
+        return Informed::refused(refusal);
     }
     let nodes = card.nodes;
     information_of(

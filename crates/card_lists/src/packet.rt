@@ -11,9 +11,17 @@ use node_messages::code_list::CodeList;
 use node_messages::code_list::Listed;
 use node_messages::message::Put;
 ghost use mathlib.Core.Path.{_≡_};
+ghost use Prim.Native.Nat.{_*_};
 ghost use lib.ListN.{length, take};
-ghost use Rattle.card_lists.specs.Children.{areaNamed};
+ghost use Rattle.card_laws.specs.Children.{areaNamed};
 ghost use Rattle.card_lists.specs.Packet.{pastEnd, listMore, listFound, codeListOf, codeListPut, codeListOut};
+
+// How many children come ahead of those of a packet.
+fn passed(packet: u32) -> usize
+    ensures { λ r. ⌜ r ≡ 16 * packet ⌝ }
+{
+    16 * packet as usize
+}
 
 // Whether a packet lies past the end of so many children. Packet 0 never does.
 fn is_past_end(packet: u32, children: usize) -> bool
@@ -22,7 +30,7 @@ fn is_past_end(packet: u32, children: usize) -> bool
     if packet == 0 {
         return false;
     }
-    children <= 16 * packet as usize
+    children <= passed(packet)
 }
 
 // A packet, with its flag.
@@ -44,7 +52,7 @@ fn packet_under(nodes: [Node; 64], count: usize, parent: u16, packet: u32) -> Li
     let Found::At(at) = area::area_named(nodes, count, parent) else {
         return Listed::refused(Refusal::ParentNoArea);
     };
-    let first = 16 * packet as usize;
+    let first = passed(packet);
     let held = gather::gather(nodes, count, at, first);
     // 45
     if is_past_end(packet, held.children) {

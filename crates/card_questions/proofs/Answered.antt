@@ -13,7 +13,7 @@ use Rattle.card_nodes.proofs.Records.{Records}
 use Rattle.card_questions.specs.declared.listing.Listing.{Listing}
 use Rattle.card_questions.specs.declared.listing.Listing.the-variants.{Listed, Refused}
 use Rattle.card_questions.specs.Directory.{directoryOf, listedOf, listingOf, outAfter}
-use Rattle.card_questions.proofs.UnderLaws.{take-most}
+use Rattle.card_laws.proofs.UnderLaws.{take-most}
 use Rattle.card_questions.specs.declared.table.Column.the-variants.{Depth, Code, Second}
 use Rattle.card_questions.specs.Table.{cellOf, pastOf, pairsFrom}
 use Rattle.card_questions.proofs.Columns.{column-take, listed-column, directory-column}

@@ -14,13 +14,12 @@ use Rattle.card_nodes.specs.declared.node.Node.{Node}
 use Rattle.card_nodes.specs.Node.{rootNode, blocksOf}
 use Rattle.card_questions.specs.declared.table.Column.{Column}
 use Rattle.card_questions.specs.declared.table.Column.the-variants.{Depth, Code, Second, Blocks}
-use Rattle.card_questions.specs.Under.{spanUnder}
+use Rattle.card_laws.specs.Under.{spanUnder, sumUnder}
 use Rattle.card_questions.specs.Directory.{secondOf, pairOf, pairsUnder, directoryOf, listedOf}
-use Rattle.card_questions.specs.Total.{sumUnder}
 use Rattle.card_questions.specs.Table.{cellOf, spanBelow, pastOf, pairsFrom, ownAt, sumFrom}
-use Rattle.card_questions.proofs.UnderLaws.{le-or-lt, spans, deeper, ends}
+use Rattle.card_laws.proofs.UnderLaws.{le-or-lt, spans, deeper, ends}
 use Rattle.card_questions.proofs.ListingWorded.{pairs}
-use Rattle.card_questions.proofs.TotalsWorded.{sums}
+use Rattle.card_laws.proofs.TotalsWorded.{sums}
 
 -- a column of some nodes is that part of the column
 pub column-take : (c : Column) (n : ℕ) (ns : List Node) → take n (map (cellOf c) ns) ≡ map (cellOf c) (take n ns)

@@ -11,7 +11,7 @@ use Rattle.card_nodes.specs.Node.{blocksOf}
 use Rattle.card_nodes.specs.Find.{serviceOf, areaOf}
 use Rattle.card_nodes.proofs.Searches.{first-below, in-range}
 use Rattle.card_nodes.proofs.Records.{Records, found-node}
-use Rattle.card_questions.proofs.UnderLaws.{take-most}
+use Rattle.card_laws.proofs.UnderLaws.{take-most}
 use Rattle.card_questions.specs.declared.table.Column.the-variants.{Depth, Second, Blocks}
 use Rattle.card_questions.specs.Table.{cellOf, pastOf, sumFrom}
 use Rattle.card_questions.specs.Total.{areaTotal, totalOf}

@@ -1,7 +1,5 @@
 pub mod UnderLaws
-pub mod Worded
 pub mod ListingWorded
-pub mod TotalsWorded
 pub mod BuiltCards
 mod TableLaws
 mod Filled

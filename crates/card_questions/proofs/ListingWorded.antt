@@ -6,8 +6,8 @@ use native.Mathlib.Omega.{arith}
 use lib.ListN.{length, getD}
 use Rattle.card_nodes.specs.declared.node.Node.{Node}
 use Rattle.card_nodes.specs.Node.{rootNode}
-use Rattle.card_questions.proofs.UnderLaws.{Over, spans}
-use Rattle.card_questions.proofs.Worded.{worded, all-under}
+use Rattle.card_laws.proofs.UnderLaws.{Over, spans}
+use Rattle.card_laws.proofs.Worded.{worded, all-under}
 use Rattle.card_questions.specs.Directory.{pairOf, pairsUnder, directoryOf, listedOf}
 use Rattle.card_questions.specs.ListingWorded.{pairsWorded, pairsOf}
 

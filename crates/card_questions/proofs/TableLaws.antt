@@ -10,7 +10,7 @@ use lib.ListN.{length, take, drop, getD, set, drop-of-length-le, length-drop}
 use lib.Seq.{sets, drop-cons, drop-drop, length-sets}
 use borrow.Author.Tests.{le-leb, lt-leb, eq-eqb, ne-eqb}
 use Rattle.card_questions.specs.Table.{spanBelow, pastOf, pairsFrom, ownAt, sumFrom}
-use Rattle.card_questions.proofs.UnderLaws.{le-or-lt}
+use Rattle.card_laws.proofs.UnderLaws.{le-or-lt}
 
 -- a deeper node lies under the area, and so may those after it
 below-deeper : (d e : ℕ) (es : List ℕ) → d < e → spanBelow d (e ∷ es) ≡ suc (spanBelow d es)

@@ -11,7 +11,7 @@ use Rattle.card_nodes.specs.declared.node.Entry.the-variants.{Area, Service}
 use Rattle.card_nodes.specs.declared.node.Node.{Node}
 use Rattle.card_questions.specs.declared.listing.Listing.{Listing}
 use Rattle.card_questions.specs.declared.listing.Listing.the-variants.{Listed, Refused}
-use Rattle.card_questions.specs.Under.{spanUnder}
+use Rattle.card_laws.specs.Under.{spanUnder}
 use Rattle.card_build.specs.declared.card.Card.{Card}
 use Rattle.card_build.specs.Card.{nodesOf, isSound}
 

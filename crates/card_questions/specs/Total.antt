@@ -1,8 +1,7 @@
 -- Block totals.
 use Prim.Native.Nat.{ℕ, _+_, min}
-use mathlib.Core.List.{List, [], _∷_}
+use mathlib.Core.List.{List}
 use mathlib.Core.Bool.{cond, not}
-use lib.Dec.{leb}
 use lib.ListN.{drop, getD}
 use Rattle.answers.specs.declared.refusal.Refusal.the-variants.{NotBuilt}
 use Rattle.answers.specs.declared.refusal.Told.{Told}
@@ -14,11 +13,7 @@ use Rattle.card_nodes.specs.Node.{rootNode, blocksOf}
 use Rattle.card_nodes.specs.Find.{serviceOf, areaOf}
 use Rattle.card_build.specs.declared.card.Card.{Card}
 use Rattle.card_build.specs.Card.{nodesOf, isSound}
-
--- the blocks of the services under an area of depth d, a joined store once for each service
-unfoldable pub sumUnder : ℕ → List Node → ℕ
-sumUnder d [] = 0
-sumUnder d (n ∷ ns) = cond (leb (n .depth) d) 0 (blocksOf (n .entry) + sumUnder d ns)
+use Rattle.card_laws.specs.Under.{sumUnder}
 
 -- the most that an answer says
 abbrev pub mostTold : ℕ

@@ -2,7 +2,7 @@
 use mathlib.Core.Path.{_∙_}
 use borrow.Author.Needs.{needs}
 use Rattle.byte_parts.proofs.Tests.{tests}
-use Rattle.card_lists.specs.Children.{areaNamed}
+use Rattle.card_laws.specs.Children.{areaNamed}
 use Rattle.card_lists.proofs.area.area_named.Statement.{statement}
 use Rattle.card_lists.proofs.area.area_named.Tie as tie
 
