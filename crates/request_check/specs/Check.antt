@@ -28,6 +28,18 @@ attributeCheck write a mode =
     (cond (write && (eqb mode 1 && not (allowsCashback a))) (Failed NoCashback)
     Passed)
 
+-- A5: the key, then those of the attribute
+unfoldable pub accessCheck : ℕ → ServiceAttribute → Bool → Bool → ℕ → Check
+accessCheck code a write «open» mode =
+    cond («open» && requiresKey code) (Failed KeyNeeded)
+    (attributeCheck write a mode)
+
+-- A8: a store of so many blocks has none of that number
+abbrev pub blockCheck : ℕ → ℕ → Check
+blockCheck blocks number =
+    cond (leb blocks number) (Failed BlockNumber)
+    Passed
+
 -- a check, then another if it passed
 abbrev pub thenCheck : Check → Check → Check
 thenCheck Passed more = more

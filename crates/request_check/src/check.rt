@@ -9,12 +9,12 @@ use service_code::code::Decoded;
 use service_code::code::ServiceAttribute;
 use service_code::code::ServiceCode;
 ghost use mathlib.Core.Path.{_≡_};
-ghost use mathlib.Core.Bool.{not, _&&_};
+ghost use mathlib.Core.Bool.{true, not, _&&_};
 ghost use lib.Dec.{eqb};
 ghost use lib.ListN.{take};
-ghost use Rattle.service_code.specs.Code.{requiresKey, allowsWrite, allowsCashback};
+ghost use Rattle.service_code.specs.Code.{requiresKey, allowsCashback};
 ghost use Rattle.block_list.specs.Element.{elementsFrom};
-ghost use Rattle.request_check.specs.Check.{modeAllowed, serviceCheck, rowCheck, namedCheck, checkedFrom};
+ghost use Rattle.request_check.specs.Check.{modeAllowed, attributeCheck, accessCheck, blockCheck, serviceCheck, definedCheck, rowCheck, namedCheck, checkedFrom};
 
 // How an element's check ended.
 pub enum Check {
@@ -46,31 +46,60 @@ fn key_missing(open: bool, code: u16) -> bool
     }
 }
 
-// Tells whether a write meets a read-only service.
-fn read_only(write: bool, attribute: ServiceAttribute) -> bool
-    ensures { λ r. ⌜ r ≡ (write && not (allowsWrite attribute)) ⌝ }
+// Tells whether an access mode is the one of cashback, on a service that gives none.
+fn no_cashback(attribute: ServiceAttribute, mode: u8) -> bool
+    ensures { λ r. ⌜ r ≡ (eqb mode 1 && not (allowsCashback attribute)) ⌝ }
 {
-    if write {
-        !attribute.allows_write()
-    } else {
-        false
-    }
-}
-
-// Tells whether a write in mode 1 meets a service that gives no cashback.
-fn no_cashback(write: bool, attribute: ServiceAttribute, mode: u8) -> bool
-    ensures { λ r. ⌜ r ≡ (write && (eqb mode 1 && not (allowsCashback attribute))) ⌝ }
-{
-    if !write {
-        return false;
-    }
     if mode != 1 {
         return false;
     }
     !attribute.allows_cashback()
 }
 
-// Checks what the service of a row lets a request do, and that its store has the block.
+// Checks what a service's attribute lets a write do in an access mode.
+fn write_check(attribute: ServiceAttribute, mode: u8) -> Check
+    ensures { λ r. ⌜ r ≡ attributeCheck true attribute mode ⌝ }
+{
+    if !attribute.allows_write() {
+        return Check::Failed(Fault::ReadOnly); // A5
+    }
+    if no_cashback(attribute, mode) {
+        return Check::Failed(Fault::NoCashback); // A5
+    }
+    Check::Passed
+}
+
+// Checks what a service's attribute lets a request do; a read may do anything.
+fn attribute_check(write: bool, attribute: ServiceAttribute, mode: u8) -> Check
+    ensures { λ r. ⌜ r ≡ attributeCheck write attribute mode ⌝ }
+{
+    if !write {
+        return Check::Passed;
+    }
+    write_check(attribute, mode)
+}
+
+// Checks what a service lets a request do: the key is asked for first.
+fn access_check(code: u16, attribute: ServiceAttribute, write: bool, open: bool, mode: u8) -> Check
+    ensures { λ r. ⌜ r ≡ accessCheck code attribute write «open» mode ⌝ }
+{
+    if key_missing(open, code) {
+        return Check::Failed(Fault::KeyNeeded); // A5
+    }
+    attribute_check(write, attribute, mode)
+}
+
+// Checks that a store of so many blocks has one of a number.
+fn block_check(blocks: u16, number: u16) -> Check
+    ensures { λ r. ⌜ r ≡ blockCheck blocks number ⌝ }
+{
+    if blocks <= number {
+        return Check::Failed(Fault::BlockNumber); // A8
+    }
+    Check::Passed
+}
+
+// Checks what the service of a row lets a request do, then that its store has the block.
 fn service_check(
     row: Row,
     attribute: ServiceAttribute,
@@ -81,34 +110,18 @@ fn service_check(
 ) -> Check
     ensures { λ r. ⌜ r ≡ serviceCheck row attribute write «open» number mode ⌝ }
 {
-    let keyless = key_missing(open, row.code);
-    let fixed = read_only(write, attribute);
-    let cashless = no_cashback(write, attribute, mode);
-    let beyond = row.blocks <= number;
-    if keyless {
-        return Check::Failed(Fault::KeyNeeded); // A5
+    if let Check::Failed(fault) = access_check(row.code, attribute, write, open, mode) {
+        return Check::Failed(fault);
     }
-    if fixed {
-        return Check::Failed(Fault::ReadOnly); // A5
-    }
-    if cashless {
-        return Check::Failed(Fault::NoCashback); // A5
-    }
-    if beyond {
-        return Check::Failed(Fault::BlockNumber); // A8
-    }
-    Check::Passed
+    block_check(row.blocks, number)
 }
 
-// Checks an element's mode and number against the row that it names.
-fn row_check(row: Row, write: bool, open: bool, number: u16, mode: u8) -> Check
-    ensures { λ r. ⌜ r ≡ rowCheck row write «open» number mode ⌝ }
+// Checks that a row is that of a service on the card, then what the service lets a request do.
+fn defined_check(row: Row, write: bool, open: bool, number: u16, mode: u8) -> Check
+    ensures { λ r. ⌜ r ≡ definedCheck row write «open» number mode (row .attribute) ⌝ }
 {
     let decoded = row.attribute;
     let found = row.found;
-    if !mode_allowed(write, mode) {
-        return Check::Failed(Fault::AccessMode); // A7
-    }
     let Decoded::Defined(attribute) = decoded else {
         return Check::Failed(Fault::Attribute); // A4: undefined, or FFFF
     };
@@ -116,6 +129,16 @@ fn row_check(row: Row, write: bool, open: bool, number: u16, mode: u8) -> Check
         return Check::Failed(Fault::NoService); // A6
     }
     service_check(row, attribute, write, open, number, mode)
+}
+
+// Checks an element's mode, then its number against the row that it names.
+fn row_check(row: Row, write: bool, open: bool, number: u16, mode: u8) -> Check
+    ensures { λ r. ⌜ r ≡ rowCheck row write «open» number mode ⌝ }
+{
+    if !mode_allowed(write, mode) {
+        return Check::Failed(Fault::AccessMode); // A7
+    }
+    defined_check(row, write, open, number, mode)
 }
 
 // Checks one element against the row at its index, of which the first `count` are the codes'.

@@ -70,6 +70,13 @@ fn row_by(code: u16, entry: Entry) -> Row
     }
 }
 
+// Gives the row of a code that is no service's.
+fn unknown_row(code: u16) -> Row
+    ensures { λ r. ⌜ r ≡ rowBy code (Entry.Area 0) ⌝ }
+{
+    row_by(code, Entry::Area { end: 0 })
+}
+
 // Looks a code up among the first `count` nodes: its row is that of the first service of the code.
 pub fn row_of(nodes: [Node; 64], count: usize, code: u16) -> Row
     ensures { λ r. ⌜ r ≡ rowOf (take count nodes) code ⌝ }
@@ -80,7 +87,7 @@ pub fn row_of(nodes: [Node; 64], count: usize, code: u16) -> Row
             let entry = node.entry;
             row_by(code, entry)
         }
-        Found::Nothing => row_by(code, Entry::Area { end: 0 }),
+        Found::Nothing => unknown_row(code),
     }
 }
 
@@ -95,7 +102,7 @@ pub fn table_of(nodes: [Node; 64], count: usize, codes: &[u16]) -> Table
     let mut i = 0;
     while i < n {
         let code = codes[i];
-        rows[i] = row_by(code, Entry::Area { end: 0 });
+        rows[i] = unknown_row(code);
         let mut k = 0;
         while k < taken {
             let node = nodes[k];

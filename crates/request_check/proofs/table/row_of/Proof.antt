@@ -23,7 +23,7 @@ returns c =
 returns-2 : tie.Need-returns-2
 returns-2 c =
     let f = c .before .before .before in
-    c .row-by2 .ensures ∙ no-service (records (f .before)) _ (f .find-service .ensures) (c .before .enum-told .given .1)
+    c .unknown-row .ensures ∙ no-service (records (f .before)) _ (f .find-service .ensures) (c .before .enum-told .given .1)
 
 pub row-of-spec : {M : Type 1} → statement M
 row-of-spec =

@@ -65,7 +65,7 @@ looked c =
     let inv = c .before .loop2 .inv in
     ⊎-elim
     (λ w.
-    filled-once (b .row-by .ensures ∙ no-service r _ refl (sym (done (inv .1) (omega arith)))) (l .loop .rows) (l .loop .i) (w .1 ∙ inv .0))
+    filled-once (b .unknown-row .ensures ∙ no-service r _ refl (sym (done (inv .1) (omega arith)))) (l .loop .rows) (l .loop .i) (w .1 ∙ inv .0))
     (λ w.
     filled-anew
     (w .4 .ensures ∙ found-row r _ refl (sym (hit _ _ (inv .1) (omega arith) (sym (w .2 .ensures) ∙ w .3 .taken))) _)
