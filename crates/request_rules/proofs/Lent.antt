@@ -1,16 +1,20 @@
 -- A rule on a part that was lent is the rule on the whole. Assumes nothing.
 use Prim.Native.Nat.{ℕ, _+_, _-_, _*_, _≤_}
 use native.Mathlib.Omega.{arith}
-use mathlib.Core.Path.{_≡_, ap, _∙_}
+use mathlib.Core.Path.{_≡_, refl, ap, _∙_}
+use mathlib.Core.Bool.{Bool, true, false, cond}
 use mathlib.Core.List.{List, _++_}
+use lib.Dec.{eqb}
 use lib.ListN.{length, take, drop}
 use Rattle.byte_parts.specs.Part.{part, put}
 use Rattle.byte_parts.proofs.Part.{length-part, put-part, put-lent}
+use Rattle.answers.specs.declared.status.Fault.the-variants.{CyclicBlock}
 use Rattle.answers.specs.declared.status.Written.{Written}
+use Rattle.answers.specs.declared.status.Written.the-variants.{Done, Failed}
 use Rattle.answers.specs.Outcome.{Outcome, passed, failed, writtenOf, bytesAfter}
 use Rattle.request_check.specs.declared.table.Row.{Row}
 use Rattle.request_rules.specs.Lens.{back, within}
-use Rattle.request_rules.specs.Rules.{onStore}
+use Rattle.request_rules.specs.Rules.{cyclicElement, onStore}
 
 -- what a function that keeps a rule tells: how it ended, and the bytes that it left
 abbrev pub Told : List ℕ → Outcome → Written → List ℕ → Type 0
@@ -44,3 +48,12 @@ pub store-lent
     → Told s (onStore w rule s) r (take at s ++ (ys ++ drop size (drop at s)))
 unfolding onStore
 store-lent w s rule r ys fits l e = within-lent s (16 * w .start) (16 * w .blocks) rule fits r ys l e
+
+-- an element of a cyclic store leaves it as it was
+pub cyclic-ends : (number : ℕ) (s : List ℕ) {r : Written} → r ≡ cyclicElement number → Told s (cond (eqb number 0) (passed s) (failed CyclicBlock)) r s
+unfolding cyclicElement
+cyclic-ends number s e = by-test (eqb number 0) e
+  where
+    by-test : (b : Bool) {r : Written} → r ≡ cond b Done (Failed CyclicBlock) → Told s (cond b (passed s) (failed CyclicBlock)) r s
+    by-test true e = (e, refl)
+    by-test false e = (e, refl)

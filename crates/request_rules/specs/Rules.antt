@@ -7,6 +7,8 @@ use Rattle.service_code.specs.declared.code.Decoded.{Decoded}
 use Rattle.service_code.specs.declared.code.Decoded.the-variants.{Defined, Undefined}
 use Rattle.service_code.specs.declared.code.ServiceAttribute.the-variants.{RandomReadWrite, RandomReadOnly, CyclicReadWrite, CyclicReadOnly, PurseDirect, PurseCashback, PurseDecrement, PurseReadOnly}
 use Rattle.answers.specs.declared.status.Fault.the-variants.{Attribute, ReadOnly, CyclicBlock}
+use Rattle.answers.specs.declared.status.Written.{Written}
+use Rattle.answers.specs.declared.status.Written.the-variants.{Done, Failed}
 use Rattle.byte_parts.specs.Part.{put}
 use Rattle.rule_purse.specs.declared.fields.PurseOperation.{PurseOperation}
 use Rattle.rule_purse.specs.declared.fields.PurseOperation.the-variants.{Direct, Decrement, Cashback}
@@ -24,6 +26,10 @@ purseIn operation limit number block store = within (16 * number) 16 (λ b. purs
 -- a cashback service in mode 1 gives cashback, in mode 0 it decrements
 unfoldable pub cashbackIn : ℕ → PurseOperation
 cashbackIn mode = cond (eqb mode 1) Cashback Decrement
+
+-- how an element of a cyclic store ends: it must name block 0
+unfoldable pub cyclicElement : ℕ → Written
+cyclicElement number = cond (eqb number 0) Done (Failed CyclicBlock)
 
 -- One element with its sixteen bytes. Random: the block is replaced. Cyclic: it must name block 0, and the run's end does the rest.
 -- Purse: by the attribute, and for cashback by the mode too.

@@ -12,7 +12,7 @@ ghost use mathlib.Core.Path.{_≡_};
 ghost use Prim.Native.Nat.{_+_, _*_, _≤_};
 ghost use lib.ListN.{length};
 ghost use Rattle.answers.specs.Outcome.{writtenOf, bytesAfter};
-ghost use Rattle.request_rules.specs.Rules.{purseIn, cashbackIn, elementBy, endBy, onStore};
+ghost use Rattle.request_rules.specs.Rules.{purseIn, cashbackIn, cyclicElement, elementBy, endBy, onStore};
 
 // Applies a purse operation to block `number` of a purse store, with the element's sixteen bytes.
 fn purse_in(
@@ -41,6 +41,17 @@ fn cashback_in(mode: u8) -> PurseOperation
     }
 }
 
+// Tells how an element of a cyclic store ends: it must name block 0.
+fn cyclic_element(number: u16) -> Written
+    ensures { λ r. ⌜ r ≡ cyclicElement number ⌝ }
+{
+    if number == 0 {
+        Written::Done
+    } else {
+        Written::Failed(Fault::CyclicBlock)
+    }
+}
+
 // Carries out one element on its store by the service's attribute, `block` being its sixteen bytes: a random block is replaced, a cyclic
 // element must name block 0 (the run's end does the rest), a purse follows its operation.
 fn element_by(
@@ -61,13 +72,7 @@ fn element_by(
             Written::Done
         }
         ServiceAttribute::RandomReadOnly => Written::Failed(Fault::ReadOnly),
-        ServiceAttribute::CyclicReadWrite => {
-            if number == 0 {
-                Written::Done
-            } else {
-                Written::Failed(Fault::CyclicBlock)
-            }
-        }
+        ServiceAttribute::CyclicReadWrite => cyclic_element(number),
         ServiceAttribute::CyclicReadOnly => Written::Failed(Fault::ReadOnly),
         ServiceAttribute::PurseDirect => {
             purse_in(store, block, PurseOperation::Direct, limit, number)
