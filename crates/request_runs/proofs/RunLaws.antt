@@ -91,9 +91,9 @@ module _ {E : Type 0} (key : E → ℕ) where
             run-step s′ o = rw (eq-eqb (key x) (key k) same, o)
 
             -- an element of the run that fails
-            pub run-fails : (f : Fault) → one i x s ≡ bad i f → within-run m i s (x ∷ xs) ≡ bad i f
+            pub run-fails : (j : ℕ) (f : Fault) → one i x s ≡ bad j f → within-run m i s (x ∷ xs) ≡ bad j f
             unfolding within-run then
-            run-fails f o = rw (eq-eqb (key x) (key k) same, o)
+            run-fails j f o = rw (eq-eqb (key x) (key k) same, o)
 
           -- an element of another key ends the run
           pub run-stops : (key x ≡ key k → ⊥) → within-run m i s (x ∷ xs) ≡ after-run m i s (x ∷ xs)
@@ -112,9 +112,9 @@ module _ {E : Type 0} (key : E → ℕ) where
           end-passes s′ o = rw o
 
           -- a run whose end fails
-          pub end-fails : (f : Fault) → close at k m s ≡ bad at f → after-run m i s xs ≡ bad at f
+          pub end-fails : (j : ℕ) (f : Fault) → close at k m s ≡ bad j f → after-run m i s xs ≡ bad j f
           unfolding after-run then
-          end-fails f o = rw o
+          end-fails j f o = rw o
 
     module _ (at : ℕ) (s : S) where
       -- a run in front of the rest

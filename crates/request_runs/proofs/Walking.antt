@@ -5,38 +5,21 @@ use native.Mathlib.Nat.{sub-zero}
 use mathlib.Core.Path.{_≡_, refl, sym, ap, _∙_}
 use mathlib.Core.List.{List, [], _∷_}
 use lib.Arith.{lt-of-le-ne}
-use lib.ListN.{length, take, drop}
+use lib.ListN.{length}
 use Rattle.answers.specs.declared.status.Fault.{Fault}
 use Rattle.service_code.specs.Code.{numberOf}
-use Rattle.byte_parts.specs.Part.{part}
 use Rattle.block_list.specs.declared.element.BlockListElement.{BlockListElement}
 use Rattle.block_list.specs.declared.element.Unpacked.the-variants.{Element, Short}
 use Rattle.block_list.specs.Element.{unpackAt, elementsFrom}
 use Rattle.block_list.proofs.ListsLaws.{elements-short, elements-element}
-use Rattle.answers.specs.declared.status.Written.{Written}
-use Rattle.answers.specs.declared.status.Written.the-variants.{Done, Failed}
-use Rattle.answers.specs.Outcome.{Outcome, passed, failed}
 use Rattle.request_check.specs.declared.table.Row.{Row}
 use Rattle.request_check.specs.Row.{rowIn, numberIn}
-use Rattle.request_rules.specs.Rules.{elementBy, endBy, onStore}
-use Rattle.request_rules.proofs.Lent.{Told}
 use Rattle.request_runs.specs.declared.run.Applied.{Applied}
-use Rattle.request_runs.specs.declared.run.Applied.the-variants.{Done as AllDone}
+use Rattle.request_runs.specs.declared.run.Applied.the-variants.{Done as AllDone, Failed as RunFailed}
 use Rattle.request_runs.specs.Runs.{Walked, bad, good}
-use Rattle.request_runs.specs.Staged.{atIndex, elementOn, endOn, staged}
+use Rattle.request_runs.specs.Staged.{carriedOn, closedOn, elementOn, endOn, staged}
 use Rattle.request_runs.specs.Ready.{Ready, AllReady, walkedTo}
 use Rattle.request_runs.proofs.RunLaws.{walked, after-run, within-run, run-step, run-fails, run-stops, run-over, end-passes, end-fails, run-starts, walk-over}
-
-module _ (i : ℕ) (s t : List ℕ) (r : Written) where
-  -- a rule that was done passes
-  told-good : (o : Outcome) → Told s o r t → r ≡ Done → atIndex i o ≡ good t
-  told-good (passed u) (e, f) h = ap good (sym f)
-  told-good (failed x) (e, f) h = let z : _≡_ {A = ℕ} 0 1 = cc in absurd (omega arith)
-
-  -- one that failed fails
-  told-bad : (x : Fault) (o : Outcome) → Told s o r t → r ≡ Failed x → atIndex i o ≡ bad i x
-  told-bad x (passed u) (e, f) h = let z : _≡_ {A = ℕ} 0 1 = cc in absurd (omega arith)
-  told-bad x (failed y) (e, f) h = let z : y ≡ x = cc in ap (bad i) z
 
 module _ (list : List ℕ) (count : ℕ) where
   -- the elements from index i on, which stand from a place on
@@ -188,27 +171,21 @@ module _ {rows : List Row} {d list : List ℕ} {count : ℕ} where
                 s .same ∙ rw next-left (run-stops (numberIn rows) (elementOn rows d) (endOn rows d) first (s .opener) (end - first) end stage f (left list count (end + 1) next) k),
               )
 
-          module _
-              (same-number : n ≡ number) {r : Written} {after : List ℕ}
-              (told : Told stage (onStore own (elementBy (own .attribute) (own .limit) (f .number) (f .mode) (take (16 * end + 16 - 16 * end) (drop (16 * end) d))) stage) r after) where
+          module _ (same-number : n ≡ number) (r : Applied) (after : List ℕ) (told : carriedOn own d end f stage ≡ walkedTo r after) where
             -- the element belongs to the run
             key-is : numberIn rows f ≡ numberIn rows (s .opener)
             key-is = sym number-is ∙ same-number ∙ s .numbered
 
             -- what becomes of it, by the definition
-            outcome : Outcome
-            outcome = onStore (rowIn rows f) (elementBy (rowIn rows f .attribute) (rowIn rows f .limit) (f .number) (f .mode) (part d (16 * end) 16)) stage
-
-            told-is : Told stage outcome r after
-            unfolding outcome part
-            told-is = let k : 16 * end + 16 - 16 * end ≡ 16 = omega arith in rw (sym named) (rw k at told)
+            told-is : elementOn rows d end f stage ≡ walkedTo r after
+            unfolding carriedOn
+            told-is = rw (sym named) told
 
             -- it passes: one element more in the run
-            pub passes : length after ≡ length stage → r ≡ Done → Inside rows d list count stage₀ start first row number after state next (end + 1)
-            unfolding outcome
+            pub passes : length after ≡ length stage → r ≡ AllDone → Inside rows d list count stage₀ start first row number after state next (end + 1)
             passes l done =
                 let e : end + 1 - first ≡ end - first + 1 = omega (arith, s .on) in
-                let o : elementOn rows d end f stage ≡ good after = told-good end stage after r outcome told-is done in
+                let o : elementOn rows d end f stage ≡ good after = told-is ∙ ap (λ (x : Applied). walkedTo x after) done in
                 record {
                   opener = s .opener;
                   past = s .past;
@@ -229,37 +206,29 @@ module _ {rows : List Row} {d list : List ℕ} {count : ℕ} where
                 }
 
             -- it fails: so does the walk
-            pub fails : (x : Fault) → r ≡ Failed x → rest rows d list count first start stage₀ ≡ bad end x
-            unfolding outcome
-            fails x refused =
-                let o : elementOn rows d end f stage ≡ bad end x = told-bad end stage after r x outcome told-is refused in
-                s .same ∙ rw next-left (run-fails (numberIn rows) (elementOn rows d) (endOn rows d) first (s .opener) (end - first) end stage f (left list count (end + 1) next) key-is x o)
+            pub fails : {j : ℕ} {x : Fault} → r ≡ RunFailed j x → rest rows d list count first start stage₀ ≡ bad j x
+            fails {j} {x} refused =
+                let o : elementOn rows d end f stage ≡ bad j x = told-is ∙ ap (λ (y : Applied). walkedTo y after) refused in
+                s .same ∙ rw next-left (run-fails (numberIn rows) (elementOn rows d) (endOn rows d) first (s .opener) (end - first) end stage f (left list count (end + 1) next) key-is j x o)
 
-    module _
-        (c : Closing) {r : Written} {after : List ℕ}
-        (told : Told stage (onStore row (endBy (row .attribute) (take (16 * end - 16 * first) (drop (16 * first) d))) stage) r after) where
+    module _ (c : Closing) (r : Applied) (after : List ℕ) (told : closedOn row d first end stage ≡ walkedTo r after) where
       -- what becomes of the run's end, by the definition
-      outcome-end : Outcome
-      outcome-end = onStore (rowIn rows (s .opener)) (endBy (rowIn rows (s .opener) .attribute) (part d (16 * first) (16 * (end - first)))) stage
-
-      told-end : Told stage outcome-end r after
-      unfolding outcome-end part
-      told-end = let k : 16 * end - 16 * first ≡ 16 * (end - first) = omega arith in rw (sym (s .named)) (rw k at told)
+      told-end : endOn rows d first (s .opener) (end - first) stage ≡ walkedTo r after
+      unfolding closedOn
+      told-end = rw (sym (s .named)) told
 
       -- it fails: so does the walk
-      pub end-failed : (x : Fault) → r ≡ Failed x → rest rows d list count first start stage₀ ≡ bad first x
-      unfolding outcome-end
-      end-failed x refused =
-          let o : endOn rows d first (s .opener) (end - first) stage ≡ bad first x = told-bad first stage after r x outcome-end told-end refused in
-          c .1 ∙ end-fails (numberIn rows) (elementOn rows d) (endOn rows d) first (s .opener) (end - first) end stage (left list count end at) x o
+      pub end-failed : {j : ℕ} {x : Fault} → r ≡ RunFailed j x → rest rows d list count first start stage₀ ≡ bad j x
+      end-failed {j} {x} refused =
+          let o : endOn rows d first (s .opener) (end - first) stage ≡ bad j x = told-end ∙ ap (λ (y : Applied). walkedTo y after) refused in
+          c .1 ∙ end-fails (numberIn rows) (elementOn rows d) (endOn rows d) first (s .opener) (end - first) end stage (left list count end at) j x o
 
       -- it passes: between runs again
       pub closes
-          : {stage₁ : List ℕ} {before : Applied} → Between rows d list count stage₁ stage₀ before start first → length after ≡ length stage → r ≡ Done
+          : {stage₁ : List ℕ} {before : Applied} → Between rows d list count stage₁ stage₀ before start first → length after ≡ length stage → r ≡ AllDone
           → Between rows d list count stage₁ after state at end
-      unfolding outcome-end
       closes b l done =
-          let o : endOn rows d first (s .opener) (end - first) stage ≡ good after = told-good first stage after r outcome-end told-end done in
+          let o : endOn rows d first (s .opener) (end - first) stage ≡ good after = told-end ∙ ap (λ (x : Applied). walkedTo x after) done in
           record {
             ends = s .ends;
             none = s .none;

@@ -1,5 +1,5 @@
 -- What the elements, run by run, do to all the staged stores.
-use Prim.Native.Nat.{ℕ, _*_}
+use Prim.Native.Nat.{ℕ, _-_, _*_}
 use mathlib.Core.List.{List}
 use Rattle.block_list.specs.declared.element.BlockListElement.{BlockListElement}
 use Rattle.byte_parts.specs.Part.{part}
@@ -13,6 +13,14 @@ use Rattle.request_runs.specs.Runs.{Walked, bad, good, runsOf, walk}
 abbrev pub atIndex : ℕ → Outcome → Walked (List ℕ)
 atIndex i (passed s) = good s
 atIndex i (failed f) = bad i f
+
+-- an element of index i on the store of its row w, with the write data d
+unfoldable pub carriedOn : Row → List ℕ → ℕ → BlockListElement → List ℕ → Walked (List ℕ)
+carriedOn w d i e s = atIndex i (onStore w (elementBy (w .attribute) (w .limit) (e .number) (e .mode) (part d (16 * i) 16)) s)
+
+-- the end of the run of the elements i up to j, on the store of its row w
+unfoldable pub closedOn : Row → List ℕ → ℕ → ℕ → List ℕ → Walked (List ℕ)
+closedOn w d i j s = atIndex i (onStore w (endBy (w .attribute) (part d (16 * i) (16 * (j - i)))) s)
 
 -- element of index i, with the write data d
 abbrev pub elementOn : List Row → List ℕ → ℕ → BlockListElement → List ℕ → Walked (List ℕ)

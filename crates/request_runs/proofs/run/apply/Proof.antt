@@ -1,10 +1,10 @@
 -- `runs::run::apply` meets its contract: between runs, and in a run, what is left of the walk is that of the elements left. Assumes nothing.
-use Prim.Native.Nat.{_+_, _-_, _*_, _^_, _≤_, _<_}
+use Prim.Native.Nat.{_+_, _-_, _*_, _≤_, _<_}
 use native.Mathlib.Omega.{arith}
 use mathlib.Core.Path.{_≡_, sym, _∙_}
 use mathlib.Core.Logic.{⊎-elim}
 use mathlib.Core.List.{List}
-use lib.ListN.{length, take, getD, length-take, length-drop, length-map}
+use lib.ListN.{length, take, getD, length-map}
 use denote.Ref.{now}
 use borrow.Author.Needs.{needs}
 use Rattle.block_list.specs.declared.element.Unpacked.the-variants.{Element}
@@ -97,12 +97,9 @@ own-row c =
 data-fits
     : (c : tie.Else1 Inv-scan μ-scan Inv-runs μ-runs)
     → let k = scan-of c in
-    let a = start-of (runs-of k) .args in
-    (16 * k .scan .end + 16 ≤ length (now (a .«data»))) × (length (now (a .«data»)) < 2 ^ 64)
+    16 * k .scan .end + 16 ≤ length (now (start-of (runs-of k) .args .«data»))
 data-fits c =
-    let k = scan-of c in
-    let a = start-of (runs-of k) in
-    (omega (arith, c .before .before .before .before .before .before .before .before .scan-test .taken, a .pre .0), omega (arith, a .good))
+    omega (arith, c .before .before .before .before .before .before .before .before .scan-test .taken, start-of (runs-of (scan-of c)) .pre .0)
 
 -- where the scan was left, the run's end is reached
 closing
@@ -141,50 +138,38 @@ scan-holds c =
     let r = s .before .before .before .before .before .before in
     opens (r .runs .inv) (s .before .before .before .before .before .runs-test .taken) (opener-of s) (ready-row (start-of r .args .t2) (sixteen (start-of r)) (opener-ready s) _) (c .number-of .ensures)
 
-mul-block : tie.Need-mul-block Inv-scan μ-scan Inv-runs μ-runs
-mul-block c = omega (arith, data-fits c)
-
-mul-block-2 : tie.Need-mul-block-2 Inv-scan μ-scan Inv-runs μ-runs
-mul-block-2 c = omega (arith, data-fits c)
-
-add-block : tie.Need-add-block Inv-scan μ-scan Inv-runs μ-runs
-add-block c = omega (arith, data-fits c)
-
-part-block-end : tie.Need-part-block-end Inv-scan μ-scan Inv-runs μ-runs
-part-block-end c = omega (arith, data-fits c)
-
-element-on-requires : tie.Need-element-on-requires Inv-scan μ-scan Inv-runs μ-runs
-element-on-requires c κs =
-    let k = c .before .before in
-    let j = scan-of k in
-    let q = fits (j .scan .inv) (k .before .before .before .before .before .before .before .before .scan-test .taken) (element-of k) (own-row k _) in
-    (q .0, q .1, simp (length-take, length-drop) (omega (arith, data-fits k)))
+carry-element-requires : tie.Need-carry-element-requires Inv-scan μ-scan Inv-runs μ-runs
+carry-element-requires c κs =
+    let k = c .before in
+    let q = fits (scan-of k .scan .inv) (k .before .before .before .before .before .before .before .before .scan-test .taken) (element-of k) (own-row k _) in
+    (data-fits k, q .0, q .1)
 
 add-end : tie.Need-add-end Inv-scan μ-scan Inv-runs μ-runs
 add-end c =
-    let k = c .before .before .before .before .before .before .before in
+    let k = c .before .before .before .before .before .before in
     omega (arith, k .before .before .before .before .before .before .before .before .scan-test .taken, start-of (runs-of (scan-of k)) .fits)
 
 scan-again : tie.Need-scan-again Inv-scan μ-scan Inv-runs μ-runs
 scan-again c =
-    let k = c .before .before .before .before .before .before .before in
+    let k = c .before .before .before .before .before .before in
     let j = scan-of k in
-    let e = c .before .before .before .before .element-on in
-    passes (j .scan .inv) (k .before .before .before .before .before .before .before .before .scan-test .taken) (element-of k) (own-row k _) (k .before .number-of2 .ensures) (k .if1 .left) (e .ensures) (e .kept .0) (c .enum-told3 .given .1)
+    let e = c .before .before .before .before .carry-element in
+    passes (j .scan .inv) (k .before .before .before .before .before .before .before .before .scan-test .taken) (element-of k) (own-row k _) (k .before .number-of2 .ensures) (k .if1 .left) (e .result) (e .last .0) (e .ensures) (e .kept .0) (c .enum-told3 .given .1)
 
-end-on-requires : tie.Need-end-on-requires Inv-scan μ-scan Inv-runs μ-runs
-end-on-requires c κs =
-    let i = c .before .before .before .scan .inv in
-    rw (i .named) (i .opened .stored)
+close-run-requires : tie.Need-close-run-requires Inv-scan μ-scan Inv-runs μ-runs
+close-run-requires c κs =
+    let j = c .before .before in
+    let i = j .scan .inv in
+    (i .on, omega (arith, i .ends, start-of (runs-of j) .pre .0), rw (i .named) (i .opened .stored))
 
 runs-less : tie.Need-runs-less Inv-scan μ-scan Inv-runs μ-runs
-runs-less c = omega (arith, closing (c .before .before .before .before .before .before .before) .0, c .before .before .before .before .before .before .before .before .scan .inv .ends)
+runs-less c = omega (arith, closing (c .before .before .before .before .before .before) .0, c .before .before .before .before .before .before .before .scan .inv .ends)
 
 runs-again : tie.Need-runs-again Inv-scan μ-scan Inv-runs μ-runs
 runs-again c =
-    let j = c .before .before .before .before .before .before .before .before in
-    let e = c .before .before .before .before .end-on in
-    closes (j .scan .inv) (closing (c .before .before .before .before .before .before .before)) (e .ensures)
+    let j = c .before .before .before .before .before .before .before in
+    let e = c .before .before .before .before .close-run in
+    closes (j .scan .inv) (closing (c .before .before .before .before .before .before)) (e .result) (e .last .0) (e .ensures)
     (runs-of j .runs .inv) (e .kept .0) (c .enum-told4 .given .1)
 
 returns : tie.Need-returns Inv-scan μ-scan Inv-runs μ-runs
@@ -203,23 +188,23 @@ returns-2 c =
 
 same-length-3 : tie.Need-same-length-3 Inv-scan μ-scan Inv-runs μ-runs
 same-length-3 c =
-    let j = scan-of (c .before .before .before .before .before .before .before .before) in
-    c .before .before .before .before .before .element-on .kept .0 ∙ j .scan .inv .long ∙ runs-of j .runs .inv .long
+    let j = scan-of (c .before .before .before .before .before .before .before) in
+    c .before .before .before .before .before .carry-element .kept .0 ∙ j .scan .inv .long ∙ runs-of j .runs .inv .long
 
 returns-3 : tie.Need-returns-3 Inv-scan μ-scan Inv-runs μ-runs
 returns-3 c =
-    let k = c .before .before .before .before .before .before .before .before in
+    let k = c .before .before .before .before .before .before .before in
     let j = scan-of k in
-    let e = c .before .before .before .before .before .element-on in
+    let e = c .before .before .before .before .before .carry-element in
     runs-of j .runs .inv .same
-    ∙ fails (j .scan .inv) (k .before .before .before .before .before .before .before .before .scan-test .taken) (element-of k) (own-row k _) (k .before .number-of2 .ensures) (k .if1 .left) (e .ensures) _ (c .before .fault .given .1)
+    ∙ fails (j .scan .inv) (k .before .before .before .before .before .before .before .before .scan-test .taken) (element-of k) (own-row k _) (k .before .number-of2 .ensures) (k .if1 .left) (e .result) (e .last .0) (e .ensures) (c .before .index .given .1)
 
 returns-4 : tie.Need-returns-4 Inv-scan μ-scan Inv-runs μ-runs
 returns-4 c =
-    let j = c .before .before .before .before .before .before .before .before .before in
-    let e = c .before .before .before .before .before .end-on in
+    let j = c .before .before .before .before .before .before .before .before in
+    let e = c .before .before .before .before .before .close-run in
     runs-of j .runs .inv .same
-    ∙ end-failed (j .scan .inv) (closing (c .before .before .before .before .before .before .before .before)) (e .ensures) _ (c .before .fault2 .given .1)
+    ∙ end-failed (j .scan .inv) (closing (c .before .before .before .before .before .before .before)) (e .result) (e .last .0) (e .ensures) (c .before .i .given .1)
 
 pub apply-spec : {M : Type 1} → statement M
 apply-spec =
@@ -245,24 +230,13 @@ apply-spec =
     (λ c. omega (arith, own-small c))
     (λ c. own-small c)
     (λ c κs. search needs)
-    mul-block
-    mul-block-2
-    add-block
-    (λ c. search needs)
-    (λ c. search needs)
-    part-block-end
-    element-on-requires
+    carry-element-requires
     (λ c. search needs)
     (λ c. search needs)
     add-end
     (λ c. search needs)
     scan-again
-    (λ c. search needs)
-    (λ c. search needs)
-    (λ c. search needs)
-    (λ c. search needs)
-    (λ c. search needs)
-    end-on-requires
+    close-run-requires
     (λ c. search needs)
     (λ c. search needs)
     runs-less
