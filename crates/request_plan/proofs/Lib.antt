@@ -2,6 +2,7 @@
 pub mod Tests
 mod Plans
 pub mod Serves
+pub mod Left
 pub mod Ready
 pub mod Fits
 pub mod Accepted
@@ -11,3 +12,4 @@ pub mod Same
 mod Walks
 pub mod Frame
 pub mod Causes
+pub mod Rights

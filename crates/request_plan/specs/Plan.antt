@@ -6,6 +6,8 @@ use lib.Dec.{ltb}
 use lib.ListN.{length}
 use Rattle.block_list.specs.declared.element.BlockListElement.{BlockListElement}
 use Rattle.answers.specs.declared.refusal.Refusal.the-variants.{TooManyElements, TooManyCodes, ListLength, ShortStaging, ShortOutput, ShortArena, NotBuilt}
+use Rattle.answers.specs.declared.refusal.Answer.{Answer}
+use Rattle.answers.specs.declared.refusal.Answer.the-variants.{Done as Within, Refused as OutOfBounds}
 use Rattle.block_list.specs.Element.{endsAfter, elementsFrom}
 use Rattle.card_build.specs.declared.card.Card.{Card}
 use Rattle.card_build.specs.Card.{nodesOf, isSound}
@@ -42,6 +44,14 @@ mostElements = 512
 abbrev pub mostCodes : ℕ
 mostCodes = 16
 
+-- 1, 2, 3
+unfoldable pub boundsJudged : List ℕ → Sizes → Answer
+boundsJudged list n =
+    cond (ltb mostElements (n .count)) (OutOfBounds TooManyElements)
+    (cond (ltb mostCodes (n .codes)) (OutOfBounds TooManyCodes)
+    (cond (not (endsAfter list (n .count))) (OutOfBounds ListLength)
+    Within))
+
 -- 4 (staging: 16 bytes per block in use), then FF AC (data: 16 bytes per element)
 unfoldable pub writeJudged : Sizes → Judged
 writeJudged n =
@@ -54,6 +64,12 @@ unfoldable pub readJudged : Sizes → Judged
 readJudged n =
     cond (ltb (n .room) (16 * n .count)) (NotFit ShortOutput)
     Fit
+
+-- 7, then what is lent to a write or a read
+unfoldable pub lentJudged : Bool → Sizes → Judged
+lentJudged write n =
+    cond (ltb (n .arena) (16 * n .used)) (NotFit ShortArena)
+    (cond write (writeJudged n) (readJudged n))
 
 -- 8, 1, 2, 3, 7, then what is lent to a write or a read; of the card it is asked whether it is sound and how many blocks are in use
 unfoldable pub judgedWith : Bool → Bool → List ℕ → Sizes → Judged

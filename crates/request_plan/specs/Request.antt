@@ -28,6 +28,20 @@ abbrev pub writeRequest : Bool → List ℕ → ℕ → List ℕ → List ℕ �
 writeRequest «open» codes count list «data» room =
     record { write = true; «open» = «open»; codes = codes; count = count; list = list; «data» = «data»; room = room }
 
+-- status flag 1, and 0 where a refusal has none
+abbrev pub flag1In : Reply → ℕ
+flag1In (Refused r) = 0
+flag1In Done = 0
+flag1In ShortData = 0xff
+flag1In (Failed i f) = sf1Of i
+
+-- status flag 2, and 0 where a refusal has none
+abbrev pub flag2In : Reply → ℕ
+flag2In (Refused r) = 0
+flag2In Done = 0
+flag2In ShortData = 0xac
+flag2In (Failed i f) = sf2Of f
+
 -- what a request is told: the number of a refusal, or the pair 00 00, FF AC for short data, or the failed element's place and fault
 abbrev pub responseOf : Reply → Response
 responseOf (Refused r) = Refusal (refusalNumber r)

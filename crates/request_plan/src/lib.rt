@@ -1,4 +1,5 @@
 // What is settled of a request before its elements are looked at.
+use answers::refusal::Answer;
 use answers::refusal::Refusal;
 use answers::status;
 use answers::status::Fault;
@@ -7,10 +8,10 @@ use byte_parts::sizes::BLOCK_SIZE;
 use byte_parts::sizes::MOST_CODES;
 use byte_parts::sizes::MOST_ELEMENTS;
 ghost use mathlib.Core.Path.{_≡_};
-ghost use Rattle.request_plan.specs.Request.{responseOf, causeIn};
+ghost use Rattle.request_plan.specs.Request.{flag1In, flag2In, responseOf, causeIn};
 ghost use Prim.Native.Nat.{_*_};
 ghost use lib.Dec.{ltb};
-ghost use Rattle.request_plan.specs.Plan.{mostElements, mostCodes, writeJudged, readJudged, judgedWith};
+ghost use Rattle.request_plan.specs.Plan.{mostElements, mostCodes, boundsJudged, writeJudged, readJudged, lentJudged, judgedWith};
 
 // The reply to a request. Only `Done` is a request carried out.
 pub enum Reply {
@@ -29,25 +30,41 @@ pub enum Response {
 }
 
 impl Reply {
+    // Gives status flag 1: 00, FF for short data, or the place of the element that failed. A refusal has none, and 0 stands for it.
+    fn flag1(self) -> u8
+        ensures { λ r. ⌜ r ≡ flag1In self ⌝ }
+    {
+        match self {
+            Reply::Refused(_) => 0x00,
+            Reply::Done => 0x00,
+            Reply::ShortData => 0xff,
+            Reply::Failed { index, fault: _ } => status::list_error_index(index),
+        }
+    }
+
+    // Gives status flag 2: 00, AC for short data, or the fault of the element that failed. A refusal has none, and 0 stands for it.
+    fn flag2(self) -> u8
+        ensures { λ r. ⌜ r ≡ flag2In self ⌝ }
+    {
+        match self {
+            Reply::Refused(_) => 0x00,
+            Reply::Done => 0x00,
+            Reply::ShortData => 0xac,
+            Reply::Failed { index: _, fault } => fault.status_flag2(),
+        }
+    }
+
     // Gives what a request with this reply is told, so that a refusal is never taken for a status pair.
     pub fn response(self) -> Response
         ensures { λ r. ⌜ r ≡ responseOf self ⌝ }
     {
+        let flag1 = self.flag1();
+        let flag2 = self.flag2();
         match self {
             Reply::Refused(refusal) => Response::Refusal(refusal.number()),
-            Reply::Done => Response::Pair { flag1: 0, flag2: 0 },
-            Reply::ShortData => Response::Pair {
-                flag1: 0xff,
-                flag2: 0xac,
-            },
-            Reply::Failed { index, fault } => {
-                let flag1 = status::list_error_index(index);
-                let flag2 = fault.status_flag2();
-                Response::Pair {
-                    flag1: flag1,
-                    flag2: flag2,
-                }
-            }
+            Reply::Done => Response::Pair { flag1, flag2 },
+            Reply::ShortData => Response::Pair { flag1, flag2 },
+            Reply::Failed { index: _, fault: _ } => Response::Pair { flag1, flag2 },
         }
     }
 
@@ -103,16 +120,30 @@ fn too_short(bytes: usize, blocks: usize) -> bool
     bytes / BLOCK_SIZE < blocks
 }
 
+// Judges the counts and the list of a request: 1, 2, 3.
+fn bounds_judged(list: &[u8], sizes: Sizes) -> Answer
+    ensures { λ r. ⌜ r ≡ boundsJudged (now (list .entry)) sizes ⌝ }
+{
+    if many_elements(sizes.count) {
+        return Answer::Refused(Refusal::TooManyElements); // 1
+    }
+    if many_codes(sizes.codes) {
+        return Answer::Refused(Refusal::TooManyCodes); // 2
+    }
+    if !reader::list_ends(list, sizes.count) {
+        return Answer::Refused(Refusal::ListLength); // 3: the list ends early, or runs on
+    }
+    Answer::Done
+}
+
 // Judges the buffer and the data of a write: 4, then FF AC. Surplus data are ignored.
 fn write_judged(sizes: Sizes) -> Judged
     ensures { λ r. ⌜ r ≡ writeJudged sizes ⌝ }
 {
-    let short_staging = too_short(sizes.room, sizes.used);
-    let short_data = too_short(sizes.data, sizes.count);
-    if short_staging {
+    if too_short(sizes.room, sizes.used) {
         return Judged::Refused(Refusal::ShortStaging); // 4
     }
-    if short_data {
+    if too_short(sizes.data, sizes.count) {
         return Judged::ShortData; // FF AC, ahead of all elements
     }
     Judged::Fit
@@ -128,27 +159,11 @@ fn read_judged(sizes: Sizes) -> Judged
     Judged::Fit
 }
 
-// Judges a request of a card that is `sound` or not: 8, 1, 2, 3, 7, then what is lent to a write or a read. No stored byte is looked at.
-pub fn judge(sound: bool, write: bool, list: &[u8], sizes: Sizes) -> Judged
-    ensures { λ r. ⌜ r ≡ judgedWith sound write (now (list .entry)) sizes ⌝ }
+// Judges what is lent to a request: 7, then what is lent to a write or a read.
+fn lent_judged(write: bool, sizes: Sizes) -> Judged
+    ensures { λ r. ⌜ r ≡ lentJudged write sizes ⌝ }
 {
-    let elements = many_elements(sizes.count);
-    let codes = many_codes(sizes.codes);
-    let ends = reader::list_ends(list, sizes.count);
-    let short_arena = too_short(sizes.arena, sizes.used);
-    if !sound {
-        return Judged::Refused(Refusal::NotBuilt); // 8
-    }
-    if elements {
-        return Judged::Refused(Refusal::TooManyElements); // 1
-    }
-    if codes {
-        return Judged::Refused(Refusal::TooManyCodes); // 2
-    }
-    if !ends {
-        return Judged::Refused(Refusal::ListLength); // 3: the list ends early, or runs on
-    }
-    if short_arena {
+    if too_short(sizes.arena, sizes.used) {
         return Judged::Refused(Refusal::ShortArena); // 7
     }
     if write {
@@ -156,4 +171,17 @@ pub fn judge(sound: bool, write: bool, list: &[u8], sizes: Sizes) -> Judged
     } else {
         read_judged(sizes)
     }
+}
+
+// Judges a request of a card that is `sound` or not: 8, then its counts and its list, then what is lent. No stored byte is looked at.
+pub fn judge(sound: bool, write: bool, list: &[u8], sizes: Sizes) -> Judged
+    ensures { λ r. ⌜ r ≡ judgedWith sound write (now (list .entry)) sizes ⌝ }
+{
+    if !sound {
+        return Judged::Refused(Refusal::NotBuilt); // 8
+    }
+    if let Answer::Refused(refusal) = bounds_judged(list, sizes) {
+        return Judged::Refused(refusal);
+    }
+    lent_judged(write, sizes)
 }
