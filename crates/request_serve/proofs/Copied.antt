@@ -68,8 +68,8 @@ module _ {rows : List Row} {arena list : List ℕ} {count : ℕ} {old out : List
 
     module _ {e : BlockListElement} {next : ℕ} (here : u ≡ Element e next) {w : Row} (r : w ≡ rowIn rows e) where
       -- its block lies in the arena
-      pub inside : 16 * w .start + 16 * e .number + 16 ≤ length arena
-      inside = let f = ready-here here in rw r (omega arith)
+      within : 16 * w .start + 16 * e .number + 16 ≤ length arena
+      within = let f = ready-here here in rw r (omega arith)
 
       -- and is a part of it
       block : part (storeIn arena (rowIn rows e)) (16 * e .number) 16 ≡ part arena (16 * w .start + 16 * e .number) 16
@@ -78,21 +78,26 @@ module _ {rows : List Row} {arena list : List ℕ} {count : ℕ} {old out : List
           let x = rowIn rows e in
           rw r (part-part arena (16 * x .start) (16 * x .blocks) (16 * e .number) 16 (omega arith))
 
-      -- once it is put, those after it are left
-      pub turn : {new : List ℕ} → new ≡ put out (16 * i) 16 (drop (16 * w .start + 16 * e .number) arena) →
-          Copying rows arena list count old new next (i + 1)
-      unfolding blocksRead part
-      turn {new = new} n =
-          let p = part (storeIn arena (rowIn rows e)) (16 * e .number) 16 in
-          let rest = blocksRead rows arena (elementsFrom list (count - (i + 1)) next) in
-          let sixteen : length p ≡ 16 = rw block (length-part arena (16 * w .start + 16 * e .number) 16 inside) in
-          let made : put out (16 * i) 16 p ≡ new = rw (block, n) (put-take out (16 * i) 16 (drop (16 * w .start + 16 * e .number) arena)) in
-          let on : 16 * (i + 1) ≡ 16 * i + 16 = omega arith in
-          let step : filled out (16 * i) (p ++ rest) ≡ filled new (16 * (i + 1)) rest =
-          put-append out (16 * i) p rest ∙ rw (sixteen, made, on) in
-          record {
-            most = omega arith;
-            long = rw n (length-put out (16 * i) 16 (drop (16 * w .start + 16 * e .number) arena) ∙ k .long);
-            ready = each here .1;
-            same = k .same ∙ rw (head here) step;
-          }
+      module _ {from : ℕ} (f : from ≡ 16 * w .start + 16 * e .number) where
+        -- which begins there
+        pub inside : from + 16 ≤ length arena
+        inside = rw f within
+
+        -- once it is put, those after it are left
+        pub turn : {new : List ℕ} → new ≡ put out (16 * i) 16 (drop from arena) → Copying rows arena list count old new next (i + 1)
+        unfolding blocksRead part
+        turn {new = new} m =
+            let n : new ≡ put out (16 * i) 16 (drop (16 * w .start + 16 * e .number) arena) = rw f at m in
+            let p = part (storeIn arena (rowIn rows e)) (16 * e .number) 16 in
+            let rest = blocksRead rows arena (elementsFrom list (count - (i + 1)) next) in
+            let sixteen : length p ≡ 16 = rw block (length-part arena (16 * w .start + 16 * e .number) 16 within) in
+            let made : put out (16 * i) 16 p ≡ new = rw (block, n) (put-take out (16 * i) 16 (drop (16 * w .start + 16 * e .number) arena)) in
+            let on : 16 * (i + 1) ≡ 16 * i + 16 = omega arith in
+            let step : filled out (16 * i) (p ++ rest) ≡ filled new (16 * (i + 1)) rest =
+            put-append out (16 * i) p rest ∙ rw (sixteen, made, on) in
+            record {
+              most = omega arith;
+              long = rw n (length-put out (16 * i) 16 (drop (16 * w .start + 16 * e .number) arena) ∙ k .long);
+              ready = each here .1;
+              same = k .same ∙ rw (head here) step;
+            }

@@ -1,23 +1,32 @@
 // Reading: all elements are checked, then their blocks copied (`validate_read_block` of the Rust).
 use block_list::element;
+use block_list::element::BlockListElement;
 use block_list::element::Unpacked;
 use byte_parts::spans;
 use card_build::card::Card;
 use request_check::check;
 use request_check::check::Checked;
 use request_check::table;
+use request_check::table::Row;
 use request_check::table::Table;
 use request_plan::Judged;
 use request_plan::Reply;
 use request_plan::Sizes;
 ghost use mathlib.Core.Path.{_≡_};
-ghost use Prim.Native.Nat.{_*_, _≤_};
+ghost use Prim.Native.Nat.{_+_, _*_, _≤_};
 ghost use lib.ListN.{length, take};
 ghost use Rattle.block_list.specs.Element.{elementsFrom};
 ghost use Rattle.byte_parts.specs.Part.{put};
 ghost use Rattle.request_runs.specs.Ready.{AllReady};
 ghost use Rattle.request_plan.specs.Request.{readRequest};
 ghost use Rattle.request_plan.specs.Serve.{blocksRead, serve, outputAfter};
+
+// Gives where the block that an element names in its row's store stands in the arena.
+fn block_at(row: Row, e: BlockListElement) -> usize
+    ensures { λ r. ⌜ r ≡ 16 * row .start + 16 * e .number ⌝ }
+{
+    16 * (row.start as usize) + 16 * (e.number as usize)
+}
 
 // Copies the blocks that the elements name to the front of the output.
 fn copy_blocks(out: &mut [u8], arena: &[u8], table: Table, list: &[u8], count: usize)
@@ -31,7 +40,7 @@ fn copy_blocks(out: &mut [u8], arena: &[u8], table: Table, list: &[u8], count: u
             break;
         };
         let own = table.rows[e.index as usize];
-        let from = 16 * (own.start as usize) + 16 * (e.number as usize);
+        let from = block_at(own, e);
         spans::copy(out, 16 * i, arena, from, 16);
         at = next;
         i += 1;

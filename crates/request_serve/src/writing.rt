@@ -83,9 +83,28 @@ fn checked_write(
     }
 }
 
+// Checks and carries out a write that fits, then zeroes the staging for all blocks in use, so that no other card's bytes stay in it.
+fn wiped_write(
+    card: Card,
+    arena: &mut [u8],
+    staging: &mut [u8],
+    open: bool,
+    codes: &[u16],
+    list: &[u8],
+    count: usize,
+    data: &[u8],
+) -> Reply
+    requires { ⌜ judgedOf card (length (now arena)) (writeRequest «open» (now codes) count (now list) (now «data») (length (now staging))) ≡ Fit ⌝ }
+    ensures { λ r. ⌜ (let x = serve card (now (arena .entry)) (writeRequest «open» (now (codes .entry)) count (now (list .entry)) (now («data» .entry)) (length (now (staging .entry)))) in (r ≡ x .reply) × ((now (arena .exit) ≡ x .arena) × (now (staging .exit) ≡ stagingBy (x .reply) (16 * card .used) (now (staging .entry))))) ⌝ }
+{
+    let reply = checked_write(card, arena, staging, open, codes, list, count, data);
+    spans::zero(staging, 0, 16 * card.used); // wherever a store was staged
+    reply
+}
+
 // Writes `data`, sixteen bytes for each counted element of `list`, to the blocks that the elements name by the service `codes` that their
 // indices choose. The arena changes only where the reply is `Done`; after a refusal the staging is as it was, else zero for all blocks
-// in use, so that no other card's bytes stay in it.
+// in use.
 pub fn write(
     card: Card,
     arena: &mut [u8],
@@ -114,7 +133,7 @@ pub fn write(
             Reply::ShortData
         }
         Judged::Fit => {
-            let reply = checked_write(
+            wiped_write(
                 card,
                 arena,
                 staging,
@@ -123,9 +142,7 @@ pub fn write(
                 list,
                 count as usize,
                 data,
-            );
-            spans::zero(staging, 0, 16 * card.used); // wherever a store was staged
-            reply
+            )
         }
     }
 }

@@ -56,19 +56,20 @@ loop-holds c = begun _ _ _ _ _ (c .before .before .before .pre .1)
 
 copy-requires : tie.Need-copy-requires Inv-loop μ-loop
 copy-requires c κs =
-    let s = c .before .before .before .before in
+    let b = c .before in
+    let s = b .before .before in
     let u = unpack-of s in
     let l = u .before .before .loop in
     let n = l .inv .long in
-    (omega arith, inside (l .inv) (u .unpack .ensures) (u .before .loop-test .taken) (s .before .before .e .given .1) (own-row s _))
+    (omega arith, inside (l .inv) (u .unpack .ensures) (u .before .loop-test .taken) (s .before .before .e .given .1) (own-row s _) (b .block-at .ensures))
 
 loop-again : tie.Need-loop-again Inv-loop μ-loop
 loop-again c =
-    let a = c .before .before .before in
-    let s = a .before .before .before .before in
+    let b = c .before .before .before .before in
+    let s = b .before .before in
     let u = unpack-of s in
     let l = u .before .before .loop in
-    turn (l .inv) (u .unpack .ensures) (u .before .loop-test .taken) (s .before .before .e .given .1) (own-row s _) (c .before .before .copy .ensures)
+    turn (l .inv) (u .unpack .ensures) (u .before .loop-test .taken) (s .before .before .e .given .1) (own-row s _) (b .block-at .ensures) (c .before .before .copy .ensures)
 
 returns : tie.Need-returns Inv-loop μ-loop
 returns c = over (c .before .loop .inv) (omega arith)
@@ -91,11 +92,7 @@ copy-blocks-spec =
     (λ c. search needs)
     (λ c. omega (arith, small c))
     (λ c. small c)
-    (λ c. search needs)
-    (λ c. search needs)
-    (λ c. search needs)
-    (λ c. search needs)
-    (λ c. search needs)
+    (λ c κs. search needs)
     (λ c. search needs)
     copy-requires
     (λ c. search needs)

@@ -8,7 +8,7 @@ use Rattle.request_plan.specs.declared.Judged.the-variants.{ShortData as NoData
 use Rattle.request_plan.specs.Request.{Request, writeRequest}
 use Rattle.request_plan.specs.Plan.{judgedOf}
 use Rattle.request_plan.proofs.Serves.{refused, short, unchanged}
-use Rattle.request_serve.proofs.WritingLaws.{stores-fit, wiped, short-fits}
+use Rattle.request_serve.proofs.WritingLaws.{short-fits}
 use Rattle.request_serve.proofs.writing.write.Statement.{statement}
 use Rattle.request_serve.proofs.writing.write.Tie as tie
 
@@ -42,20 +42,8 @@ zero-requires c κs =
     let st = start-of (c .before .before .before .before) in
     omega (arith, short-fits (st .args .card) (length (now (st .args .arena))) (asked st) refl (no-data (c .before .before)))
 
-checked-write-requires : tie.Need-checked-write-requires
-checked-write-requires c κs = fit (c .before .before)
-
-mul-zero-2 : tie.Need-mul-zero-2
-mul-zero-2 c =
-    let q = c .before .before .before .before .before .before in
-    let st = start-of (q .before .before .before .before .before) in
-    omega (arith, stores-fit (st .args .card) (now (st .args .arena)) (asked st) (fit (q .before .before .before)) refl, st .good .1 .0)
-
-zero-requires-2 : tie.Need-zero-requires-2
-zero-requires-2 c κs =
-    let q = c .before .before .before .before .before .before in
-    let st = start-of (q .before .before .before .before .before) in
-    omega (arith, stores-fit (st .args .card) (now (st .args .arena)) (asked st) (fit (q .before .before .before)) refl, q .checked-write .kept)
+wiped-write-requires : tie.Need-wiped-write-requires
+wiped-write-requires c κs = fit (c .before .before)
 
 returns : tie.Need-returns
 returns c =
@@ -68,12 +56,7 @@ returns-2 c =
     (o .0, (o .1, c .before .before .zero .ensures))
 
 returns-3 : tie.Need-returns-3
-returns-3 c =
-    let q = c .before .before .before .before .before .before .before .before .before in
-    let st = start-of (q .before .before .before .before .before) in
-    let a = st .args in
-    let m = q .checked-write .ensures in
-    (m .0, (m .1 .0, wiped (a .card) (now (a .arena)) (asked st) (fit (q .before .before .before)) refl (now (a .staging)) (q .checked-write .last .1 .1 .0) _ (m .0) refl (q .checked-write .kept .1 .1 .0) (m .1 .1) (c .before .before .zero2 .ensures)))
+returns-3 c = let m = c .before .before .before .before .wiped-write .ensures in (m .0, (m .1 .0, rw (m .0) (m .1 .1)))
 
 pub write-spec : {M : Type 1} → statement M
 write-spec =
@@ -86,9 +69,7 @@ write-spec =
     mul-zero
     zero-requires
     (λ c. search needs)
-    checked-write-requires
-    mul-zero-2
-    zero-requires-2
+    wiped-write-requires
     returns
     (λ c. search needs)
     returns-2
