@@ -1,16 +1,18 @@
--- Laws of eight lanes, one after the other. Assumes nothing.
-use Prim.Native.Nat.{ℕ, suc, _+_, _-_, _≤_, _<_}
+-- Laws of eight lanes, one after the other, and of what one lane comes to. Assumes nothing.
+use Prim.Native.Nat.{ℕ, zero, suc, _+_, _-_, _≤_, _<_}
 use native.Mathlib.Omega.{arith}
-use mathlib.Core.Path.{_≡_, refl, sym, _∙_}
+use native.Mathlib.Nat.{add-zero}
+use mathlib.Core.Path.{_≡_, refl, sym, ap, _∙_}
 use mathlib.Core.Bool.{Bool, true, false, cond, _&&_}
-use mathlib.Core.List.{List}
+use mathlib.Core.List.{List, [], _∷_, _++_}
 use borrow.Author.Tests.{eq-eqb, ne-eqb}
 use Rattle.board_lanes.specs.declared.refusal.BoardRefusal.the-variants.{WrongLane, BadCrew, TailNotZero}
 use Rattle.board_lanes.specs.declared.lanes.Judged.{Judged}
 use Rattle.board_lanes.specs.declared.lanes.Judged.the-variants.{Sound, Refused}
 use lib.Dec.{eqb}
-use lib.ListN.{getD}
-use Rattle.board_lanes.specs.Board.{blockAt, isEmpty, raceOf, areCrew, crewBytes, blockJudged, laneJudged, andThen, lanesJudged, ofRace, sameRace, oneRace}
+use lib.ListN.{length, getD, drop, length-take}
+use Rattle.byte_parts.specs.Part.{part}
+use Rattle.board_lanes.specs.Board.{blockAt, isEmpty, raceOf, areCrew, crewBytes, blockJudged, laneJudged, andThen, lanesJudged, ofRace, sameRace, oneRace, crewLength, crewOf, Lane, empty, filled, laneOf, lanesFrom}
 
 -- What is judged first, then next, then last.
 pub then-then : (a b c : Judged) → andThen (andThen a b) c ≡ andThen a (andThen b c)
@@ -80,3 +82,31 @@ module _ (k : ℕ) (b : List ℕ) where
   pub block-sound : eqb (getD b 0 0) (k + 1) ≡ true → areCrew (crewBytes b) ≡ true → eqb (getD b 15 0) 0 ≡ true → blockJudged k b ≡ Sound
   unfolding blockJudged
   block-sound p q r = rw (p, q, r)
+
+-- One lane more.
+pub lanes-more : (bytes : List ℕ) (n k : ℕ) → lanesFrom bytes (suc n) k ≡ lanesFrom bytes n k ++ (laneOf (blockAt bytes (k + n)) ∷ [])
+unfolding lanesFrom
+lanes-more bytes zero k = rw (add-zero k)
+lanes-more bytes (suc n) k =
+    let e : k + suc n ≡ k + 1 + n = omega arith in
+    rw e (ap (λ (ls : List Lane). laneOf (blockAt bytes k) ∷ ls) (lanes-more bytes n (k + 1)))
+
+pub lanes-count : (bytes : List ℕ) (n k : ℕ) → length (lanesFrom bytes n k) ≡ n
+unfolding lanesFrom
+lanes-count bytes zero k = refl
+lanes-count bytes (suc n) k = ap suc (lanes-count bytes n (k + 1))
+
+-- What an empty lane's block comes to, and a filled one's.
+module _ (b : List ℕ) where
+  pub lane-empty : isEmpty b ≡ true → laneOf b ≡ empty
+  unfolding laneOf
+  lane-empty e = rw e
+
+  pub lane-filled : isEmpty b ≡ false → laneOf b ≡ filled (raceOf b) (crewOf b)
+  unfolding laneOf
+  lane-filled e = rw e
+
+  -- No crew has more than twelve bytes.
+  pub crew-most : length (crewOf b) ≤ 12
+  unfolding part
+  crew-most = omega (arith, length-take (crewLength (crewBytes b)) (crewBytes b), length-take 12 (drop 3 b))

@@ -1,5 +1,5 @@
 -- What callers cite, and what this crate's proofs share.
 pub mod Rows
+pub mod LaneLaws
 mod BlockLaws
-mod LaneLaws
-mod TextLaws
+mod RecordLaws

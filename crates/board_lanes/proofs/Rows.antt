@@ -4,11 +4,10 @@ use mathlib.Core.Path.{_≡_, refl}
 use mathlib.Core.List.{List, [], _∷_, _++_}
 use lib.ListN.{replicate}
 use Rattle.byte_parts.specs.Part.{part, padded}
-use Rattle.text_numbers.specs.Decimal.{digitsOf, decText}
 use Rattle.board_lanes.specs.declared.refusal.BoardRefusal.the-variants.{RacesDiffer, WrongLane, BadCrew, TailNotZero}
 use Rattle.board_lanes.specs.declared.lanes.Judged.the-variants.{Sound, Refused}
-use Rattle.board_lanes.specs.Board.{isEmpty, areCrew, blockJudged, laneJudged, lanesJudged, ofRace, sameRace, oneRace, racesJudged, judgedOf, crewLength, laneOf, lanesFrom, lanesOf}
-use Rattle.board_lanes.specs.Text.{lanesText, lanesRecords}
+use Rattle.board_lanes.specs.Board.{boardNumber, isEmpty, areCrew, blockJudged, laneJudged, lanesJudged, ofRace, sameRace, oneRace, racesJudged, judgedOf, crewLength, laneOf, lanesFrom}
+use Rattle.board_lanes.specs.Records.{lanesRecords}
 
 -- a block of a lane and a race, its crew AB, a byte and spaces, and a last byte
 abbrev block : ℕ → ℕ → ℕ → ℕ → List ℕ
@@ -38,16 +37,25 @@ pub judged-rows
 unfolding part isEmpty areCrew blockJudged laneJudged lanesJudged ofRace sameRace oneRace racesJudged judgedOf
 judged-rows = (refl, refl, refl, refl, refl, refl, refl, refl, refl)
 
--- `1 261 ABC`, and `-` twice for lane 2.
-pub line-rows
-    : lanesText 1 (lanesFrom (two (block 1 5 67 0) none) 2 0)
-    ≡ 49 ∷ 9 ∷ 50 ∷ 54 ∷ 49 ∷ 9 ∷ 65 ∷ 66 ∷ 67 ∷ 10 ∷ 50 ∷ 9 ∷ 45 ∷ 9 ∷ 45 ∷ 10 ∷ []
-unfolding part isEmpty crewLength laneOf lanesFrom lanesText decText digitsOf
-line-rows = refl
-
--- The records of the same two lanes.
+-- The records of the first two of such lanes, the second one empty.
 pub record-rows
     : lanesRecords (lanesFrom (two (block 1 5 67 0) none) 2 0)
     ≡ 1 ∷ 3 ∷ 5 ∷ 1 ∷ 65 ∷ 66 ∷ 67 ∷ replicate 9 0 ++ replicate 16 0
 unfolding part padded isEmpty crewLength laneOf lanesFrom lanesRecords
 record-rows = refl
+
+-- lane 1 with a crew of twelve letters, A to K and one more
+abbrev full : ℕ → List ℕ
+full last = 1 ∷ 5 ∷ 1 ∷ 65 ∷ 66 ∷ 67 ∷ 68 ∷ 69 ∷ 70 ∷ 71 ∷ 72 ∷ 73 ∷ 74 ∷ 75 ∷ last ∷ 0 ∷ []
+
+-- A crew has twelve bytes: the twelfth is judged, and is in the record.
+pub crew-rows
+    : (judgedOf (two (full 0x7f) none) ≡ Refused BadCrew)
+    × (judgedOf (two (full 76) none) ≡ Sound)
+    × (lanesRecords (laneOf (full 76) ∷ []) ≡ 1 ∷ 12 ∷ 5 ∷ 1 ∷ 65 ∷ 66 ∷ 67 ∷ 68 ∷ 69 ∷ 70 ∷ 71 ∷ 72 ∷ 73 ∷ 74 ∷ 75 ∷ 76 ∷ [])
+unfolding part padded isEmpty areCrew blockJudged laneJudged lanesJudged ofRace sameRace oneRace racesJudged judgedOf crewLength laneOf lanesRecords
+crew-rows = (refl, refl, refl)
+
+-- The numbers of the board's own refusals.
+pub number-rows : (boardNumber RacesDiffer ≡ 40) × (boardNumber WrongLane ≡ 41) × (boardNumber BadCrew ≡ 42) × (boardNumber TailNotZero ≡ 43)
+number-rows = (refl, refl, refl, refl)

@@ -1,2 +1,2 @@
 pub mod Board
-pub mod Text
+pub mod Records

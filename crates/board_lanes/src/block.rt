@@ -4,7 +4,7 @@ ghost use mathlib.Core.Path.{_≡_};
 ghost use Prim.Native.Nat.{_<_, _≤_};
 ghost use lib.ListN.{length, getD};
 ghost use Rattle.byte_parts.specs.Part.{part};
-ghost use Rattle.board_lanes.specs.Board.{blockAt, isEmpty, raceOf, areCrew, crewBytes, crewLength};
+ghost use Rattle.board_lanes.specs.Board.{blockAt, isEmpty, raceOf, areCrew, crewBytes, crewLength, crewOf};
 
 // Gives the n bytes of s from `at` on, or as many of them as there are.
 fn part_of<'a>(s: &'a [u8], at: usize, n: usize) -> &'a [u8]
@@ -27,7 +27,7 @@ pub(crate) fn byte(s: &[u8], i: usize) -> u64
 }
 
 // Gives the block of lane k + 1, k from 0 to 7.
-pub(crate) fn block<'a>(bytes: &'a [u8], k: usize) -> &'a [u8]
+pub fn block<'a>(bytes: &'a [u8], k: usize) -> &'a [u8]
     requires { ⌜ k < 8 ⌝ }
     ensures { λ r. ⌜ now r ≡ blockAt (now (bytes .entry)) k ⌝ }
 {
@@ -42,14 +42,14 @@ pub(crate) fn crew<'a>(b: &'a [u8]) -> &'a [u8]
 }
 
 // Gives the number of a block's race.
-pub(crate) fn race(b: &[u8]) -> u64
+pub fn race(b: &[u8]) -> u64
     ensures { λ r. ⌜ (r ≡ raceOf (now (b .entry))) × (r < 65536) ⌝ }
 {
     byte(b, 1) + 256 * byte(b, 2)
 }
 
 // Tells whether a lane is empty: every byte of its block is zero.
-pub(crate) fn is_empty(b: &[u8]) -> bool
+pub fn is_empty(b: &[u8]) -> bool
     ensures { λ r. ⌜ r ≡ isEmpty (now (b .entry)) ⌝ }
 {
     let mut i = 0;
@@ -80,7 +80,7 @@ pub(crate) fn are_crew(s: &[u8]) -> bool
 }
 
 // Gives how long a crew is without its trailing spaces.
-pub(crate) fn crew_length(s: &[u8]) -> usize
+fn crew_length(s: &[u8]) -> usize
     ensures { λ r. ⌜ (r ≡ crewLength (now (s .entry))) × (r ≤ length (now (s .entry))) ⌝ }
 {
     let mut n = s.len();
@@ -91,4 +91,13 @@ pub(crate) fn crew_length(s: &[u8]) -> usize
         n -= 1;
     }
     0
+}
+
+// Gives a block's crew without its trailing spaces.
+pub fn crew_of<'a>(b: &'a [u8]) -> &'a [u8]
+    ensures { λ r. ⌜ now r ≡ crewOf (now (b .entry)) ⌝ }
+{
+    let s = crew(b);
+    let n = crew_length(s);
+    &s[0..n]
 }

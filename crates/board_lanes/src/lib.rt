@@ -1,5 +1,5 @@
-// The lane board: eight blocks of sixteen bytes, judged, printed, and as records for a program.
-mod block;
+// The lane board: eight blocks of sixteen bytes, judged, and as records for a program.
+pub mod block;
 pub mod lanes;
+pub mod records;
 pub mod refusal;
-pub mod text;

@@ -1,2 +1,4 @@
 -- What callers cite, and what this crate's proofs share.
 pub mod Refreshes
+pub mod Rows
+mod TextLaws

@@ -15,10 +15,10 @@ use Rattle.request_plan.specs.declared.Reply.the-variants.{Refused}
 use Rattle.line_answer.specs.Answer.{refusedText, answerText}
 use Rattle.line_request.specs.Ask.{fieldIn, isLetter}
 use Rattle.board_lanes.specs.Board.{boardNumber, lanesOf}
-use Rattle.board_lanes.specs.Text.{lanesText}
 use Rattle.board_read.specs.declared.Refreshed.{Refreshed}
 use Rattle.board_read.specs.declared.Refreshed.the-variants.{Board, NoBoard, Card as ByCard}
 use Rattle.board_read.specs.Refresh.{boardServed, refreshed}
+use Rattle.board_line.specs.Text.{lanesText}
 
 -- a line whose first field is `L` is a refresh, well formed or not
 unfoldable pub boardLine : List ℕ → Bool

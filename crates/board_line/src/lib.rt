@@ -1,6 +1,7 @@
 // An `L` line: a refresh of the lane board, carried out and printed.
+mod text;
+
 use answers::refusal::Refusal;
-use board_lanes::text;
 use board_read::Refreshed;
 use byte_parts::sizes::LONGEST_LINE;
 use card_build::card::Card;
@@ -12,7 +13,7 @@ ghost use Prim.Native.Nat.{_+_, _≤_};
 ghost use lib.ListN.{length};
 ghost use Rattle.text_numbers.specs.declared.codes.Code.the-variants.{Is};
 ghost use Rattle.text_stream.specs.Stream.{Written};
-ghost use Rattle.board_lanes.specs.Text.{mostBoard};
+ghost use Rattle.board_line.specs.Text.{mostBoard};
 ghost use Rattle.board_line.specs.Line.{boardLine, boardCode, refreshedText, codeText, boardLineText};
 
 // Tells whether a line is a refresh, well formed or not.

@@ -7,7 +7,7 @@ use lib.ListN.{length}
 use Rattle.byte_parts.specs.Part.{put}
 use Rattle.card_build.specs.declared.card.Card.{Card}
 use Rattle.board_lanes.specs.Board.{boardNumber, lanesOf}
-use Rattle.board_lanes.specs.Text.{lanesRecords}
+use Rattle.board_lanes.specs.Records.{lanesRecords}
 use Rattle.board_read.specs.declared.Refreshed.{Refreshed}
 use Rattle.board_read.specs.declared.Refreshed.the-variants.{Board, NoBoard, Card as ByCard}
 use Rattle.board_read.specs.Refresh.{boardServed, refreshed}

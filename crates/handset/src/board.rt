@@ -1,7 +1,7 @@
 // The lane board of a card in the caller's bytes.
 use crate::outcome;
 use crate::requests;
-use board_lanes::text;
+use board_lanes::records;
 use board_read::Refreshed;
 use card_build::card::Card;
 use handset_bytes::decoding;
@@ -27,7 +27,7 @@ fn filled(card: Card, arena: &[u8], code: u16, bytes: &mut [u8], lanes: &mut [u8
 {
     match board_read::refresh(card, arena, code, bytes) {
         Refreshed::Board => {
-            text::put_records(&bytes[0..128], lanes);
+            records::put_records(&bytes[0..128], lanes);
             0
         }
         Refreshed::NoBoard(refusal) => outcome::numbered(refusal.number()),

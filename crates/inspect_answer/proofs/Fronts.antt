@@ -19,7 +19,7 @@ use Rattle.card_build.specs.Card.{nodesOf}
 use Rattle.request_check.specs.Row.{rowOf}
 use Rattle.request_block.specs.Block.{blockPlace, blockJudged, blockBy, storedBlock}
 use Rattle.card_lists.specs.Packet.{putAnswered, outAnswered}
-use Rattle.line_answer.specs.Answer.{closed}
+use Rattle.text_print.specs.Print.{closed}
 use Rattle.inspect_answer.specs.Fields.{putFields, sizeOf}
 
 -- What a writer put has room, and is its message.

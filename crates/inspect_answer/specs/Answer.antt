@@ -1,20 +1,25 @@
 -- The line that answers a question: its name and the fields of its answer.
 use Prim.Native.Nat.{ℕ, _/_, min}
 use mathlib.Core.List.{List, [], _∷_, _++_}
-use lib.ListN.{length, take}
+use lib.ListN.{length, take, getD}
+use Rattle.text_fields.specs.Field.{split}
 use Rattle.text_numbers.specs.Decimal.{decText}
 use Rattle.text_numbers.specs.Hex.{unhex}
 use Rattle.text_numbers.specs.Codes.{codesOf}
+use Rattle.text_print.specs.Print.{closed}
 use Rattle.card_build.specs.declared.card.Card.{Card}
 use Rattle.card_questions.specs.Total.{totalAnswer}
 use Rattle.card_questions.specs.Keys.{versionAnswer, areaListAnswer, serviceListAnswer}
-use Rattle.line_answer.specs.Answer.{closed}
 use Rattle.inspect_ask.specs.declared.Asked.{Asked}
 use Rattle.inspect_ask.specs.declared.Asked.the-variants as asks
 use Rattle.inspect_ask.specs.Question.{listName, infoName, readlistName, readinfoName, totalName, verName, dirName, areasName, svcsName, blockName, usedName, attrName, mostRoom}
 use Rattle.inspect_fields.specs.Attribute.{attributeFields}
 use Rattle.inspect_fields.specs.Fields.{fieldOne, readListFields, readInfoFields}
 use Rattle.inspect_answer.specs.Fields.{listFields, infoFields, totalFields, versionFields, directoryFields, checkedFields, blockFields, usedFields}
+
+-- a line's first field, which is the name of what it asks
+abbrev pub fieldZero : List ℕ → List ℕ
+fieldZero line = getD (split 9 line) 0 []
 
 abbrev pub nameOf : Asked → List ℕ
 nameOf (asks.List parent p) = listName

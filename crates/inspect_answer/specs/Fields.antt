@@ -6,6 +6,7 @@ use Rattle.answers.specs.declared.refusal.Told.{Told}
 use Rattle.answers.specs.declared.refusal.Told.the-variants as tolds
 use Rattle.text_numbers.specs.Decimal.{decText}
 use Rattle.text_numbers.specs.Hex.{hexText}
+use Rattle.text_print.specs.Print.{closed, fourDigits}
 use Rattle.node_messages.specs.declared.message.Put.{Put}
 use Rattle.node_messages.specs.declared.message.Put.the-variants as puts
 use Rattle.node_messages.specs.CodeList.{codeListBytes}
@@ -21,8 +22,7 @@ use Rattle.card_questions.specs.Directory.{directoryOf, directoryAnswer}
 use Rattle.card_lists.specs.Packet.{codeListOf, codeListPut}
 use Rattle.card_lists.specs.Information.{blocksOf, blocksPut}
 use Rattle.request_block.specs.Block.{storedBlock}
-use Rattle.line_answer.specs.Answer.{closed}
-use Rattle.inspect_fields.specs.Fields.{fourDigits, refusalFields}
+use Rattle.inspect_fields.specs.Fields.{refusalFields}
 
 -- `list`, `info`: the message's bytes, where the writer wrote them
 abbrev pub putFields : List ℕ → Put → List ℕ

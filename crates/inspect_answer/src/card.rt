@@ -7,10 +7,11 @@ use card_questions::listing;
 use card_questions::listing::Listing;
 use card_questions::totals;
 use inspect_fields::line::read_codes;
-use inspect_fields::put::put_hex;
-use inspect_fields::put::put_numbers;
 use inspect_fields::put::put_refusal;
-use inspect_fields::put::put_word;
+use text_print::put_hex;
+use text_print::put_number;
+use text_print::put_numbers;
+use text_print::put_word;
 ghost use mathlib.Core.Path.{_≡_};
 ghost use mathlib.Core.Bool.{true};
 ghost use Prim.Native.Nat.{_+_, _*_, _/_, _≤_};
@@ -29,7 +30,7 @@ pub(crate) fn put_total(card: Card, code: u16, out: &mut [u8], at: usize) -> usi
     ensures { λ r. ⌜ r ≤ at + mostFields ⌝ }
 {
     match totals::block_count_for_node(card, code) {
-        Told::Number(blocks) => line_answer::put_number(blocks as u64, b'\n', out, at),
+        Told::Number(blocks) => put_number(blocks as u64, b'\n', out, at),
         Told::Refused(refusal) => put_refusal(refusal, out, at),
     }
 }
@@ -139,5 +140,5 @@ pub(crate) fn put_used(card: Card, out: &mut [u8], at: usize) -> usize
     ensures { λ r. ⌜ Written (now (out .entry)) at (usedFields card) r (now (out .exit)) ⌝ }
     ensures { λ r. ⌜ r ≤ at + mostFields ⌝ }
 {
-    line_answer::put_number(card.used as u64, b'\n', out, at)
+    put_number(card.used as u64, b'\n', out, at)
 }

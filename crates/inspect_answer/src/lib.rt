@@ -6,42 +6,28 @@ use byte_parts::spans::least;
 use card_build::card::Card;
 use inspect_ask::Asked;
 use inspect_fields::attribute;
-use inspect_fields::put::put_word;
 use inspect_fields::read;
+use text_print::put_mark;
+use text_print::put_number;
+use text_print::put_word;
 ghost use mathlib.Core.Path.{_≡_};
 ghost use Prim.Native.Nat.{_+_, _≤_};
 ghost use lib.ListN.{length};
 ghost use Rattle.byte_parts.specs.Sizes.{mostPrinted};
 ghost use Rattle.text_stream.specs.Stream.{Written};
-ghost use Rattle.line_answer.specs.Answer.{closed};
+ghost use Rattle.text_print.specs.Print.{closed};
 ghost use Rattle.inspect_ask.specs.declared.Question.the-variants.{Of};
 ghost use Rattle.inspect_ask.specs.Question.{mostRoom, questionOf};
 ghost use Rattle.inspect_fields.specs.Fields.{mostFields};
-ghost use Rattle.inspect_answer.specs.Answer.{nameOf, fieldsOf, answerText, unknownText};
+ghost use Rattle.inspect_answer.specs.Answer.{fieldZero, fieldsOf, answerText, unknownText};
 
-// Puts the name of a question and a tab into `out` from `at` on, and answers the place after them.
-fn put_name(asked: Asked, out: &mut [u8], at: usize) -> usize
-    requires { ⌜ at + 9 ≤ length (now out) ⌝ }
-    ensures { λ r. ⌜ Written (now (out .entry)) at (closed 9 (nameOf asked)) r (now (out .exit)) ⌝ }
+// Puts the name of a question, the first field of its line, and a tab into `out` from `at` on, and answers the place after them.
+fn put_name(line: &[u8], out: &mut [u8], at: usize) -> usize
+    requires { ⌜ (length (fieldZero (now line)) ≤ 8) × (at + 9 ≤ length (now out)) ⌝ }
+    ensures { λ r. ⌜ Written (now (out .entry)) at (closed 9 (fieldZero (now (line .entry)))) r (now (out .exit)) ⌝ }
     ensures { λ r. ⌜ r ≤ at + 9 ⌝ }
 {
-    match asked {
-        Asked::List {
-            parent: _,
-            packet: _,
-        } => put_word(b"list", b'\t', out, at),
-        Asked::Info => put_word(b"info", b'\t', out, at),
-        Asked::ReadList => put_word(b"readlist", b'\t', out, at),
-        Asked::ReadInfo => put_word(b"readinfo", b'\t', out, at),
-        Asked::Total(_) => put_word(b"total", b'\t', out, at),
-        Asked::Version(_) => put_word(b"ver", b'\t', out, at),
-        Asked::Directory => put_word(b"dir", b'\t', out, at),
-        Asked::Areas => put_word(b"areas", b'\t', out, at),
-        Asked::Services => put_word(b"svcs", b'\t', out, at),
-        Asked::Block { code: _, number: _ } => put_word(b"block", b'\t', out, at),
-        Asked::Used => put_word(b"used", b'\t', out, at),
-        Asked::Attribute(_) => put_word(b"attr", b'\t', out, at),
-    }
+    put_word(text_fields::field(line, 0, b'\t'), b'\t', out, at)
 }
 
 // Puts the fields that answer a question into `out` from `at` on, and answers the place after them.
@@ -89,7 +75,7 @@ pub fn put_answer(
     requires { ⌜ (questionOf (now line) ≡ Of asked) × (at + mostPrinted ≤ length (now out)) ⌝ }
     ensures { λ r. ⌜ Written (now (out .entry)) at (answerText card (now (arena .entry)) lent room (now (line .entry)) asked) r (now (out .exit)) × (r ≤ at + mostPrinted) ⌝ }
 {
-    let next = put_name(asked, out, at);
+    let next = put_name(line, out, at);
     let n = least(lent, arena.len());
     let most = least(room, 4096);
     put_fields(asked, card, &arena[0..n], most, line, out, next)
@@ -100,6 +86,6 @@ pub fn put_unknown(number: u64, out: &mut [u8], at: usize) -> usize
     requires { ⌜ at + 23 ≤ length (now out) ⌝ }
     ensures { λ r. ⌜ Written (now (out .entry)) at (unknownText number) r (now (out .exit)) × (r ≤ at + 23) ⌝ }
 {
-    let next = put_word(b"?", b'\t', out, at);
-    line_answer::put_number(number, b'\n', out, next)
+    let next = put_mark(b'?', b'\t', out, at);
+    put_number(number, b'\n', out, next)
 }

@@ -3,9 +3,9 @@ use card_build::card::Card;
 use card_lists::information;
 use card_lists::packet;
 use inspect_fields::line::read_codes;
-use inspect_fields::put::put_hex;
 use inspect_fields::put::put_refusal;
 use node_messages::message::Put;
+use text_print::put_hex;
 ghost use mathlib.Core.Path.{_≡_};
 ghost use mathlib.Core.Bool.{true};
 ghost use Prim.Native.Nat.{_+_, _≤_};
@@ -74,8 +74,8 @@ fn put_blocks(
     ensures { λ r. ⌜ Written (now (out .entry)) at (infoFields card (length (now (arena .entry))) (now (asked .entry)) (length (now (work .entry)))) r (now (out .exit)) ⌝ }
     ensures { λ r. ⌜ r ≤ at + mostFields ⌝ }
 {
-    let put = information::put_block_information(card, arena, asked, work);
-    put_message(put, work, out, at)
+    let told = information::put_block_information(card, arena, asked, work);
+    put_message(told, work, out, at)
 }
 
 // Puts the answer to `info` into `out` from `at` on, and answers the place after it.

@@ -1,3 +1,3 @@
--- Laws of its own, numbers as digits; and what callers cite, what a question has in field 1.
-mod Digits
+-- Examples; and what callers cite, what a question has in field 1.
+pub mod Rows
 pub mod Lines

@@ -10,7 +10,7 @@ use Rattle.service_code.specs.declared.code.Decoded.{Decoded}
 use Rattle.service_code.specs.declared.code.Decoded.the-variants.{Defined, Undefined}
 use Rattle.service_code.specs.Code.{numberOf, attributeOf, kindOf, requiresKey}
 use Rattle.text_numbers.specs.Decimal.{decText}
-use Rattle.line_answer.specs.Answer.{closed}
+use Rattle.text_print.specs.Print.{closed}
 
 -- `random`, `cyclic`, `purse`
 abbrev pub kindText : ServiceKind → List ℕ

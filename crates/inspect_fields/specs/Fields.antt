@@ -1,5 +1,5 @@
 -- Fields that answer a question and need no card: parted by tabs (9) and ended by LF (10).
-use Prim.Native.Nat.{ℕ, _/_, _%_}
+use Prim.Native.Nat.{ℕ}
 use mathlib.Core.Bool.{Bool, true, false}
 use mathlib.Core.List.{List, [], _∷_, _++_}
 use lib.ListN.{take, getD}
@@ -9,12 +9,11 @@ use Rattle.answers.specs.declared.refusal.Answer.the-variants as answers
 use Rattle.answers.specs.Refusal.{refusalNumber}
 use Rattle.text_fields.specs.Field.{split}
 use Rattle.text_numbers.specs.Decimal.{decText}
-use Rattle.text_numbers.specs.Hex.{hexText}
+use Rattle.text_print.specs.Print.{closed, fourDigits}
 use Rattle.node_messages.specs.declared.code_list.CodeList.{CodeList}
 use Rattle.node_messages.specs.declared.information.BlockInformation.{BlockInformation}
 use Rattle.node_messages.specs.CodeList.{rangesOf, codesOf, readCodeList}
 use Rattle.node_messages.specs.Information.{nodesOf, readInformation}
-use Rattle.line_answer.specs.Answer.{closed}
 
 -- codes and bytes of a question stand in field 1
 abbrev pub fieldOne : List ℕ → List ℕ
@@ -23,15 +22,6 @@ fieldOne line = getD (split 9 line) 1 []
 -- no answer's fields are longer: 4,096 bytes in hex are 8,192 digits
 abbrev pub mostFields : ℕ
 mostFields = 8256
-
--- numbers of 16 bits as bytes, high byte first
-unfoldable pub highFirst : List ℕ → List ℕ
-highFirst [] = []
-highFirst (n ∷ ns) = (n / 256) ∷ (n % 256) ∷ highFirst ns
-
--- so they are four hex digits each, joined; `-` if there are none
-abbrev pub fourDigits : List ℕ → List ℕ
-fourDigits ns = hexText (highFirst ns)
 
 -- refused: `!` (33), the refusal's number
 unfoldable pub refusalFields : Refusal → List ℕ

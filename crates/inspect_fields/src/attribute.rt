@@ -1,13 +1,14 @@
 // The fields that answer `attr`: a code's number, kind and right, and whether it needs a key.
-use crate::put::put_word;
 use service_code::code::Decoded;
 use service_code::code::ServiceAttribute;
 use service_code::code::ServiceCode;
 use service_code::code::ServiceKind;
+use text_print::put_number;
+use text_print::put_word;
 ghost use Prim.Native.Nat.{_+_, _≤_};
 ghost use lib.ListN.{length};
 ghost use Rattle.text_stream.specs.Stream.{Written};
-ghost use Rattle.line_answer.specs.Answer.{closed};
+ghost use Rattle.text_print.specs.Print.{closed};
 ghost use Rattle.inspect_fields.specs.Attribute.{kindText, rightText, keyText, definedFields, attributeFields};
 ghost use Rattle.inspect_fields.specs.Fields.{mostFields};
 
@@ -73,7 +74,7 @@ pub fn put_attribute(code: u16, out: &mut [u8], at: usize) -> usize
 {
     let number = ServiceCode(code).number();
     let keyed = ServiceCode(code).requires_key();
-    let next = line_answer::put_number(number as u64, b'\t', out, at);
+    let next = put_number(number as u64, b'\t', out, at);
     match ServiceCode(code).attribute() {
         Decoded::Defined(attribute) => put_defined(attribute, keyed, out, next),
         Decoded::Undefined => put_word(b"-\t-\t-", b'\n', out, next),

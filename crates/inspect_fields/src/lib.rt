@@ -1,4 +1,4 @@
-// Fields that answer a question, put one after the other: words, numbers and bytes; what a message's bytes read as; what a code says.
+// Fields that answer a question and need no card: a refusal; what a message's bytes read as; what a code says.
 pub mod attribute;
 pub mod line;
 pub mod put;

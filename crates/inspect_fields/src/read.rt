@@ -1,21 +1,21 @@
 // The fields that answer `readlist` and `readinfo`: what a message's bytes read as.
 use crate::line::read_bytes;
-use crate::put::put_numbers;
 use crate::put::put_refusal;
-use crate::put::put_word;
 use answers::refusal::Answer;
 use byte_parts::spans::least;
 use node_messages::code_list;
 use node_messages::code_list::CodeList;
 use node_messages::information;
 use node_messages::information::BlockInformation;
+use text_print::put_mark;
+use text_print::put_numbers;
 ghost use mathlib.Core.Path.{_≡_};
 ghost use mathlib.Core.Bool.{true};
 ghost use Prim.Native.Nat.{_+_, _≤_};
 ghost use lib.ListN.{length};
 ghost use Rattle.text_numbers.specs.Hex.{hexField, unhex};
 ghost use Rattle.text_stream.specs.Stream.{Written};
-ghost use Rattle.line_answer.specs.Answer.{closed};
+ghost use Rattle.text_print.specs.Print.{closed};
 ghost use Rattle.inspect_fields.specs.Fields.{mostFields, fieldOne, flagText, codeListFields, informationFields, readListFields, readInfoFields};
 
 // Puts a flag and a tab into `out` from `at` on, and answers the place after them.
@@ -25,9 +25,9 @@ fn put_flag(more: bool, out: &mut [u8], at: usize) -> usize
     ensures { λ r. ⌜ r ≤ at + 2 ⌝ }
 {
     if more {
-        return put_word(b"1", b'\t', out, at);
+        return put_mark(b'1', b'\t', out, at);
     }
-    put_word(b"0", b'\t', out, at)
+    put_mark(b'0', b'\t', out, at)
 }
 
 // Puts a code list, flag, areas and services, into `out` from `at` on, and answers the place after it.

@@ -34,7 +34,7 @@ use Rattle.line_serve.specs.Line.{lineServed}
 use Rattle.law_terminals.specs.Orders.{after}
 use Rattle.law_terminals.specs.Last.{Redrawn}
 use Rattle.board_lanes.specs.Board.{isEmpty, areCrew, blockJudged, laneJudged, lanesJudged, sameRace, ofRace, oneRace, racesJudged, judgedOf, crewLength, laneOf, lanesFrom}
-use Rattle.board_lanes.specs.Text.{lanesText}
+use Rattle.board_line.specs.Text.{lanesText}
 use Rattle.board_read.specs.Refresh.{boardRequest, refreshed}
 use Rattle.board_line.specs.Line.{boardLine, boardCode, boardLineText}
 use Rattle.replay_state.specs.declared.Phase.the-variants.{Requests}

@@ -19,7 +19,7 @@ use Rattle.board_lanes.specs.declared.refusal.BoardRefusal.the-variants.{RacesD
 use Rattle.board_lanes.specs.declared.lanes.Judged.{Judged}
 use Rattle.board_lanes.specs.declared.lanes.Judged.the-variants as judged
 use Rattle.board_lanes.specs.Board.{blockAt, boardNumber, Lane, empty, filled, laneOf, lanesFrom, lanesOf, lanes, judgedOf, boardOf}
-use Rattle.board_lanes.specs.Text.{laneRecord, lanesRecords}
+use Rattle.board_lanes.specs.Records.{laneRecord, lanesRecords}
 use Rattle.board_read.specs.Refresh.{eightBlocks, boardServed, refreshedBy, refreshedAfter, refreshed, blocksAfter}
 use Rattle.board_read.proofs.Refreshing.{by-blocks, read-room, board-bytes}
 use Rattle.handset.specs.Reply.{replyAs}

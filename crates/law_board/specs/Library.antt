@@ -7,7 +7,7 @@ use Rattle.service_code.specs.Code.{numberOf}
 use Rattle.byte_parts.specs.Part.{part, put}
 use Rattle.card_build.specs.declared.card.Card.{Card}
 use Rattle.board_lanes.specs.Board.{laneOf, lanes, lanesOf, boardOf}
-use Rattle.board_lanes.specs.Text.{laneRecord, lanesRecords}
+use Rattle.board_lanes.specs.Records.{laneRecord, lanesRecords}
 use Rattle.handset.specs.Reply.{replyAs}
 use Rattle.handset.specs.Board.{refreshedAs, boardMade, recordsAfter}
 use Rattle.law_terminals.specs.Two.{All}

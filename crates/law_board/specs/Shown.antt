@@ -16,7 +16,7 @@ use Rattle.request_plan.specs.declared.Reply.the-variants as replies
 use Rattle.request_plan.specs.Serve.{storeIn}
 use Rattle.line_answer.specs.Answer.{refusedText, answerText}
 use Rattle.board_lanes.specs.Board.{boardNumber, Board, lanes, refused, boardOf}
-use Rattle.board_lanes.specs.Text.{lanesText}
+use Rattle.board_line.specs.Text.{lanesText}
 use Rattle.board_read.specs.Refresh.{boardServed}
 use Rattle.board_line.specs.Line.{boardCode, boardLineText}
 

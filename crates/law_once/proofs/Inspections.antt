@@ -12,9 +12,6 @@ use Rattle.law_once.proofs.Law.{once, of-one, of-two, of-facts, result}
 use Rattle.inspect_ask.proofs.question_of as inspect_ask·question-of
 use Rattle.inspect_fields.proofs.line.read_codes as inspect_fields·read-codes
 use Rattle.inspect_fields.proofs.line.read_bytes as inspect_fields·read-bytes
-use Rattle.inspect_fields.proofs.put.put_word as inspect_fields·put-word
-use Rattle.inspect_fields.proofs.put.put_hex as inspect_fields·put-hex
-use Rattle.inspect_fields.proofs.put.put_numbers as inspect_fields·put-numbers
 use Rattle.inspect_fields.proofs.put.put_refusal as inspect_fields·put-refusal
 use Rattle.inspect_fields.proofs.read.put_read_list as inspect_fields·put-read-list
 use Rattle.inspect_fields.proofs.read.put_read_info as inspect_fields·put-read-info
@@ -33,15 +30,6 @@ module _ {M : Type 1} (𝓤 : URA M) (H : Heap 𝓤) (A : Atoms 𝓤) (mem : Mem
 
   pub inspect_fields·read-bytes-once : OneAnswer 𝓤 inspect_fields·read-bytes.ended (inspect_fields·read-bytes.clauses 𝓤 H A mem run)
   inspect_fields·read-bytes-once κs a g r r′ ws ws′ = of-two 𝓤 (λ p p′ q q′. (once (p .0) (q .0), λ i. (tt, (once p′ q′ i, tt))))
-
-  pub inspect_fields·put-word-once : OneAnswer 𝓤 inspect_fields·put-word.ended (inspect_fields·put-word.clauses 𝓤 H A mem run)
-  inspect_fields·put-word-once κs a g r r′ ws ws′ = of-two 𝓤 (λ p p′ q q′. (once (p .place) (q .place), λ i. (tt, (tt, (once (p .bytes) (q .bytes) i, (tt, tt))))))
-
-  pub inspect_fields·put-hex-once : OneAnswer 𝓤 inspect_fields·put-hex.ended (inspect_fields·put-hex.clauses 𝓤 H A mem run)
-  inspect_fields·put-hex-once κs a g r r′ ws ws′ = of-two 𝓤 (λ p p′ q q′. (once (p .place) (q .place), λ i. (tt, (tt, (once (p .bytes) (q .bytes) i, (tt, tt))))))
-
-  pub inspect_fields·put-numbers-once : OneAnswer 𝓤 inspect_fields·put-numbers.ended (inspect_fields·put-numbers.clauses 𝓤 H A mem run)
-  inspect_fields·put-numbers-once κs a g r r′ ws ws′ = of-two 𝓤 (λ p p′ q q′. (once (p .place) (q .place), λ i. (tt, (tt, (once (p .bytes) (q .bytes) i, (tt, tt))))))
 
   pub inspect_fields·put-refusal-once : OneAnswer 𝓤 inspect_fields·put-refusal.ended (inspect_fields·put-refusal.clauses 𝓤 H A mem run)
   inspect_fields·put-refusal-once κs a g r r′ ws ws′ = of-two 𝓤 (λ p p′ q q′. (once (p .place) (q .place), λ i. (tt, (once (p .bytes) (q .bytes) i, (tt, tt)))))

@@ -18,7 +18,6 @@ use Rattle.line_image.proofs.image.image_line as line_image·image-line
 use Rattle.line_request.proofs.is_letter as line_request·is-letter
 use Rattle.line_request.proofs.is_request as line_request·is-request
 use Rattle.line_request.proofs.ask_of as line_request·ask-of
-use Rattle.line_answer.proofs.put_number as line_answer·put-number
 use Rattle.line_answer.proofs.put_fields as line_answer·put-fields
 use Rattle.line_answer.proofs.put_answer as line_answer·put-answer
 use Rattle.line_answer.proofs.put_refused as line_answer·put-refused
@@ -62,9 +61,6 @@ module _ {M : Type 1} (𝓤 : URA M) (H : Heap 𝓤) (A : Atoms 𝓤) (mem : Mem
 
   pub line_request·ask-of-once : OneAnswer 𝓤 line_request·ask-of.ended (line_request·ask-of.clauses 𝓤 H A mem run)
   line_request·ask-of-once κs a g r r′ ws ws′ = result 𝓤 refl
-
-  pub line_answer·put-number-once : OneAnswer 𝓤 line_answer·put-number.ended (line_answer·put-number.clauses 𝓤 H A mem run)
-  line_answer·put-number-once κs a g r r′ ws ws′ = of-two 𝓤 (λ p p′ q q′. (once (p .place) (q .place), λ i. (tt, (tt, (once (p .bytes) (q .bytes) i, (tt, tt))))))
 
   pub line_answer·put-fields-once : OneAnswer 𝓤 line_answer·put-fields.ended (line_answer·put-fields.clauses 𝓤 H A mem run)
   line_answer·put-fields-once κs a g r r′ ws ws′ = of-two 𝓤 (λ p p′ q q′. (once (p .place) (q .place), λ i. (tt, (tt, (tt, (once (p .bytes) (q .bytes) i, (tt, tt)))))))

@@ -30,6 +30,11 @@ use Rattle.text_numbers.proofs.codes.read_codes as text_numbers·read-codes
 use Rattle.text_numbers.proofs.decimals.read_dec as text_numbers·read-dec
 use Rattle.text_numbers.proofs.decimals.read_signed as text_numbers·read-signed
 use Rattle.text_numbers.proofs.decimals.put_dec as text_numbers·put-dec
+use Rattle.text_print.proofs.put_mark as text_print·put-mark
+use Rattle.text_print.proofs.put_word as text_print·put-word
+use Rattle.text_print.proofs.put_number as text_print·put-number
+use Rattle.text_print.proofs.put_hex as text_print·put-hex
+use Rattle.text_print.proofs.put_numbers as text_print·put-numbers
 use Rattle.test_stored.proofs.before_all as test_stored·before-all
 use Rattle.test_stored.proofs.one_more as test_stored·one-more
 use Rattle.test_stored.proofs.number16 as test_stored·number16
@@ -93,6 +98,21 @@ module _ {M : Type 1} (𝓤 : URA M) (H : Heap 𝓤) (A : Atoms 𝓤) (mem : Mem
 
   pub text_numbers·put-dec-once : OneAnswer 𝓤 text_numbers·put-dec.ended (text_numbers·put-dec.clauses 𝓤 H A mem run)
   text_numbers·put-dec-once κs a g r r′ ws ws′ = of-two 𝓤 (λ p p′ q q′. (once p q, λ i. (tt, (once p′ q′ i, (tt, tt)))))
+
+  pub text_print·put-mark-once : OneAnswer 𝓤 text_print·put-mark.ended (text_print·put-mark.clauses 𝓤 H A mem run)
+  text_print·put-mark-once κs a g r r′ ws ws′ = of-two 𝓤 (λ p p′ q q′. (once (p .place) (q .place), λ i. (tt, (tt, (once (p .bytes) (q .bytes) i, (tt, tt))))))
+
+  pub text_print·put-word-once : OneAnswer 𝓤 text_print·put-word.ended (text_print·put-word.clauses 𝓤 H A mem run)
+  text_print·put-word-once κs a g r r′ ws ws′ = of-two 𝓤 (λ p p′ q q′. (once (p .place) (q .place), λ i. (tt, (tt, (once (p .bytes) (q .bytes) i, (tt, tt))))))
+
+  pub text_print·put-number-once : OneAnswer 𝓤 text_print·put-number.ended (text_print·put-number.clauses 𝓤 H A mem run)
+  text_print·put-number-once κs a g r r′ ws ws′ = of-two 𝓤 (λ p p′ q q′. (once (p .place) (q .place), λ i. (tt, (tt, (once (p .bytes) (q .bytes) i, (tt, tt))))))
+
+  pub text_print·put-hex-once : OneAnswer 𝓤 text_print·put-hex.ended (text_print·put-hex.clauses 𝓤 H A mem run)
+  text_print·put-hex-once κs a g r r′ ws ws′ = of-two 𝓤 (λ p p′ q q′. (once (p .place) (q .place), λ i. (tt, (tt, (once (p .bytes) (q .bytes) i, (tt, tt))))))
+
+  pub text_print·put-numbers-once : OneAnswer 𝓤 text_print·put-numbers.ended (text_print·put-numbers.clauses 𝓤 H A mem run)
+  text_print·put-numbers-once κs a g r r′ ws ws′ = of-two 𝓤 (λ p p′ q q′. (once (p .place) (q .place), λ i. (tt, (tt, (once (p .bytes) (q .bytes) i, (tt, tt))))))
 
   pub test_stored·before-all-once : OneAnswer 𝓤 test_stored·before-all.ended (test_stored·before-all.clauses 𝓤 H A mem run)
   test_stored·before-all-once κs a g r r′ ws ws′ = result 𝓤 refl

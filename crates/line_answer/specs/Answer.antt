@@ -5,14 +5,11 @@ use mathlib.Core.List.{List, [], _∷_, _++_}
 use lib.Dec.{eqb}
 use Rattle.text_numbers.specs.Decimal.{decText}
 use Rattle.text_numbers.specs.Hex.{hexText}
+use Rattle.text_print.specs.Print.{closed}
 use Rattle.request_plan.specs.declared.Reply.{Reply}
 use Rattle.request_plan.specs.declared.Response.{Response}
 use Rattle.request_plan.specs.declared.Response.the-variants.{Pair, Refusal}
 use Rattle.request_plan.specs.Request.{responseOf, causeIn}
-
--- a field and the byte that ends it
-abbrev pub closed : ℕ → List ℕ → List ℕ
-closed end t = t ++ (end ∷ [])
 
 -- five fields parted by tabs
 abbrev pub fiveFields : List ℕ → List ℕ → List ℕ → List ℕ → List ℕ → List ℕ

@@ -1,37 +1,17 @@
 // The line that answers a request.
 use request_plan::Reply;
 use request_plan::Response;
-use text_numbers::decimals;
 use text_numbers::hex;
+use text_print::put_hex;
+use text_print::put_mark;
+use text_print::put_number;
 ghost use mathlib.Core.List.{[], _∷_};
 ghost use Prim.Native.Nat.{_+_, _≤_, _<_};
 ghost use lib.ListN.{length};
-ghost use Rattle.text_numbers.specs.Decimal.{decText};
 ghost use Rattle.text_numbers.specs.Hex.{hexText};
 ghost use Rattle.text_stream.specs.Stream.{Written};
-ghost use Rattle.line_answer.specs.Answer.{closed, whereText, statusFields, refusalFields, answerFields, causeText, answerText, refusedText};
-
-// Puts one byte and the byte that ends its field into `out` from `at` on, and answers the place after them.
-fn put_mark(mark: u8, end: u8, out: &mut [u8], at: usize) -> usize
-    requires { ⌜ at + 2 ≤ length (now out) ⌝ }
-    ensures { λ r. ⌜ Written (now (out .entry)) at (closed end (mark ∷ [])) r (now (out .exit)) ⌝ }
-    ensures { λ r. ⌜ r ≤ at + 2 ⌝ }
-{
-    out[at] = mark;
-    out[at + 1] = end;
-    at + 2
-}
-
-// Puts a decimal, which takes up to twenty bytes, and the byte that ends its field, and answers the place after them.
-pub fn put_number(n: u64, end: u8, out: &mut [u8], at: usize) -> usize
-    requires { ⌜ at + 21 ≤ length (now out) ⌝ }
-    ensures { λ r. ⌜ Written (now (out .entry)) at (closed end (decText n)) r (now (out .exit)) ⌝ }
-    ensures { λ r. ⌜ r ≤ at + 21 ⌝ }
-{
-    let last = decimals::put_dec(n, out, at);
-    out[last] = end;
-    last + 1
-}
+ghost use Rattle.text_print.specs.Print.{closed};
+ghost use Rattle.line_answer.specs.Answer.{whereText, statusFields, refusalFields, answerFields, causeText, answerText, refusedText};
 
 // Puts where an error is and a tab, and answers the place after them: `-` for a status flag 1 of 00; `*` for FF, which stands for every place from
 // 255 on and for no place; else the place in decimal.
@@ -56,9 +36,7 @@ fn put_flag(flag: u8, out: &mut [u8], at: usize) -> usize
     ensures { λ r. ⌜ r ≤ at + 4 ⌝ }
 {
     let one = [flag];
-    let last = hex::put_hex_field(&one, out, at);
-    out[last] = b'\t';
-    last + 1
+    put_hex(&one, b'\t', out, at)
 }
 
 // Puts the fields of a refused request, and answers the place after them.

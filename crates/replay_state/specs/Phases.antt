@@ -7,8 +7,8 @@ use Rattle.answers.specs.declared.refusal.Refusal.{Refusal}
 use Rattle.answers.specs.declared.refusal.Refusal.the-variants.{MalformedImage}
 use Rattle.answers.specs.Refusal.{refusalNumber}
 use Rattle.text_numbers.specs.Decimal.{decText}
+use Rattle.text_print.specs.Print.{closed}
 use Rattle.card_build.specs.Card.{systemOf, newCard}
-use Rattle.line_answer.specs.Answer.{closed}
 use Rattle.replay_state.specs.declared.Phase.{Phase}
 use Rattle.replay_state.specs.declared.Phase.the-variants.{First, Image, Requests, Ended}
 use Rattle.replay_state.specs.declared.Replay.{Replay}

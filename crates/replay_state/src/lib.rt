@@ -1,8 +1,9 @@
 // A replay: where it is between two lines, how it starts and ends.
 use answers::refusal::Refusal;
-use byte_parts::spans;
 use card_build::card::Card;
 use card_build::card::System;
+use text_print::put_number;
+use text_print::put_word;
 ghost use mathlib.Core.Path.{_≡_};
 ghost use Prim.Native.Nat.{_+_, _≤_};
 ghost use lib.ListN.{length};
@@ -48,9 +49,9 @@ pub fn put_refusal(line: u64, refusal: Refusal, out: &mut [u8], at: usize) -> us
     ensures { λ r. ⌜ Written (now (out .entry)) at (refusalText line refusal) r (now (out .exit)) ⌝ }
     ensures { λ r. ⌜ r ≤ at + 48 ⌝ }
 {
-    spans::copy(out, at, b"image\t", 0, 6);
-    let last = line_answer::put_number(line, b'\t', out, at + 6);
-    line_answer::put_number(refusal.number() as u64, b'\n', out, last)
+    let next = put_word(b"image", b'\t', out, at);
+    let last = put_number(line, b'\t', out, next);
+    put_number(refusal.number() as u64, b'\n', out, last)
 }
 
 // Puts what the end of a text prints into `out` from `at` on, and answers the place after it: a text without a line is refused at

@@ -7,7 +7,8 @@ use denote.Ref.{now}
 use Rattle.text_stream.proofs.Prints.{written-more, written-byte}
 use Rattle.request_plan.specs.Request.{causeIn}
 use Rattle.request_plan.proofs.Causes.{most-cause}
-use Rattle.line_answer.specs.Answer.{closed, answerFields, causeText}
+use Rattle.text_print.specs.Print.{closed}
+use Rattle.line_answer.specs.Answer.{answerFields, causeText}
 use Rattle.line_answer.proofs.put_answer.Statement.{statement}
 use Rattle.line_answer.proofs.put_answer.Tie as tie
 

@@ -4,7 +4,8 @@ use native.Mathlib.Omega.{arith}
 use mathlib.Core.List.{[], _∷_}
 use lib.ListN.{length-set}
 use Rattle.text_stream.proofs.Prints.{written-more, written-byte}
-use Rattle.line_answer.specs.Answer.{closed, refusalFields}
+use Rattle.text_print.specs.Print.{closed}
+use Rattle.line_answer.specs.Answer.{refusalFields}
 use Rattle.line_answer.proofs.put_refused.Statement.{statement}
 use Rattle.line_answer.proofs.put_refused.Tie as tie
 

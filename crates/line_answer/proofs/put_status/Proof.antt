@@ -7,7 +7,8 @@ use Rattle.text_numbers.specs.Decimal.{decText}
 use Rattle.text_numbers.specs.Hex.{hexText}
 use Rattle.text_numbers.proofs.HexLaws.{hexText-long}
 use Rattle.text_stream.proofs.Prints.{written-more}
-use Rattle.line_answer.specs.Answer.{closed, whereText, statusFields}
+use Rattle.text_print.specs.Print.{closed}
+use Rattle.line_answer.specs.Answer.{whereText, statusFields}
 use Rattle.line_answer.proofs.put_status.Statement.{statement}
 use Rattle.line_answer.proofs.put_status.Tie as tie
 

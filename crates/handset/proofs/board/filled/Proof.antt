@@ -8,7 +8,7 @@ use denote.Ref.{now}
 use borrow.Author.Needs.{needs}
 use Rattle.byte_parts.specs.Part.{put}
 use Rattle.board_lanes.specs.Board.{lanesOf}
-use Rattle.board_lanes.specs.Text.{lanesRecords}
+use Rattle.board_lanes.specs.Records.{lanesRecords}
 use Rattle.board_read.specs.declared.Refreshed.the-variants.{Board}
 use Rattle.board_read.specs.Refresh.{refreshed}
 use Rattle.board_read.proofs.Refreshing.{read-room, blocks-front, board-done}

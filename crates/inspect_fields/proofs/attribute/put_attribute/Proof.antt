@@ -6,7 +6,7 @@ use mathlib.Core.List.{[], _∷_}
 use Rattle.service_code.specs.Code.{numberOf}
 use Rattle.text_numbers.specs.Decimal.{decText}
 use Rattle.text_stream.proofs.Prints.{written-more}
-use Rattle.line_answer.specs.Answer.{closed}
+use Rattle.text_print.specs.Print.{closed}
 use Rattle.inspect_fields.specs.Attribute.{attributeFields}
 use Rattle.inspect_fields.proofs.attribute.put_attribute.Statement.{statement}
 use Rattle.inspect_fields.proofs.attribute.put_attribute.Tie as tie

@@ -3,7 +3,7 @@ use borrow.Author.Needs.{needs}
 use native.Mathlib.Omega.{arith}
 use Rattle.service_code.specs.Code.{kindOf}
 use Rattle.text_stream.proofs.Prints.{written-more}
-use Rattle.line_answer.specs.Answer.{closed}
+use Rattle.text_print.specs.Print.{closed}
 use Rattle.inspect_fields.specs.Attribute.{kindText, rightText, keyText}
 use Rattle.inspect_fields.proofs.attribute.put_defined.Statement.{statement}
 use Rattle.inspect_fields.proofs.attribute.put_defined.Tie as tie

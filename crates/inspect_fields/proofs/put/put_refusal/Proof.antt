@@ -5,7 +5,7 @@ use mathlib.Core.List.{[], _∷_}
 use Rattle.answers.specs.Refusal.{refusalNumber}
 use Rattle.text_numbers.specs.Decimal.{decText}
 use Rattle.text_stream.proofs.Prints.{written-more}
-use Rattle.line_answer.specs.Answer.{closed}
+use Rattle.text_print.specs.Print.{closed}
 use Rattle.inspect_fields.specs.Fields.{refusalFields}
 use Rattle.inspect_fields.proofs.put.put_refusal.Statement.{statement}
 use Rattle.inspect_fields.proofs.put.put_refusal.Tie as tie
@@ -15,15 +15,14 @@ unfolding refusalFields
 returns c =
     let q = c .before .before in
     let p = q .before .before .before .before .before in
-    let a = p .before .before .before .before .args in
+    let a = p .before .before .before .args in
     let e = q .before .before .number .ensures in
-    (written-more (closed 9 (33 ∷ [])) (closed 10 (decText (refusalNumber (a .refusal)))) (p .put-word .ensures .0) (rw e at (q .put-number .ensures .0)), omega (arith, p .put-word .ensures .1, q .put-number .ensures .1))
+    (written-more (closed 9 (33 ∷ [])) (closed 10 (decText (refusalNumber (a .refusal)))) (p .put-mark .ensures .0) (rw e at (q .put-number .ensures .0)), omega (arith, p .put-mark .ensures .1, q .put-number .ensures .1))
 
 pub put-refusal-spec : {M : Type 1} → statement M
 put-refusal-spec =
     tie.close
     (tie.spec
-    (λ c. search needs)
     (λ c κs. search needs)
     (λ c κs. search needs)
     (λ c. search needs)

@@ -7,22 +7,20 @@ use Rattle.inspect_fields.proofs.read.put_flag.Tie as tie
 returns : tie.Need-returns
 returns c =
     let p = c .before .before in
-    rw (p .before .before .before .if1 .taken) (p .put-word .ensures .0, omega (arith, p .put-word .ensures .1))
+    rw (p .before .before .if1 .taken) (p .put-mark .ensures .0, omega (arith, p .put-mark .ensures .1))
 
 returns-2 : tie.Need-returns-2
 returns-2 c =
     let p = c .before .before in
-    rw (p .before .before .before .if1 .left) (p .put-word2 .ensures .0, omega (arith, p .put-word2 .ensures .1))
+    rw (p .before .before .if1 .left) (p .put-mark2 .ensures .0, omega (arith, p .put-mark2 .ensures .1))
 
 pub put-flag-spec : {M : Type 1} → statement M
 put-flag-spec =
     tie.close
     (tie.spec
-    (λ c. search needs)
     (λ c κs. search needs)
     (λ c. search needs)
     returns
-    (λ c. search needs)
     (λ c κs. search needs)
     (λ c. search needs)
     returns-2)

@@ -1,0 +1,21 @@
+-- The board as it is printed: eight lines.
+use Prim.Native.Nat.{ℕ, _+_}
+use mathlib.Core.List.{List, [], _∷_, _++_}
+use Rattle.text_numbers.specs.Decimal.{decText}
+use Rattle.text_print.specs.Print.{closed}
+use Rattle.board_lanes.specs.Board.{Lane, empty, filled}
+
+-- lane, race and crew, parted by tabs (9) and ended by LF (10); an empty lane has `-` (45) twice
+abbrev pub laneText : ℕ → Lane → List ℕ
+laneText number empty = closed 9 (decText number) ++ closed 9 (45 ∷ []) ++ closed 10 (45 ∷ [])
+laneText number (filled race crew) = closed 9 (decText number) ++ closed 9 (decText race) ++ closed 10 crew
+
+-- lane after lane, from a number on
+unfoldable pub lanesText : ℕ → List Lane → List ℕ
+lanesText number [] = []
+lanesText number (l ∷ ls) = laneText number l ++ lanesText (number + 1) ls
+
+-- room for a board: eight lines of at most 21 bytes (lane, race of five digits, crew of twelve bytes, two tabs and LF), and in the last of
+-- them two bytes more, since a number is put only where any number has room
+abbrev pub mostBoard : ℕ
+mostBoard = 170
