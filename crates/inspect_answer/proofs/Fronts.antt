@@ -22,8 +22,11 @@ use Rattle.card_lists.specs.Packet.{putAnswered, outAnswered}
 use Rattle.text_print.specs.Print.{closed}
 use Rattle.inspect_answer.specs.Fields.{putFields, sizeOf}
 
--- What a writer put has room, and is its message.
-put-shown : (message out : List ℕ) → let put = putOf message (length out) in (sizeOf put ≤ length out) × (putFields (take (sizeOf put) (outputAfter message out)) put ≡ putFields message put)
+-- What a writer says has room in its output, and what it wrote there is printed as these fields.
+abbrev pub Tells : Put → List ℕ → ℕ → List ℕ → Type 0
+Tells put after room fields = (sizeOf put ≤ room) × (putFields (take (sizeOf put) after) put ≡ fields)
+
+put-shown : (message out : List ℕ) → let put = putOf message (length out) in Tells put (outputAfter message out) (length out) (putFields message put)
 unfolding putOf
 put-shown message out =
     elim (decLt (length out) (length message)) [
@@ -35,13 +38,13 @@ put-shown message out =
 
 answer-shown
     : (x : Answer) (message out : List ℕ) → let put = putAnswered x message (length out) in
-    (sizeOf put ≤ length out) × (putFields (take (sizeOf put) (outAnswered x message out)) put ≡ putFields message put)
+    Tells put (outAnswered x message out) (length out) (putFields message put)
 answer-shown answers.Done message out = put-shown message out
 answer-shown (answers.Refused r) message out = (omega arith, refl)
 
 pub shown
     : (x : Answer) (message out : List ℕ) {put : Put} {after : List ℕ} → put ≡ putAnswered x message (length out) → after ≡ outAnswered x message out
-    → (sizeOf put ≤ length out) × (putFields (take (sizeOf put) after) put ≡ putFields message (putAnswered x message (length out)))
+    → Tells put after (length out) (putFields message (putAnswered x message (length out)))
 shown x message out p q = rw (p, q) (answer-shown x message out)
 
 -- The first bytes of an arena, as many as there are.

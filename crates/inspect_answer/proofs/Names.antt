@@ -15,6 +15,8 @@ use Rattle.text_numbers.specs.declared.codes.Code.{Code}
 use Rattle.text_numbers.specs.declared.codes.Code.the-variants as codes
 use Rattle.text_numbers.specs.declared.decimals.Number.{Number}
 use Rattle.text_numbers.specs.declared.decimals.Number.the-variants as numbers
+use Rattle.text_numbers.specs.Hex.{hexField}
+use Rattle.text_numbers.specs.Codes.{codesField}
 use Rattle.line_image.specs.Line.{codeAt, numberAt, named, form}
 use Rattle.inspect_ask.specs.declared.Asked.{Asked}
 use Rattle.inspect_ask.specs.declared.Asked.the-variants as asks
@@ -71,8 +73,8 @@ module _ (fs : List (List ℕ)) where
       by totalName 2 (totalLine fs) _ (λ e. on-code (codeAt fs 1) _ (λ n. e))
       (by verName 2 (versionLine fs) _ (λ e. on-code (codeAt fs 1) _ (λ n. e))
       (by dirName 1 (Of asks.Directory) _ (λ e. e)
-      (by areasName 2 (codesLine asks.Areas fs) _ (λ e. tested _ asks.Areas e)
-      (by svcsName 2 (codesLine asks.Services fs) _ (λ e. tested _ asks.Services e)
+      (by areasName 2 (codesLine asks.Areas fs) _ (λ e. tested (codesField (getD fs 1 [])) asks.Areas e)
+      (by svcsName 2 (codesLine asks.Services fs) _ (λ e. tested (codesField (getD fs 1 [])) asks.Services e)
       (by blockName 3 (blockLine fs) _ (λ e. on-code (codeAt fs 1) _ (λ n. on-number (numberAt fs 2 4294967295) _ (λ m. e)))
       (by usedName 1 (Of asks.Used) _ (λ e. e)
       (by attrName 2 (attributeLine fs) (lentAsked fs) (λ e. on-code (codeAt fs 1) _ (λ n. e)) on-lent)))))))
@@ -81,9 +83,9 @@ module _ (fs : List (List ℕ)) where
   unfolding messageAsked listLine codesLine bytesLine
   on-message =
       by listName 3 (listLine fs) _ (λ e. on-code (codeAt fs 1) _ (λ n. on-number (numberAt fs 2 4294967295) _ (λ m. e)))
-      (by infoName 2 (codesLine asks.Info fs) _ (λ e. tested _ asks.Info e)
-      (by readlistName 2 (bytesLine asks.ReadList fs) _ (λ e. tested _ asks.ReadList e)
-      (by readinfoName 2 (bytesLine asks.ReadInfo fs) (cardAsked fs) (λ e. tested _ asks.ReadInfo e) on-card)))
+      (by infoName 2 (codesLine asks.Info fs) _ (λ e. tested (codesField (getD fs 1 [])) asks.Info e)
+      (by readlistName 2 (bytesLine asks.ReadList fs) _ (λ e. tested (hexField (getD fs 1 [])) asks.ReadList e)
+      (by readinfoName 2 (bytesLine asks.ReadInfo fs) (cardAsked fs) (λ e. tested (hexField (getD fs 1 [])) asks.ReadInfo e) on-card)))
 
 -- A line that asks has the question's name in its first field.
 pub asked-name : (line : List ℕ) (asked : Asked) → questionOf line ≡ Of asked → fieldZero line ≡ nameOf asked

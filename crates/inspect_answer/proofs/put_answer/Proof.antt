@@ -16,7 +16,7 @@ use Rattle.inspect_answer.proofs.put_answer.Tie as tie
 
 put-name-requires : tie.Need-put-name-requires
 put-name-requires c κs =
-    let s = c .before .before .before in
+    let s = c .before .before .before .before in
     let e = asked-name (now (s .args .line)) (s .args .asked) (s .pre .0) in
     (rw e (name-long (s .args .asked)), omega (arith, s .pre .1))
 

@@ -1,23 +1,19 @@
 -- `message::put_blocks` meets its contract: what was written is the information. Assumes nothing.
 use borrow.Author.Needs.{needs}
 use native.Mathlib.Omega.{arith}
-use Prim.Native.Nat.{_≤_}
-use mathlib.Core.Path.{_≡_}
-use lib.ListN.{length, take}
+use lib.ListN.{length}
 use denote.Ref.{now}
 use Rattle.node_messages.specs.Information.{informationBytes}
 use Rattle.card_lists.specs.Information.{blocksOf, blocksPut, blocksOut}
-use Rattle.inspect_answer.specs.Fields.{putFields, sizeOf, infoFields}
-use Rattle.inspect_answer.proofs.Fronts.{shown}
+use Rattle.inspect_answer.specs.Fields.{infoFields}
+use Rattle.inspect_answer.proofs.Fronts.{Tells, shown}
 use Rattle.inspect_answer.proofs.message.put_blocks.Statement.{statement}
 use Rattle.inspect_answer.proofs.message.put_blocks.Tie as tie
 
 -- what the writer was found to say, and what it wrote
 wrote
     : (k : tie.After-put-block-information) → let a = k .before .before .before .before .before .before .args in
-    let put = k .put-block-information .result in
-    (sizeOf put ≤ length (now (a .work)))
-    × (putFields (take (sizeOf put) (k .put-block-information .last .1 .1 .1 .0)) put ≡ infoFields (a .card) (length (now (a .arena))) (now (a .asked)) (length (now (a .work))))
+    Tells (k .put-block-information .result) (k .put-block-information .last .1 .1 .1 .0) (length (now (a .work))) (infoFields (a .card) (length (now (a .arena))) (now (a .asked)) (length (now (a .work))))
 unfolding infoFields blocksPut blocksOut
 wrote k =
     let a = k .before .before .before .before .before .before .args in

@@ -1,23 +1,19 @@
 -- `message::put_packet` meets its contract: what was written is the packet. Assumes nothing.
 use borrow.Author.Needs.{needs}
 use native.Mathlib.Omega.{arith}
-use Prim.Native.Nat.{_≤_}
-use mathlib.Core.Path.{_≡_}
-use lib.ListN.{length, take}
+use lib.ListN.{length}
 use denote.Ref.{now}
 use Rattle.node_messages.specs.CodeList.{codeListBytes}
 use Rattle.card_lists.specs.Packet.{codeListOf, codeListPut, codeListOut}
-use Rattle.inspect_answer.specs.Fields.{putFields, sizeOf, listFields}
-use Rattle.inspect_answer.proofs.Fronts.{shown}
+use Rattle.inspect_answer.specs.Fields.{listFields}
+use Rattle.inspect_answer.proofs.Fronts.{Tells, shown}
 use Rattle.inspect_answer.proofs.message.put_packet.Statement.{statement}
 use Rattle.inspect_answer.proofs.message.put_packet.Tie as tie
 
 -- what the writer was found to say, and what it wrote
 wrote
     : (k : tie.After-put-code-list) → let a = k .before .before .before .before .args in
-    let put = k .put-code-list .result in
-    (sizeOf put ≤ length (now (a .work)))
-    × (putFields (take (sizeOf put) (k .put-code-list .last .1 .1 .1 .0)) put ≡ listFields (a .card) (a .parent) (a .packet) (length (now (a .work))))
+    Tells (k .put-code-list .result) (k .put-code-list .last .1 .1 .1 .0) (length (now (a .work))) (listFields (a .card) (a .parent) (a .packet) (length (now (a .work))))
 unfolding listFields codeListPut codeListOut
 wrote k =
     let a = k .before .before .before .before .args in

@@ -1,10 +1,11 @@
 -- `read::put_information` meets its contract: assigned, then free. Assumes nothing.
 use borrow.Author.Needs.{needs}
+use borrow.Table.Elements.{take-le}
 use native.Mathlib.Omega.{arith}
 use Prim.Native.Nat.{_-_, _*_}
 use native.Mathlib.Nat.{sub-zero}
 use mathlib.Core.Path.{_≡_, _∙_}
-use lib.ListN.{length, take, length-take}
+use lib.ListN.{length, take}
 use denote.Ref.{now}
 use Rattle.text_stream.proofs.Prints.{written-more}
 use Rattle.text_print.specs.Print.{closed, fourDigits}
@@ -37,7 +38,7 @@ returns c =
     let s = l .before .before in
     let m = s .args .told in
     let e : l .least .result - 0 ≡ nodesOf m = sub-zero (l .least .result) ∙ l .least .ensures in
-    (written-more (closed 9 (fourDigits (take (nodesOf m) (m .assigned)))) (closed 10 (fourDigits (take (nodesOf m) (m .free)))) (rw e at (p .put-numbers .ensures .0)) (rw e at (q .put-numbers2 .ensures .0)), omega (arith, p .put-numbers .ensures .1, q .put-numbers2 .ensures .1, length-take (l .least .result - 0) (m .assigned), length-take (l .least .result - 0) (m .free), assigned-long s, free-long s))
+    (written-more (closed 9 (fourDigits (take (nodesOf m) (m .assigned)))) (closed 10 (fourDigits (take (nodesOf m) (m .free)))) (rw e at (p .put-numbers .ensures .0)) (rw e at (q .put-numbers2 .ensures .0)), omega (arith, p .put-numbers .ensures .1, q .put-numbers2 .ensures .1, take-le (l .least .result - 0) (m .assigned), take-le (l .least .result - 0) (m .free), assigned-long s, free-long s))
 
 pub put-information-spec : {M : Type 1} → statement M
 put-information-spec =
