@@ -1,0 +1,12 @@
+-- What callers cite.
+mod Copies
+pub mod Stages
+pub mod Pulls
+pub mod Turns
+pub mod Uncut
+pub mod Numbers
+pub mod Loop
+pub mod Turning
+pub mod Answers
+pub mod Writes
+pub mod Slurps
