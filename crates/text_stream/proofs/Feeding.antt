@@ -42,11 +42,11 @@ module _ (p : Place) (chunk line : List ℕ) (h : p .at ≤ length chunk) (g : p
   upto-within = lf-within (drop (p .at) chunk)
 
   -- Past a LF, or to the chunk's end.
-  lf-place : p .at + upto < length chunk → placeAfter p chunk (length line) ≡ record { at = p .at + upto + 1; len = min (p .len + upto) (length line); whole = 1 }
+  pub lf-place : p .at + upto < length chunk → placeAfter p chunk (length line) ≡ record { at = p .at + upto + 1; len = min (p .len + upto) (length line); whole = 1 }
   unfolding placeAfter placePast uptoLf
   lf-place l = rw (le-ltb (length chunk) (p .at) h, le-ltb (length line) (p .len) g, lt-ltb (p .at + upto) (length chunk) l)
 
-  end-place : length chunk ≤ p .at + upto → placeAfter p chunk (length line) ≡ record { at = p .at + upto; len = min (p .len + upto) (length line); whole = 0 }
+  pub end-place : length chunk ≤ p .at + upto → placeAfter p chunk (length line) ≡ record { at = p .at + upto; len = min (p .len + upto) (length line); whole = 0 }
   unfolding placeAfter placePast uptoLf
   end-place l = rw (le-ltb (length chunk) (p .at) h, le-ltb (length line) (p .len) g, le-ltb (p .at + upto) (length chunk) l)
 

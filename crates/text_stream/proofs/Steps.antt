@@ -16,7 +16,7 @@ use Rattle.text_stream.specs.Stream.{Machine, Mid, between, byteFed, byt
 use Rattle.text_stream.proofs.Whole.{fed-append, said-append}
 
 -- Where a LF was found one stands.
-lf-at : (t : List ℕ) → indexOf 10 t < length t → getD t (indexOf 10 t) 0 ≡ 10
+pub lf-at : (t : List ℕ) → indexOf 10 t < length t → getD t (indexOf 10 t) 0 ≡ 10
 unfolding indexOf indexAfter
 lf-at [] h = absurd (omega arith)
 lf-at (x ∷ t) h =
@@ -70,7 +70,7 @@ module _ {S : Type 0} (M : Machine S) (keep : List ℕ → List ℕ) where
     kept-none m e = ap (λ (r : List ℕ). record { state = m .state; kept = r }) (ap keep (append-nil (m .kept)) ∙ e)
 
     -- Bytes without a LF are kept.
-    fed-plain : (m : Mid S) (t : List ℕ) (k : ℕ) → k ≤ indexOf 10 t → keep (m .kept) ≡ m .kept → fed M keep m (take k t) ≡ kept-more m (take k t)
+    pub fed-plain : (m : Mid S) (t : List ℕ) (k : ℕ) → k ≤ indexOf 10 t → keep (m .kept) ≡ m .kept → fed M keep m (take k t) ≡ kept-more m (take k t)
     unfolding fed byteFed
     fed-plain m t zero h e = sym (kept-none m e)
     fed-plain m [] (suc k) h e = sym (kept-none m e)
@@ -82,7 +82,7 @@ module _ {S : Type 0} (M : Machine S) (keep : List ℕ → List ℕ) where
         ∙ ap (λ (r : List ℕ). record { state = m .state; kept = r }) (K .again l (take k t) ∙ ap keep (append-assoc (m .kept) (x ∷ []) (take k t))))
 
     -- They print nothing.
-    said-plain : (m : Mid S) (t : List ℕ) (k : ℕ) → k ≤ indexOf 10 t → said M keep m (take k t) ≡ []
+    pub said-plain : (m : Mid S) (t : List ℕ) (k : ℕ) → k ≤ indexOf 10 t → said M keep m (take k t) ≡ []
     unfolding said byteSaid
     said-plain m t zero h = refl
     said-plain m [] (suc k) h = refl
