@@ -1,5 +1,4 @@
 -- What callers cite.
-mod Copies
 pub mod Stages
 pub mod Pulls
 pub mod Turns

@@ -217,7 +217,7 @@ ready-again chunk cap room most f k h x w = by (dueOf f room most) refl
         rw (y .flow) (wrote-ready chunk cap room most f (y .turns) (y .taken) h x (y .spent) (y .most))
     by false e = rw (w .wait e) (waits-ready chunk cap room most f h x e)
 
--- Where a program does not go on though nothing has ended or failed, its pulls are used up.
+-- Where a program does not go on though nothing has ended or failed, its turns are used up.
 pub used-up : (f : Flow) → goesOn f ≡ false → f .stage ≤ 1 → f .turns ≡ 0
 unfolding goesOn
 used-up f e h =

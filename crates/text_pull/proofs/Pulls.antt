@@ -15,9 +15,8 @@ use Rattle.bytes.specs.Bytes.{indexOf, indexAfter}
 use Rattle.io.specs.Counts.{clamped}
 use Rattle.text_feed.specs.declared.Place.{Place}
 use Rattle.text_feed.specs.Feed.{placeAfter, lineAfter}
-use Rattle.text_stream.proofs.Steps.{lf-within}
-use Rattle.text_stream.proofs.Feeding.{kept-after, len-within}
-use Rattle.text_pull.proofs.Copies.{lf-at, lf-place, end-place}
+use Rattle.text_stream.proofs.Steps.{lf-at, lf-within}
+use Rattle.text_stream.proofs.Feeding.{kept-after, len-within, lf-place, end-place}
 use Rattle.text_pull.specs.declared.Flow.{Flow}
 use Rattle.text_pull.specs.Pull.{readOf, restOf, Refilled, lastOf, Pulled}
 use Rattle.text_pull.proofs.Stages.{read-none, stage-most, read-room}

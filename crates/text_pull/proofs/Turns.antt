@@ -14,7 +14,7 @@ use Rattle.text_stream.proofs.Whole.{keeps-first, fed-append, said-append, whol
 use Rattle.text_stream.proofs.Prints.{ended-none, ended-some}
 use Rattle.text_stream.proofs.Histories.{history-dead}
 use Rattle.text_pull.specs.declared.Flow.{Flow}
-use Rattle.text_pull.proofs.Copies.{fed-plain, said-plain}
+use Rattle.text_stream.proofs.Steps.{fed-plain, said-plain}
 use Rattle.text_pull.specs.Pull.{startOf, restOf, Pulled, tookOf, closedOf, Answered, Part}
 
 -- Small numbers.

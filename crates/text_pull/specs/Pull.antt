@@ -64,7 +64,7 @@ pub record Refilled (f : Flow) (chunk : List ℕ) (g : Flow) (chunk′ : List �
   pub made : g .made ≡ f .made
   pub written : g .written ≡ f .written
 
--- whether a program goes on: pulls are left, and neither all is printed nor something failed
+-- whether a program goes on: turns are left, and neither all is printed nor something failed
 unfoldable pub goesOn : Flow → Bool
 goesOn f = cond (ltb 0 (f .turns)) (ltb (f .stage) 2) false
 
@@ -251,7 +251,7 @@ module _ {S : Type 0} (M : Machine S) where
     pub made : g .made ≤ f .made + most
 
   -- a program that has left its loop: all is printed; or a read failed, and its whole lines are answered, a line that it cut off is not; or
-  -- a write failed; or its pulls are used up
+  -- a write failed; or its turns are used up
   pub record Ran (s₀ : S) (f : Flow) : Type 0 where
     pub done : f .stage ≡ 4 → Told (saysOf M s₀) f
     pub unread : f .stage ≡ 2 → Told (said M (λ l. l) (between s₀)) f

@@ -1,12 +1,8 @@
 // A text pulled line by line: where the reading is, what a read brings, the next whole line, what a line leaves, what a write leaves.
-mod whole;
-mod writing;
+pub mod whole;
+pub mod writing;
 
 use text_feed::Place;
-pub use whole::held;
-pub use whole::is_short;
-pub use whole::slurp;
-pub use writing::flush;
 ghost use mathlib.Core.Path.{_≡_};
 ghost use mathlib.Core.Bool.{true, false};
 ghost use Prim.Native.Nat.{_+_, _≤_, _<_};
@@ -26,9 +22,10 @@ const DONE: u64 = 4;
 
 const FULL: u64 = 5;
 
-// A program between two calls: the pulls left, the bytes kept of the line at hand, how many the chunk has and how many of them are taken,
-// whether the line at hand is whole (1, else 0), how many bytes are printed and wait to be written, the stage, and how many were read and
-// written in all. No other room can make one or change one: a stage is what a read, a write or a machine came to.
+// A program between two calls: the turns left, of which a pull and a write use one each; the bytes kept of the line at hand; how many the
+// chunk has and how many of them are taken; whether the line at hand is whole (1, else 0); how many bytes are printed and wait to be
+// written; the stage; and how many were read and written in all. No other room can make one or change one: a stage is what a read, a write
+// or a machine came to.
 pub struct Flow {
     turns: u64,
     len: usize,
@@ -41,7 +38,7 @@ pub struct Flow {
     written: u64,
 }
 
-// A program that has read nothing. Nothing says that a text ends, so the pulls are counted down from a number that no run uses up.
+// A program that has read nothing. Nothing says that a text ends, so the turns are counted down from a number that no run uses up.
 pub fn start() -> Flow
     ensures { λ r. ⌜ r ≡ startOf ⌝ }
 {
@@ -133,7 +130,7 @@ fn refill(fd: i32, flow: Flow, chunk: &mut [u8]) -> Flow
     take_in(flow, got, errno, chunk)
 }
 
-// Whether a program goes on: pulls are left, and neither all is printed nor something failed.
+// Whether a program goes on: turns are left, and neither all is printed nor something failed.
 pub fn goes_on(flow: Flow) -> bool
     ensures { λ r. ⌜ r ≡ goesOn flow ⌝ }
 {
@@ -245,7 +242,7 @@ enum Fault {
     Unended,
 }
 
-// What failed: a read, a write, or nothing did and the pulls are used up all the same.
+// What failed: a read, a write, or neither and the turns are used up.
 fn fault_of(flow: Flow) -> Fault
     ensures { λ r. ⌜ r ≡ faultOf flow ⌝ }
 {
@@ -271,9 +268,12 @@ fn say_unwritten() {
     os::fail(b"failed: the answers could not be written");
 }
 
-// Says on standard error that the pulls are used up.
+// Says on standard error that the turns are used up.
 fn say_unended() {
-    io::write_all(libc::STDERR_FILENO, b"failed: the text has no end\n");
+    io::write_all(
+        libc::STDERR_FILENO,
+        b"failed: the turns are used up before the text has ended\n",
+    );
 }
 
 // Says on standard error what failed, in one line; where nothing did, nothing.
