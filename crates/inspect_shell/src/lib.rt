@@ -1,18 +1,16 @@
-// The program's loop: it reads a chunk, takes its lines and writes what they print, until the text ends or a refused image line ends the
-// run.
+// Inspection over a text: its answer to an event, its write, and its loop.
+use byte_parts::sizes::MOST_PRINTED;
 use inspect_line::Inspect;
-use text_shell::Flow;
+use text_pull::Flow;
 ghost use mathlib.Core.Path.{_≡_};
 ghost use Prim.Native.Nat.{_+_, _≤_, _<_};
-ghost use lib.ListN.{length, take};
-ghost use Rattle.text_shell.specs.Flow.{Advanced, Speech, Flushed, Told};
+ghost use lib.ListN.{length, take, replicate};
+ghost use Rattle.text_stream.specs.Stream.{saysOf};
+ghost use Rattle.text_pull.specs.Pull.{Answered, Next, Flushed, Ran};
 ghost use Rattle.line_serve.specs.Text.{mostSpelled, mostPrinted};
 ghost use Rattle.replay_line.specs.Replay.{lentBytes};
-ghost use Rattle.inspect_line.specs.Inspect.{seen, beginsWith, inspectMachine, atStart};
+ghost use Rattle.inspect_line.specs.Inspect.{seen, inspectMachine, atStart};
 ghost use Rattle.inspect_shell.specs.Stop.{stops};
-
-// All is printed.
-const DONE: u64 = 4;
 
 // An inspection, and where the reading is.
 struct Moved {
@@ -20,74 +18,53 @@ struct Moved {
     flow: Flow,
 }
 
-// Takes what the chunk has, as far as there is room for what it prints; ends the text where it has ended.
-fn advance(
+// Answers an event: a whole line, or the end of the text.
+fn answer(
     inspect: Inspect,
     flow: Flow,
     arena: &mut [u8],
     work: &mut [u8],
     bytes: &mut [u8],
-    chunk: &[u8],
-    line: &mut [u8],
+    line: &[u8],
     out: &mut [u8],
 ) -> Moved
-    requires { ⌜ (flow .made ≡ 0) × (flow .at ≤ flow .filled) × (flow .filled ≤ length (now chunk)) × (flow .len ≤ length (now line)) ⌝ }
-    requires { ⌜ (length (now work) ≡ lentBytes) × (mostSpelled ≤ length (now bytes)) × (1 ≤ length (now line)) × (mostPrinted + 48 ≤ length (now out)) ⌝ }
-    ensures { λ r. ⌜ Advanced inspectMachine stops mostPrinted flow (seen inspect (now (arena .entry))) (now (line .entry)) (now (chunk .entry)) (now (out .entry)) (r .flow) (seen (r .inspect) (now (arena .exit))) (now (line .exit)) (now (out .exit)) ⌝ }
+    requires { ⌜ (length (now work) ≡ lentBytes) × (mostSpelled ≤ length (now bytes)) × (flow .len ≤ length (now line)) × (flow .made + mostPrinted ≤ length (now out)) ⌝ }
+    ensures { λ r. ⌜ Answered inspectMachine stops mostPrinted flow (seen inspect (now (arena .entry))) (now (line .entry)) (now (out .entry)) (r .flow) (seen (r .inspect) (now (arena .exit))) (now (out .exit)) ⌝ }
 {
-    let mut after = flow;
-    if 1 < flow.stage {
+    let made = text_pull::made(flow);
+    if text_pull::is_line(flow) {
+        let len = text_pull::kept(flow);
+        let taken = inspect_line::line(inspect, arena, work, bytes, &line[0..len], out, made);
+        let after = taken.inspect;
+        let replay = after.replay;
+        let phase = replay.phase;
+        let stops = replay_shell::stops_in(phase);
         return Moved {
-            inspect,
-            flow: after,
+            inspect: after,
+            flow: text_pull::took(flow, taken.at, stops),
         };
     }
-    if flow.stage == 1 {
-        after.made = inspect_text::close(inspect, arena, work, bytes, flow.len, line, out);
-        after.stage = DONE;
+    if text_pull::is_end(flow) {
+        let replay = inspect.replay;
+        let last = replay_state::finish(replay, out, made);
         return Moved {
             inspect,
-            flow: after,
+            flow: text_pull::closed(flow, last),
         };
     }
-    let filled = flow.filled;
-    let reached = inspect_text::step(
-        inspect,
-        arena,
-        work,
-        bytes,
-        flow.len,
-        &chunk[0..filled],
-        flow.at,
-        line,
-        out,
-    );
-    let now = reached.inspect;
-    let replay = now.replay;
-    let phase = replay.phase;
-    after.len = reached.len;
-    after.at = reached.at;
-    after.made = reached.written;
-    after.stage = replay_shell::stage_in(phase);
-    Moved {
-        inspect: now,
-        flow: after,
-    }
+    Moved { inspect, flow }
 }
 
-// Writes what was printed.
+// Writes what was printed, where it is due: it is what a text of the length read prints next.
 fn flush(flow: Flow, out: &[u8]) -> Flow
     requires { ⌜ (flow .made ≤ length (now out)) × (flow .written + flow .made < 18446744073709551616) ⌝ }
-    requires { ⌜ Speech inspectMachine (take 32769) (take (flow .made) (now out)) ⌝ }
-    ensures { λ r. ⌜ Flushed flow r ⌝ }
+    requires { ⌜ Next (saysOf inspectMachine atStart) flow (take (flow .made) (now out)) ⌝ }
+    ensures { λ r. ⌜ Flushed mostPrinted (length (now (out .entry))) flow r ⌝ }
 {
-    let made = flow.made;
-    let all = io::write_all(1, &out[0..made]);
-    text_shell::wrote(flow, all)
+    text_pull::writing::flush(flow, out, MOST_PRINTED)
 }
 
-// Inspects what the descriptor has over lent buffers, to standard output. Nothing says that a text ends, so the turns are counted down from
-// a number that no run uses up.
+// Inspects what the descriptor has over lent buffers, to standard output.
 fn run(
     fd: i32,
     arena: &mut [u8],
@@ -97,26 +74,25 @@ fn run(
     line: &mut [u8],
     out: &mut [u8],
 ) -> Flow
+    requires { ⌜ now arena ≡ replicate lentBytes 0 ⌝ }
     requires { ⌜ (length (now work) ≡ lentBytes) × (mostSpelled ≤ length (now bytes)) × (length (now chunk) ≡ 65536) × (length (now line) ≡ 32769) × (length (now out) ≡ 65536) ⌝ }
-    ensures { λ r. ⌜ (r .stage ≡ 4 → Told inspectMachine (seen beginsWith (now (arena .entry))) r) ⌝ }
+    ensures { λ r. ⌜ Ran inspectMachine atStart r ⌝ }
 {
-    let mut inspect = inspect_line::start();
-    let mut flow = text_shell::start();
-    let mut turns = 140737488355328u64;
-    while turns > 0 && flow.stage < 2 {
-        turns -= 1;
-        flow = text_shell::refill(fd, flow, chunk);
-        let moved = advance(inspect, flow, arena, work, bytes, chunk, line, out);
-        inspect = moved.inspect;
-        flow = flush(moved.flow, out);
+    let mut moved = Moved {
+        inspect: inspect_line::start(),
+        flow: text_pull::start(),
+    };
+    while text_pull::goes_on(moved.flow) {
+        let flow = text_pull::pull(fd, moved.flow, chunk, line);
+        moved = answer(moved.inspect, flow, arena, work, bytes, line, out);
+        moved.flow = flush(moved.flow, out);
     }
-    flow
+    moved.flow
 }
 
-// Inspects what the descriptor has, to standard output, and answers where the reading is then: after its end as many bytes are written as
-// `inspectOf` a text of the length read has.
+// Inspects what the descriptor has, to standard output, and answers where the reading is then.
 pub fn inspect(fd: i32) -> Flow
-    ensures { λ r. ⌜ (r .stage ≡ 4 → Told inspectMachine atStart r) ⌝ }
+    ensures { λ r. ⌜ Ran inspectMachine atStart r ⌝ }
 {
     let mut arena = [0u8; 65536];
     let mut work = [0u8; 65536];

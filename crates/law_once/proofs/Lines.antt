@@ -29,10 +29,18 @@ use Rattle.replay_state.proofs.finish as replay_state·finish
 use Rattle.replay_line.proofs.one_more as replay_line·one-more
 use Rattle.replay_line.proofs.take as replay_line·take
 use Rattle.replay_line.proofs.line as replay_line·line
-use Rattle.replay_shell.proofs.stage_in as replay_shell·stage-in
+use Rattle.replay_shell.proofs.stops_in as replay_shell·stops-in
 use Rattle.text_feed.proofs.feed as text_feed·feed
-use Rattle.text_shell.proofs.start as text_shell·start
-use Rattle.text_shell.proofs.wrote as text_shell·wrote
+use Rattle.text_pull.proofs.start as text_pull·start
+use Rattle.text_pull.proofs.goes_on as text_pull·goes-on
+use Rattle.text_pull.proofs.is_line as text_pull·is-line
+use Rattle.text_pull.proofs.is_end as text_pull·is-end
+use Rattle.text_pull.proofs.kept as text_pull·kept
+use Rattle.text_pull.proofs.made as text_pull·made
+use Rattle.text_pull.proofs.took as text_pull·took
+use Rattle.text_pull.proofs.closed as text_pull·closed
+use Rattle.text_pull.proofs.whole.held as text_pull·held
+use Rattle.text_pull.proofs.whole.is_short as text_pull·is-short
 
 module _ {M : Type 1} (𝓤 : URA M) (H : Heap 𝓤) (A : Atoms 𝓤) (mem : Memory → SProp 𝓤) (run : Routine → Fun 𝓤) where
   pub line_image·code-at-once : OneAnswer 𝓤 line_image·code-at.ended (line_image·code-at.clauses 𝓤 H A mem run)
@@ -105,11 +113,35 @@ module _ {M : Type 1} (𝓤 : URA M) (H : Heap 𝓤) (A : Atoms 𝓤) (mem : Mem
   pub text_feed·feed-once : OneAnswer 𝓤 text_feed·feed.ended (text_feed·feed.clauses 𝓤 H A mem run)
   text_feed·feed-once κs a g r r′ ws ws′ = of-two 𝓤 (λ p p′ q q′. (once p q, λ i. (tt, (tt, (once p′ q′ i, tt)))))
 
-  pub text_shell·start-once : OneAnswer 𝓤 text_shell·start.ended (text_shell·start.clauses 𝓤 H A mem run)
-  text_shell·start-once κs a g r r′ ws ws′ = result 𝓤 refl
+  pub text_pull·start-once : OneAnswer 𝓤 text_pull·start.ended (text_pull·start.clauses 𝓤 H A mem run)
+  text_pull·start-once κs a g r r′ ws ws′ = result 𝓤 refl
 
-  pub text_shell·wrote-once : OneAnswer 𝓤 text_shell·wrote.ended (text_shell·wrote.clauses 𝓤 H A mem run)
-  text_shell·wrote-once κs a g r r′ ws ws′ = result 𝓤 refl
+  pub text_pull·goes-on-once : OneAnswer 𝓤 text_pull·goes-on.ended (text_pull·goes-on.clauses 𝓤 H A mem run)
+  text_pull·goes-on-once κs a g r r′ ws ws′ = result 𝓤 refl
 
-  pub replay_shell·stage-in-once : OneAnswer 𝓤 replay_shell·stage-in.ended (replay_shell·stage-in.clauses 𝓤 H A mem run)
-  replay_shell·stage-in-once κs a g r r′ ws ws′ = result 𝓤 refl
+  pub text_pull·is-line-once : OneAnswer 𝓤 text_pull·is-line.ended (text_pull·is-line.clauses 𝓤 H A mem run)
+  text_pull·is-line-once κs a g r r′ ws ws′ = result 𝓤 refl
+
+  pub text_pull·is-end-once : OneAnswer 𝓤 text_pull·is-end.ended (text_pull·is-end.clauses 𝓤 H A mem run)
+  text_pull·is-end-once κs a g r r′ ws ws′ = result 𝓤 refl
+
+  pub text_pull·kept-once : OneAnswer 𝓤 text_pull·kept.ended (text_pull·kept.clauses 𝓤 H A mem run)
+  text_pull·kept-once κs a g r r′ ws ws′ = result 𝓤 refl
+
+  pub text_pull·made-once : OneAnswer 𝓤 text_pull·made.ended (text_pull·made.clauses 𝓤 H A mem run)
+  text_pull·made-once κs a g r r′ ws ws′ = result 𝓤 refl
+
+  pub text_pull·took-once : OneAnswer 𝓤 text_pull·took.ended (text_pull·took.clauses 𝓤 H A mem run)
+  text_pull·took-once κs a g r r′ ws ws′ = result 𝓤 refl
+
+  pub text_pull·closed-once : OneAnswer 𝓤 text_pull·closed.ended (text_pull·closed.clauses 𝓤 H A mem run)
+  text_pull·closed-once κs a g r r′ ws ws′ = result 𝓤 refl
+
+  pub text_pull·held-once : OneAnswer 𝓤 text_pull·held.ended (text_pull·held.clauses 𝓤 H A mem run)
+  text_pull·held-once κs a g r r′ ws ws′ = result 𝓤 refl
+
+  pub text_pull·is-short-once : OneAnswer 𝓤 text_pull·is-short.ended (text_pull·is-short.clauses 𝓤 H A mem run)
+  text_pull·is-short-once κs a g r r′ ws ws′ = result 𝓤 refl
+
+  pub replay_shell·stops-in-once : OneAnswer 𝓤 replay_shell·stops-in.ended (replay_shell·stops-in.clauses 𝓤 H A mem run)
+  replay_shell·stops-in-once κs a g r r′ ws ws′ = result 𝓤 refl

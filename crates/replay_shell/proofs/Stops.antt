@@ -7,7 +7,7 @@ use Rattle.text_stream.specs.Stream.{Dead}
 use Rattle.replay_state.specs.declared.Phase.{Phase}
 use Rattle.replay_state.specs.declared.Phase.the-variants.{First, Image, Requests, Ended}
 use Rattle.replay_line.specs.Replay.{Held, replayMachine}
-use Rattle.replay_text.proofs.Dead.{replay-dead}
+use Rattle.replay_line.proofs.Dead.{replay-dead}
 use Rattle.replay_shell.specs.Stop.{stopsIn, stops}
 
 pub ended-of : (x : Phase) → stopsIn x ≡ true → x ≡ Ended

@@ -1,20 +1,16 @@
-// The program's loop: it reads a chunk, replays its lines and writes what they print, until the text ends or a refused image line ends the
-// run.
+// Replay over a text: its answer to an event, its write, and its loop.
+use byte_parts::sizes::MOST_PRINTED;
 use replay_state::Phase;
 use replay_state::Replay;
-use text_shell::Flow;
+use text_pull::Flow;
 ghost use mathlib.Core.Path.{_≡_};
-ghost use mathlib.Core.Bool.{cond};
 ghost use Prim.Native.Nat.{_+_, _≤_, _<_};
-ghost use lib.ListN.{length, take};
-ghost use Rattle.text_shell.specs.Flow.{Advanced, Speech, Flushed, Told};
+ghost use lib.ListN.{length, take, replicate};
+ghost use Rattle.text_stream.specs.Stream.{saysOf};
+ghost use Rattle.text_pull.specs.Pull.{Answered, Next, Flushed, Ran};
 ghost use Rattle.line_serve.specs.Text.{mostSpelled, mostPrinted};
-ghost use Rattle.replay_state.specs.Phases.{startOf};
 ghost use Rattle.replay_line.specs.Replay.{lentBytes, held, replayMachine, atStart};
 ghost use Rattle.replay_shell.specs.Stop.{stopsIn, stops};
-
-// All is printed.
-const DONE: u64 = 4;
 
 // A replay, and where the reading is.
 struct Moved {
@@ -22,85 +18,63 @@ struct Moved {
     flow: Flow,
 }
 
-// The stage after a step: a refused image line ends the reading.
-pub fn stage_in(phase: Phase) -> u64
-    ensures { λ r. ⌜ r ≡ cond (stopsIn phase) 4 0 ⌝ }
+// Whether a replay stops: a refused image line ends the run.
+pub fn stops_in(phase: Phase) -> bool
+    ensures { λ r. ⌜ r ≡ stopsIn phase ⌝ }
 {
     match phase {
-        Phase::First => 0,
-        Phase::Image => 0,
-        Phase::Requests => 0,
-        Phase::Ended => DONE,
+        Phase::First => false,
+        Phase::Image => false,
+        Phase::Requests => false,
+        Phase::Ended => true,
     }
 }
 
-// Takes what the chunk has, as far as there is room for what it prints; ends the text where it has ended.
-fn advance(
+// Answers an event: a whole line, or the end of the text.
+fn answer(
     replay: Replay,
     flow: Flow,
     arena: &mut [u8],
     work: &mut [u8],
     bytes: &mut [u8],
-    chunk: &[u8],
-    line: &mut [u8],
+    line: &[u8],
     out: &mut [u8],
 ) -> Moved
-    requires { ⌜ (flow .made ≡ 0) × (flow .at ≤ flow .filled) × (flow .filled ≤ length (now chunk)) × (flow .len ≤ length (now line)) ⌝ }
-    requires { ⌜ (length (now work) ≡ lentBytes) × (mostSpelled ≤ length (now bytes)) × (1 ≤ length (now line)) × (mostPrinted + 48 ≤ length (now out)) ⌝ }
-    ensures { λ r. ⌜ Advanced replayMachine stops mostPrinted flow (held replay (now (arena .entry))) (now (line .entry)) (now (chunk .entry)) (now (out .entry)) (r .flow) (held (r .replay) (now (arena .exit))) (now (line .exit)) (now (out .exit)) ⌝ }
+    requires { ⌜ (length (now work) ≡ lentBytes) × (mostSpelled ≤ length (now bytes)) × (flow .len ≤ length (now line)) × (flow .made + mostPrinted ≤ length (now out)) ⌝ }
+    ensures { λ r. ⌜ Answered replayMachine stops mostPrinted flow (held replay (now (arena .entry))) (now (line .entry)) (now (out .entry)) (r .flow) (held (r .replay) (now (arena .exit))) (now (out .exit)) ⌝ }
 {
-    let mut after = flow;
-    if 1 < flow.stage {
+    let made = text_pull::made(flow);
+    if text_pull::is_line(flow) {
+        let len = text_pull::kept(flow);
+        let taken = replay_line::line(replay, arena, work, bytes, &line[0..len], out, made);
+        let after = taken.replay;
+        let phase = after.phase;
+        let stops = stops_in(phase);
         return Moved {
-            replay,
-            flow: after,
+            replay: after,
+            flow: text_pull::took(flow, taken.at, stops),
         };
     }
-    if flow.stage == 1 {
-        after.made = replay_text::close(replay, arena, work, bytes, flow.len, line, out);
-        after.stage = DONE;
+    if text_pull::is_end(flow) {
+        let last = replay_state::finish(replay, out, made);
         return Moved {
             replay,
-            flow: after,
+            flow: text_pull::closed(flow, last),
         };
     }
-    let filled = flow.filled;
-    let reached = replay_text::step(
-        replay,
-        arena,
-        work,
-        bytes,
-        flow.len,
-        &chunk[0..filled],
-        flow.at,
-        line,
-        out,
-    );
-    let now = reached.replay;
-    let phase = now.phase;
-    after.len = reached.len;
-    after.at = reached.at;
-    after.made = reached.written;
-    after.stage = stage_in(phase);
-    Moved {
-        replay: now,
-        flow: after,
-    }
+    Moved { replay, flow }
 }
 
-// Writes what was printed.
+// Writes what was printed, where it is due: it is what a text of the length read prints next.
 fn flush(flow: Flow, out: &[u8]) -> Flow
     requires { ⌜ (flow .made ≤ length (now out)) × (flow .written + flow .made < 18446744073709551616) ⌝ }
-    requires { ⌜ Speech replayMachine (take 32769) (take (flow .made) (now out)) ⌝ }
-    ensures { λ r. ⌜ Flushed flow r ⌝ }
+    requires { ⌜ Next (saysOf replayMachine atStart) flow (take (flow .made) (now out)) ⌝ }
+    ensures { λ r. ⌜ Flushed mostPrinted (length (now (out .entry))) flow r ⌝ }
 {
-    let made = flow.made;
-    let all = io::write_all(1, &out[0..made]);
-    text_shell::wrote(flow, all)
+    text_pull::writing::flush(flow, out, MOST_PRINTED)
 }
 
-// Replays what the descriptor has over lent buffers, to standard output. Nothing says that a text ends, so the turns are counted down from
-// a number that no run uses up.
+// Replays what the descriptor has over lent buffers, to standard output.
 fn run(
     fd: i32,
     arena: &mut [u8],
@@ -110,26 +84,25 @@ fn run(
     line: &mut [u8],
     out: &mut [u8],
 ) -> Flow
+    requires { ⌜ now arena ≡ replicate lentBytes 0 ⌝ }
     requires { ⌜ (length (now work) ≡ lentBytes) × (mostSpelled ≤ length (now bytes)) × (length (now chunk) ≡ 65536) × (length (now line) ≡ 32769) × (length (now out) ≡ 65536) ⌝ }
-    ensures { λ r. ⌜ (r .stage ≡ 4 → Told replayMachine (held startOf (now (arena .entry))) r) ⌝ }
+    ensures { λ r. ⌜ Ran replayMachine atStart r ⌝ }
 {
-    let mut replay = replay_state::start();
-    let mut flow = text_shell::start();
-    let mut turns = 140737488355328u64;
-    while turns > 0 && flow.stage < 2 {
-        turns -= 1;
-        flow = text_shell::refill(fd, flow, chunk);
-        let moved = advance(replay, flow, arena, work, bytes, chunk, line, out);
-        replay = moved.replay;
-        flow = flush(moved.flow, out);
+    let mut moved = Moved {
+        replay: replay_state::start(),
+        flow: text_pull::start(),
+    };
+    while text_pull::goes_on(moved.flow) {
+        let flow = text_pull::pull(fd, moved.flow, chunk, line);
+        moved = answer(moved.replay, flow, arena, work, bytes, line, out);
+        moved.flow = flush(moved.flow, out);
     }
-    flow
+    moved.flow
 }
 
-// Replays what the descriptor has, to standard output, and answers where the reading is then: after its end as many bytes are written as
-// `replayOf` a text of the length read has.
+// Replays what the descriptor has, to standard output, and answers where the reading is then.
 pub fn replay(fd: i32) -> Flow
-    ensures { λ r. ⌜ (r .stage ≡ 4 → Told replayMachine atStart r) ⌝ }
+    ensures { λ r. ⌜ Ran replayMachine atStart r ⌝ }
 {
     let mut arena = [0u8; 65536];
     let mut work = [0u8; 65536];

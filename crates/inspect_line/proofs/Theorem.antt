@@ -9,9 +9,9 @@ use Rattle.text_stream.specs.Stream.{between, joined, fed, said, chunked, Histo
 use Rattle.text_stream.proofs.Whole.{keeps-first, whole-cut}
 use Rattle.text_stream.proofs.Histories.{history-dead}
 use Rattle.replay_state.specs.declared.Phase.the-variants.{Ended}
 use Rattle.inspect_line.specs.Inspect.{inspectMachine, atStart, inspectOf}
-use Rattle.inspect_text.proofs.Blind.{inspect-blind}
-use Rattle.inspect_text.proofs.Dead.{inspect-dead}
+use Rattle.inspect_line.proofs.Blind.{inspect-blind}
+use Rattle.inspect_line.proofs.Dead.{inspect-dead}
 
 pub inspect-whole : (chunks : List (List ℕ)) → chunked inspectMachine (take 32769) (between atStart) chunks ≡ inspectOf (joined chunks)
 unfolding inspectOf

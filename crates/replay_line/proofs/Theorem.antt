@@ -9,9 +9,9 @@ use Rattle.text_stream.specs.Stream.{between, joined, fed, said, chunked, Histo
 use Rattle.text_stream.proofs.Whole.{keeps-first, whole-cut}
 use Rattle.text_stream.proofs.Histories.{history-dead}
 use Rattle.replay_state.specs.declared.Phase.the-variants.{Ended}
 use Rattle.replay_line.specs.Replay.{replayMachine, atStart, replayOf}
-use Rattle.replay_text.proofs.Blind.{replay-blind}
-use Rattle.replay_text.proofs.Dead.{replay-dead}
+use Rattle.replay_line.proofs.Blind.{replay-blind}
+use Rattle.replay_line.proofs.Dead.{replay-dead}
 
 pub replay-whole : (chunks : List (List ℕ)) → chunked replayMachine (take 32769) (between atStart) chunks ≡ replayOf (joined chunks)
 unfolding replayOf

@@ -20,12 +20,12 @@ use Rattle.replay_state.specs.declared.Phase.the-variants.{First, Image, Reques
 use Rattle.replay_line.specs.declared.Kind.{Kind}
 use Rattle.replay_line.specs.declared.Kind.the-variants as kinds
 use Rattle.replay_line.specs.Replay.{Held, held}
-use Rattle.replay_text.proofs.Blind.{first-cut, request-blind, board-blind, cut-long, held-blind, text-blind}
+use Rattle.replay_line.proofs.Blind.{first-cut, request-blind, board-blind, cut-long, held-blind, text-blind}
 use Rattle.inspect_ask.specs.declared.Question.the-variants as questions
 use Rattle.inspect_ask.specs.Question.{questionOf}
 use Rattle.inspect_line.specs.declared.Sort.{Sort}
 use Rattle.inspect_line.specs.declared.Sort.the-variants as sorts
 use Rattle.inspect_line.specs.Inspect.{Seen, laterSort, sortOf, replayedSeen, seenBy, saidBy, lineSeen, lineSaid, inspectMachine}
 
 -- A word is told from a field by fewer bytes than are kept.
 same-cut : (n : ℕ) (f word : List ℕ) → length word < n → sameBytes (take n f) word ≡ sameBytes f word

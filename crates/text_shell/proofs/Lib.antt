@@ -1,3 +1,0 @@
--- What the loop of a program comes to, for any machine.
-pub mod Stages
-pub mod Loop
