@@ -2,13 +2,12 @@
 use Prim.Native.Nat.{ℕ, _+_, _-_, _≤_, _<_, min}
 use native.Mathlib.Omega.{arith}
 use native.Mathlib.Decide.{decLt}
-use mathlib.Core.Path.{_≡_, refl, sym, ap, _∙_}
-use mathlib.Core.List.{List, [], _∷_, _++_, append-assoc}
-use lib.ListN.{length, take, drop, length-take, length-drop, length-append}
+use mathlib.Core.Path.{_≡_, ap, _∙_}
+use mathlib.Core.List.{List, _++_}
+use lib.ListN.{length, take, drop, length-take, length-append}
 use lib.Seq.{take-take, take-all, take-at, take-append-add, length-take-le}
 use borrow.Author.Tests.{lt-ltb, le-ltb}
 use Rattle.bytes.specs.Bytes.{indexOf}
-use Rattle.byte_parts.specs.Part.{put}
 use Rattle.byte_parts.proofs.Part.{put-split}
 use Rattle.text_feed.specs.declared.Place.{Place}
 use Rattle.text_feed.specs.Feed.{uptoLf, placePast, placeAfter, lineAfter}
@@ -74,18 +73,3 @@ module _ (p : Place) (chunk line : List ℕ) (h : p .at ≤ length chunk) (g : p
 
   pub len-within : placeAfter p chunk (length line) .len ≤ length line
   len-within = omega (arith, len-after)
-
-  -- A LF ended them, or the chunk did.
-  pub at-lf : 1 ≤ placeAfter p chunk (length line) .whole → (p .at + upto < length chunk) × (placeAfter p chunk (length line) .at ≡ p .at + upto + 1)
-  at-lf w =
-      elim (decLt (p .at + upto) (length chunk)) [
-        | yes l ↦ (l, ap (λ (r : Place). r .at) (lf-place l))
-        | no l ↦ absurd (omega (arith, ap (λ (r : Place). r .whole) (end-place (omega arith))))
-      ]
-
-  pub at-end : placeAfter p chunk (length line) .whole < 1 → (length chunk ≤ p .at + upto) × (placeAfter p chunk (length line) .at ≡ p .at + upto)
-  at-end w =
-      elim (decLt (p .at + upto) (length chunk)) [
-        | yes l ↦ absurd (omega (arith, ap (λ (r : Place). r .whole) (lf-place l)))
-        | no l ↦ (omega arith, ap (λ (r : Place). r .at) (end-place (omega arith)))
-      ]

@@ -1,8 +1,7 @@
--- What callers cite: whole texts, steps through a chunk, what `feed` leaves, what is printed, a step's loop, and what a program has come to.
+-- What callers cite: whole texts, bytes up to a LF, what `feed` leaves, what is printed, and what a program has come to that stops.
 pub mod Whole
 pub mod Steps
 pub mod Feeding
 pub mod Prints
-pub mod Stepping
 pub mod Histories
 mod Rows

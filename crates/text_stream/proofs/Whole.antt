@@ -1,11 +1,11 @@
 -- A text fed byte by byte, or chunk by chunk, prints what its lines print. Assumes nothing.
-use Prim.Native.Nat.{ℕ, zero, suc, _+_, _≤_, _<_}
+use Prim.Native.Nat.{ℕ, zero, suc, _≤_}
 use native.Mathlib.Omega.{arith}
 use native.Mathlib.Decide.{ℕ-discrete}
 use mathlib.Core.Path.{_≡_, refl, sym, ap, _∙_}
 use mathlib.Core.List.{List, [], _∷_, _++_, append-nil, append-assoc}
 use lib.ListN.{length, take, length-append, length-take}
-use lib.Seq.{take-take, take-all, take-append-le, take-nil}
+use lib.Seq.{take-nil}
 use borrow.Author.Tests.{eq-eqb, ne-eqb}
 use Rattle.text_stream.specs.Stream.{pushed, linesOf, joined, Machine, Mid, between, printed, saysOf, ended, byteFed, byteSaid, fed, said, chunked, Keeps, Blind}
 

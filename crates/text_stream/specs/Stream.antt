@@ -1,11 +1,11 @@
 -- A text cut into lines, what a machine that takes lines prints of it, and the same byte by byte and chunk by chunk. Assumes nothing.
-use Prim.Native.Nat.{ℕ, suc, _+_, _-_, _≤_}
+use Prim.Native.Nat.{ℕ, _+_, _≤_}
 use mathlib.Core.Path.{_≡_}
 use mathlib.Core.Bool.{cond}
 use mathlib.Core.List.{List, [], _∷_, _++_}
-use lib.Dec.{eqb, ltb}
-use lib.ListN.{length, take, drop}
-use Rattle.byte_parts.specs.Part.{part, put}
+use lib.Dec.{eqb}
+use lib.ListN.{length}
+use Rattle.byte_parts.specs.Part.{put}
 
 -- a byte in front of the first line
 unfoldable pub pushed : ℕ → List (List ℕ) → List (List ℕ)
@@ -78,13 +78,6 @@ module _ {S : Type 0} (M : Machine S) where
     chunked m [] = ended m
     chunked m (c ∷ cs) = said m c ++ chunked (fed m c) cs
 
-    -- how many bytes are taken at once: all, or up to the one after which less than `most` of the room is left
-    module _ (most : ℕ) where
-      unfoldable pub taken : ℕ → Mid S → List ℕ → ℕ
-      taken room m [] = 0
-      taken room m (x ∷ t) =
-          suc (cond (ltb (room - length (byteSaid m x)) most) 0 (taken (room - length (byteSaid m x)) (byteFed m x) t))
-
 -- what a `keep` may be: it can be done early, and leaves some of a line that has bytes
 pub record Keeps (keep : List ℕ → List ℕ) : Type 0 where
   pub none : keep [] ≡ []
@@ -96,24 +89,10 @@ pub record Blind {S : Type 0} (M : Machine S) (keep : List ℕ → List ℕ) : T
   pub line : (s : S) (l : List ℕ) → M .line s (keep l) ≡ M .line s l
   pub text : (s : S) (l : List ℕ) → M .text s (keep l) ≡ M .text s l
 
--- what one call took of a text: so many bytes, with the machine and what it printed then
-pub record Took {S : Type 0} (M : Machine S) (keep : List ℕ → List ℕ) (most room : ℕ) (before : Mid S) (t : List ℕ) (n : ℕ) (after : Mid S) (w : List ℕ) : Type 0 where
-  pub count : n ≡ taken M keep most room before t
-  pub machine : after ≡ fed M keep before (take n t)
-  pub words : w ≡ said M keep before (take n t)
-  pub fits : length w ≤ room
-
 -- a text put into a buffer from a place on, and the place after it
 pub record Written (d : List ℕ) (at : ℕ) (t : List ℕ) (last : ℕ) (s : List ℕ) : Type 0 where
   pub place : last ≡ at + length t
   pub bytes : s ≡ put d at (length t) t
-
--- a step: how far it went in a chunk, the machine then, and that what it printed stands in front of a buffer
-pub record Stepped {S : Type 0} (M : Machine S) (keep : List ℕ → List ℕ) (most : ℕ) (before : Mid S) (chunk : List ℕ) (from : ℕ) (out : List ℕ) (after : Mid S) (to written : ℕ) (out′ : List ℕ) : Type 0 where
-  pub at : to ≡ from + taken M keep most (length out) before (drop from chunk)
-  pub machine : after ≡ fed M keep before (part chunk from (to - from))
-  pub print : Written out 0 (said M keep before (part chunk from (to - from))) written out′
-  pub fits : written ≤ length out
 
 -- what a program has come to: the text read, the words printed, the machine, and what is left to take of the text read
 pub record History {S : Type 0} (M : Machine S) (keep : List ℕ → List ℕ) (s : S) (text words : List ℕ) (m : Mid S) (rest : List ℕ) : Type 0 where
