@@ -1,15 +1,15 @@
 -- What a pull and its answer come to, for any machine. Assumes nothing.
-use Prim.Native.Nat.{ℕ, _+_, _*_, _-_, _≤_, _<_}
+use Prim.Native.Nat.{ℕ, _+_, _≤_}
 use native.Mathlib.Omega.{arith}
 use native.Mathlib.Decide.{ℕ-discrete, decLt}
 use mathlib.Core.Path.{_≡_, refl, sym, ap, _∙_}
 use mathlib.Core.Bool.{Bool, true, false}
 use mathlib.Core.List.{List, [], _∷_, _++_, append-nil, append-assoc}
-use lib.ListN.{length, take, drop, length-append, length-take, length-drop, drop-of-length-le}
+use lib.ListN.{length, take, drop, length-append, length-take}
 use lib.Seq.{length-take-le, take-all, take-at, take-length, drop-append-le, drop-length}
 use Rattle.byte_parts.specs.Part.{put}
 use Rattle.byte_parts.proofs.Part.{put-split}
-use Rattle.text_stream.specs.Stream.{Machine, Mid, between, byteFed, byteSaid, fed, said, ended, saysOf, Keeps, Blind, Written, History, Dead}
+use Rattle.text_stream.specs.Stream.{Machine, Mid, between, byteFed, byteSaid, fed, said, ended, saysOf, Blind, Written, History, Dead}
 use Rattle.text_stream.proofs.Whole.{keeps-first, fed-append, said-append, whole}
 use Rattle.text_stream.proofs.Prints.{ended-none, ended-some}
 use Rattle.text_stream.proofs.Histories.{history-dead}

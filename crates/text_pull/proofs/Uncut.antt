@@ -4,7 +4,7 @@ use native.Mathlib.Decide.{ℕ-discrete}
 use mathlib.Core.Path.{_≡_, refl, sym, ap, _∙_}
 use mathlib.Core.List.{List, [], _∷_, _++_}
 use borrow.Author.Tests.{eq-eqb, ne-eqb}
-use Rattle.text_stream.specs.Stream.{Machine, Mid, between, byteFed, byteSaid, fed, said, Keeps, Blind}
+use Rattle.text_stream.specs.Stream.{Machine, Mid, between, byteFed, byteSaid, said, Keeps, Blind}
 
 module _ {S : Type 0} (M : Machine S) (keep : List ℕ → List ℕ) (K : Keeps keep) (B : Blind M keep) where
   abbrev cut : S → List ℕ → Mid S

@@ -1,9 +1,9 @@
 -- What writes leave, call by call. Assumes nothing.
-use Prim.Native.Nat.{ℕ, _+_, _-_, _≤_, _<_}
+use Prim.Native.Nat.{ℕ, _+_, _≤_, _<_}
 use native.Mathlib.Omega.{arith}
 use native.Mathlib.Decide.{ℕ-discrete, decLt}
 use mathlib.Core.Path.{_≡_, refl, _∙_}
-use mathlib.Core.Bool.{Bool, true, false, cond}
+use mathlib.Core.Bool.{true, false, cond}
 use lib.IntN.{ℤ}
 use lib.Dec.{ltb}
 use borrow.Author.Tests.{eq-eqb, ne-eqb, lt-ltb, le-ltb, ltb-true}
@@ -18,6 +18,7 @@ pub record Writing (f g : Flow) : Type 0 where
   pub made : g .made + taken ≡ f .made
   pub written : g .written ≡ f .written + taken
   pub turns : g .turns ≤ f .turns
+  pub called : 1 ≤ taken → g .turns < f .turns
   pub none : g .made ≡ 0 → g .stage ≡ f .stage
   pub going : (g .stage ≡ 3 → ⊥) → g .stage ≡ f .stage
   pub len : g .len ≡ f .len
@@ -33,6 +34,7 @@ write-start f = record {
   made = omega arith;
   written = omega arith;
   turns = omega arith;
+  called = λ z. absurd (omega arith);
   none = λ z. refl;
   going = λ z. refl;
   len = refl;
@@ -69,6 +71,7 @@ put-on f g got errno x l =
         made = omega (arith, x .made);
         written = omega (arith, x .written);
         turns = omega (arith, x .turns);
+        called = λ z. omega (arith, x .turns, l .0);
         none =
             λ z.
             elim (ℕ-discrete (writeStage (g .stage) got errno) 3) [
@@ -131,7 +134,7 @@ module _ (f g : Flow) (x : Writing f g) where
       ]
 
   pub write-done : (h : Flow) → h ≡ gaveUp g → Wrote f h
-  write-done h e = record { turns = g .turns; taken = x .taken; spent = x .turns; most = omega (arith, x .made); flow = e ∙ over }
+  write-done h e = record { turns = g .turns; taken = x .taken; spent = x .turns; called = x .called; most = omega (arith, x .made); flow = e ∙ over }
 
 -- A flush that was due, and one that was not.
 pub flush-wrote : (most room : ℕ) (f g : Flow) → dueOf f room most ≡ true → Wrote f g → Flushed most room f g

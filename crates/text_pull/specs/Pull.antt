@@ -9,7 +9,7 @@ use lib.Dec.{eqb, ltb}
 use lib.ListN.{length, take, drop}
 use Rattle.bytes.specs.Bytes.{indexOf}
 use Rattle.io.specs.Counts.{clamped}
-use Rattle.text_stream.specs.Stream.{Machine, Mid, between, fed, said, saysOf, Written}
+use Rattle.text_stream.specs.Stream.{Machine, between, said, saysOf, Written}
 use Rattle.text_pull.specs.declared.Flow.{Flow}
 use Rattle.text_pull.specs.declared.Fault.{Fault}
 use Rattle.text_pull.specs.declared.Fault.the-variants.{Nothing, Unread, Unwritten, Unended}
@@ -206,10 +206,12 @@ wroteOf f turns taken = record {
 unfoldable pub gaveUp : Flow → Flow
 gaveUp f = cond (ltb 0 (f .made)) (unwritten f) f
 
+-- all that waits is written, call by call, or the program has failed: no byte is taken without a call, and each call uses a turn
 pub record Wrote (f g : Flow) : Type 0 where
   pub turns : ℕ
   pub taken : ℕ
   pub spent : turns ≤ f .turns
+  pub called : 1 ≤ taken → turns < f .turns
   pub most : taken ≤ f .made
   pub flow : g ≡ wroteOf f turns taken
 

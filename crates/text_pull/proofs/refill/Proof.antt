@@ -1,8 +1,5 @@
 -- `text_pull::refill` meets its contract: where bytes are left, or the text has ended, nothing is read. Assumes nothing.
 use native.Mathlib.Omega.{arith}
-use native.Mathlib.Decide.{ℕ-discrete}
-use mathlib.Core.Path.{_≡_}
-use lib.ListN.{length}
 use mir.Facts.{toZ-ofZ}
 use mir.Syntax.{w32, w64}
 use denote.Ref.{now}

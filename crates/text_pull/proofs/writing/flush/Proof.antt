@@ -1,5 +1,5 @@
 -- `text_pull::writing::flush` meets its contract, by whether it is due. Assumes nothing.
-use mathlib.Core.Path.{_≡_, sym, _∙_}
+use mathlib.Core.Path.{sym, _∙_}
 use borrow.Author.Needs.{needs}
 use Rattle.text_pull.proofs.Writes.{flush-wrote, flush-wait}
 use Rattle.text_pull.proofs.writing.flush.Statement.{statement}
