@@ -79,10 +79,28 @@ module _ (b : ℕ) (s : List ℕ) (from : ℕ) where
   count-last h g =
       ⊎-elim (λ w. rw (w .1) (omega arith)) (λ w. absurd (omega (arith, w .0))) (end-cut b from s h (fieldEnd b from s) (end-found h))
 
+-- One of n + 1 fields starts behind a.
+module _ (b : ℕ) (s : List ℕ) (n a z : ℕ) (q : z ≡ fieldEnd b (a + 1) s) (p : a < length s → length (split b s) ≡ n + length (split b (drop (a + 1) s))) where
+  -- If it ends at a separator, others start behind that.
+  one-more : z < length s → length (split b s) ≡ suc n + length (split b (drop (z + 1) s))
+  one-more g =
+      let i : fieldEnd b (a + 1) s < length s = omega (arith, q) in
+      let j : a < length s = omega (arith, end-after b s (a + 1) i) in
+      let m : length (split b (drop (a + 1) s)) ≡ 1 + length (split b (drop (z + 1) s)) = rw q (count-cut b s (a + 1) i) in
+      omega (arith, p j, m)
+
+  -- If it ends with the text, it is the last.
+  the-last : a < length s → length s ≤ z → suc n ≡ length (split b s)
+  the-last j g =
+      let l : length s ≤ fieldEnd b (a + 1) s = omega (arith, q) in
+      omega (arith, p j, count-last b s (a + 1) (omega arith) l)
+
 -- Of the ends of the first six fields.
 module _ (b : ℕ) (s : List ℕ) (x : Ends) (e : x ≡ endsOf b s) where
   -- Each lies within the text.
-  pub ends-within : (x .second ≤ length s) × (x .third ≤ length s) × (x .fourth ≤ length s) × (x .fifth ≤ length s) × (x .sixth ≤ length s)
+  pub ends-within
+      : (x .first ≤ length s)
+      × ((x .second ≤ length s) × ((x .third ≤ length s) × ((x .fourth ≤ length s) × ((x .fifth ≤ length s) × (x .sixth ≤ length s)))))
   unfolding endsOf
   ends-within =
       let one = fieldEnd b 0 s in
@@ -90,9 +108,17 @@ module _ (b : ℕ) (s : List ℕ) (x : Ends) (e : x ≡ endsOf b s) where
       let three = fieldEnd b (two + 1) s in
       let four = fieldEnd b (three + 1) s in
       rw e
-      (end-within b s (one + 1), end-within b s (two + 1), end-within b s (three + 1), end-within b s (four + 1), end-within b s (fieldEnd b (four + 1) s + 1))
+      (end-within b s 0, (end-within b s (one + 1), (end-within b s (two + 1), (end-within b s (three + 1), (end-within b s (four + 1), end-within b s (fieldEnd b (four + 1) s + 1))))))
 
   -- What stands between two of them is a field.
+  pub first-field : take (x .first - 0) (drop 0 s) ≡ getD (split b s) 0 []
+  unfolding endsOf
+  first-field = rw e (end-here b s 0)
+
+  pub second-field : take (x .second - (x .first + 1)) (drop (x .first + 1) s) ≡ getD (split b s) 1 []
+  unfolding endsOf
+  second-field = rw e (end-here b s (fieldEnd b 0 s + 1) ∙ sym (end-next b s 0 0))
+
   pub third-field : take (x .third - (x .second + 1)) (drop (x .second + 1) s) ≡ getD (split b s) 2 []
   unfolding endsOf
   third-field =
@@ -127,19 +153,22 @@ module _ (b : ℕ) (s : List ℕ) (x : Ends) (e : x ≡ endsOf b s) where
       (end-here b s (fieldEnd b (four + 1) s + 1)
       ∙ sym (end-next b s 0 4 ∙ end-next b s (one + 1) 3 ∙ end-next b s (two + 1) 2 ∙ end-next b s (three + 1) 1 ∙ end-next b s (four + 1) 0))
 
-  -- Each that is a separator's is one field more.
-  count-four : x .fourth < length s → length (split b s) ≡ 4 + length (split b (drop (x .fourth + 1) s))
+  -- Each is where the field behind the one before it ends.
+  first-end : x .first ≡ fieldEnd b 0 s
   unfolding endsOf
-  count-four =
-      let one = fieldEnd b 0 s in
-      let two = fieldEnd b (one + 1) s in
-      let three = fieldEnd b (two + 1) s in
-      rw e
-      (λ g.
-      let h : three < length s = omega (arith, end-after b s (three + 1) g) in
-      let i : two < length s = omega (arith, end-after b s (two + 1) h) in
-      let j : one < length s = omega (arith, end-after b s (one + 1) i) in
-      omega (arith, count-cut b s 0 j, count-cut b s (one + 1) i, count-cut b s (two + 1) h, count-cut b s (three + 1) g))
+  first-end = rw e
+
+  second-end : x .second ≡ fieldEnd b (x .first + 1) s
+  unfolding endsOf
+  second-end = rw e
+
+  third-end : x .third ≡ fieldEnd b (x .second + 1) s
+  unfolding endsOf
+  third-end = rw e
+
+  fourth-end : x .fourth ≡ fieldEnd b (x .third + 1) s
+  unfolding endsOf
+  fourth-end = rw e
 
   fifth-end : x .fifth ≡ fieldEnd b (x .fourth + 1) s
   unfolding endsOf
@@ -149,15 +178,37 @@ module _ (b : ℕ) (s : List ℕ) (x : Ends) (e : x ≡ endsOf b s) where
   unfolding endsOf
   sixth-end = rw e
 
+  -- Each that is a separator's is one field more.
+  behind-one : x .first < length s → length (split b s) ≡ 1 + length (split b (drop (x .first + 1) s))
+  behind-one = rw first-end (count-cut b s 0)
+
+  behind-two : x .second < length s → length (split b s) ≡ 2 + length (split b (drop (x .second + 1) s))
+  behind-two = one-more b s 1 (x .first) (x .second) second-end behind-one
+
+  behind-three : x .third < length s → length (split b s) ≡ 3 + length (split b (drop (x .third + 1) s))
+  behind-three = one-more b s 2 (x .second) (x .third) third-end behind-two
+
+  behind-four : x .fourth < length s → length (split b s) ≡ 4 + length (split b (drop (x .fourth + 1) s))
+  behind-four = one-more b s 3 (x .third) (x .fourth) fourth-end behind-three
+
+  behind-five : x .fifth < length s → length (split b s) ≡ 5 + length (split b (drop (x .fifth + 1) s))
+  behind-five = one-more b s 4 (x .fourth) (x .fifth) fifth-end behind-four
+
+  -- One that is the text's is the last.
+  pub count-one : length s ≤ x .first → 1 ≡ length (split b s)
+  count-one h = let l : length s ≤ fieldEnd b 0 s = omega (arith, first-end) in sym (count-last b s 0 (omega arith) l)
+
+  pub count-two : x .first < length s → length s ≤ x .second → 2 ≡ length (split b s)
+  count-two = the-last b s 1 (x .first) (x .second) second-end behind-one
+
+  pub count-three : x .second < length s → length s ≤ x .third → 3 ≡ length (split b s)
+  count-three = the-last b s 2 (x .second) (x .third) third-end behind-two
+
+  pub count-four : x .third < length s → length s ≤ x .fourth → 4 ≡ length (split b s)
+  count-four = the-last b s 3 (x .third) (x .fourth) fourth-end behind-three
+
   pub count-five : x .fourth < length s → length s ≤ x .fifth → 5 ≡ length (split b s)
-  count-five g h =
-      let l : length s ≤ fieldEnd b (x .fourth + 1) s = omega (arith, fifth-end) in
-      omega (arith, count-four g, count-last b s (x .fourth + 1) (omega arith) l)
+  count-five = the-last b s 4 (x .fourth) (x .fifth) fifth-end behind-four
 
   pub count-six : x .fifth < length s → length s ≤ x .sixth → 6 ≡ length (split b s)
-  count-six g h =
-      let i : fieldEnd b (x .fourth + 1) s < length s = omega (arith, fifth-end) in
-      let j : x .fourth < length s = omega (arith, end-after b s (x .fourth + 1) i) in
-      let l : length s ≤ fieldEnd b (x .fifth + 1) s = omega (arith, sixth-end) in
-      let m : length (split b (drop (x .fourth + 1) s)) ≡ 1 + length (split b (drop (x .fifth + 1) s)) = rw fifth-end (count-cut b s (x .fourth + 1) i) in
-      omega (arith, count-four j, m, count-last b s (x .fifth + 1) (omega arith) l)
+  count-six = the-last b s 5 (x .fifth) (x .sixth) sixth-end behind-five

@@ -32,24 +32,6 @@ pub fn field_count(s: &[u8], separator: u8) -> usize
     n
 }
 
-// Gives field number k of s, counted from 0, as a part of s; an empty part where s has no such field.
-pub fn field<'a>(s: &'a [u8], k: usize, separator: u8) -> &'a [u8]
-    ensures { λ r. ⌜ now r ≡ getD (split separator (now (s .entry))) k [] ⌝ }
-{
-    let mut from = 0;
-    let mut i = 0;
-    while i < k {
-        let end = scan::find(s, from, s.len(), separator);
-        if s.len() <= end {
-            return &s[0..0];
-        }
-        from = end + 1;
-        i += 1;
-    }
-    let end = scan::find(s, from, s.len(), separator);
-    &s[from..end]
-}
-
 // Gives where the field of s that starts at `from` ends; behind the end of s, that end.
 fn field_end(s: &[u8], from: usize, separator: u8) -> usize
     ensures { λ r. ⌜ (r ≡ fieldEnd separator from (now (s .entry))) × (r ≤ length (now (s .entry))) ⌝ }
@@ -58,6 +40,39 @@ fn field_end(s: &[u8], from: usize, separator: u8) -> usize
         return s.len();
     }
     scan::find(s, from, s.len(), separator)
+}
+
+// Gives where field number k of s starts, counted from 0; behind the end of s where it has no such field.
+fn field_start(s: &[u8], k: usize, separator: u8) -> usize
+    ensures { λ r. ⌜ getD (split separator (now (s .entry))) k [] ≡ getD (split separator (drop r (now (s .entry)))) 0 [] ⌝ }
+{
+    let mut from = 0;
+    let mut i = 0;
+    while i < k {
+        from = field_end(s, from, separator) + 1;
+        i += 1;
+    }
+    from
+}
+
+// Gives the part of s from `from` to `to`, an empty one where it would start behind its end.
+fn part<'a>(s: &'a [u8], from: usize, to: usize) -> &'a [u8]
+    requires { ⌜ to ≤ length (now s) ⌝ }
+    ensures { λ r. ⌜ now r ≡ take (to - from) (drop from (now (s .entry))) ⌝ }
+{
+    if to < from {
+        return &s[0..0];
+    }
+    &s[from..to]
+}
+
+// Gives field number k of s, counted from 0, as a part of s; an empty part where s has no such field.
+pub fn field<'a>(s: &'a [u8], k: usize, separator: u8) -> &'a [u8]
+    ensures { λ r. ⌜ now r ≡ getD (split separator (now (s .entry))) k [] ⌝ }
+{
+    let from = field_start(s, k, separator);
+    let end = field_end(s, from, separator);
+    part(s, from, end)
 }
 
 // Finds where the first six fields of s end, in one walk, so that no field is sought again.
@@ -80,17 +95,6 @@ pub fn find_ends(s: &[u8], separator: u8) -> Ends
     }
 }
 
-// Gives the part of s from `from` to `to`, an empty one where it would start behind its end.
-fn part<'a>(s: &'a [u8], from: usize, to: usize) -> &'a [u8]
-    requires { ⌜ to ≤ length (now s) ⌝ }
-    ensures { λ r. ⌜ now r ≡ take (to - from) (drop from (now (s .entry))) ⌝ }
-{
-    if to < from {
-        return &s[0..0];
-    }
-    &s[from..to]
-}
-
 // Gives field number k of s, as `field` does, by where the first six end.
 pub fn field_at<'a>(s: &'a [u8], ends: Ends, k: usize, separator: u8) -> &'a [u8]
     requires { ⌜ ends ≡ endsOf separator (now s) ⌝ }
@@ -108,6 +112,12 @@ pub fn field_at<'a>(s: &'a [u8], ends: Ends, k: usize, separator: u8) -> &'a [u8
     if k == 5 {
         return part(s, ends.fifth + 1, ends.sixth);
     }
+    if k == 1 {
+        return part(s, ends.first + 1, ends.second);
+    }
+    if k == 0 {
+        return part(s, 0, ends.first);
+    }
     field(s, k, separator)
 }
 
@@ -116,8 +126,17 @@ pub fn count_at(s: &[u8], ends: Ends, separator: u8) -> usize
     requires { ⌜ ends ≡ endsOf separator (now s) ⌝ }
     ensures { λ r. ⌜ r ≡ length (split separator (now (s .entry))) ⌝ }
 {
+    if s.len() <= ends.first {
+        return 1;
+    }
+    if s.len() <= ends.second {
+        return 2;
+    }
+    if s.len() <= ends.third {
+        return 3;
+    }
     if s.len() <= ends.fourth {
-        return field_count(s, separator);
+        return 4;
     }
     if s.len() <= ends.fifth {
         return 5;
