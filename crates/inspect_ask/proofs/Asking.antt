@@ -9,18 +9,15 @@ use mathlib.Core.List.{List, []}
 use lib.ListN.{length, getD}
 use borrow.Author.Tests.{lt-ltb, le-ltb}
 use Rattle.text_fields.specs.Field.{split}
-use Rattle.text_numbers.specs.declared.codes.Code.{Code}
-use Rattle.text_numbers.specs.declared.codes.Code.the-variants as codes
-use Rattle.text_numbers.specs.declared.decimals.Number.{Number}
-use Rattle.text_numbers.specs.declared.decimals.Number.the-variants as numbers
 use Rattle.text_numbers.specs.Hex.{hexField}
 use Rattle.text_numbers.specs.Codes.{codesField}
-use Rattle.line_image.specs.Line.{codeAt, numberAt, form}
+use Rattle.line_fields.specs.Fields.{codeAt, numberAt, form}
+use Rattle.line_fields.proofs.Said.{either, on-code, on-number}
 use Rattle.inspect_ask.specs.declared.Asked.{Asked}
 use Rattle.inspect_ask.specs.declared.Asked.the-variants as asks
 use Rattle.inspect_ask.specs.declared.Question.{Question}
 use Rattle.inspect_ask.specs.declared.Question.the-variants.{Unknown, Of, Room, Arena}
-use Rattle.inspect_ask.specs.Question.{listName, infoName, readlistName, readinfoName, totalName, verName, dirName, areasName, svcsName, blockName, usedName, attrName, roomName, arenaName, withCode, withNumber, listLine, blockLine, totalLine, versionLine, attributeLine, codesLine, bytesLine, roomLine, arenaLine, lentAsked, cardAsked, messageAsked, questionOf}
+use Rattle.inspect_ask.specs.Question.{listName, infoName, readlistName, readinfoName, totalName, verName, dirName, areasName, svcsName, blockName, usedName, attrName, roomName, arenaName, listLine, blockLine, totalLine, versionLine, attributeLine, codesLine, bytesLine, roomLine, arenaLine, lentAsked, storedAsked, listsAsked, cardAsked, bytesAsked, messageAsked, questionOf}
 
 -- whether field 1 is codes, and whether it is bytes
 abbrev pub Wants : Bool → Bool → Asked → Type 0
@@ -43,19 +40,6 @@ Has c b (Of asked) = Wants c b asked
 Has c b (Room n) = Unit {0}
 Has c b (Arena n) = Unit {0}
 
-module _ (c b : Bool) where
-  on-code : (x : Code) (more : ℕ → Question) → ((n : ℕ) → Has c b (more n)) → Has c b (withCode x more)
-  on-code (codes.Is n) more p = p n
-  on-code codes.Bad more p = tt
-
-  on-number : (x : Number) (more : ℕ → Question) → ((n : ℕ) → Has c b (more n)) → Has c b (withNumber x more)
-  on-number (numbers.Is n) more p = p n
-  on-number numbers.Bad more p = tt
-
-  either : (t : Bool) (x y : Question) → Has c b x → Has c b y → Has c b (cond t x y)
-  either true x y p q = p
-  either false x y p q = q
-
 -- a test that the question wants
 tested : (c b t : Bool) (asked : Asked) → (t ≡ true → Wants c b asked) → Has c b (cond t (Of asked) Unknown)
 tested c b true asked p = p refl
@@ -76,35 +60,47 @@ module _ (fs : List (List ℕ)) where
   unfolding bytesLine
   on-bytes asked p = tested are-codes are-bytes are-bytes asked p
 
-  on-lent : Has are-codes are-bytes (lentAsked fs)
+  -- what a question has in its line
+  abbrev Its : Question → Type 0
+  Its = Has are-codes are-bytes
+
+  on-lent : Its (lentAsked fs)
   unfolding lentAsked roomLine arenaLine
   on-lent =
-      either are-codes are-bytes (form roomName 2 fs) (roomLine fs) _ (on-number are-codes are-bytes (numberAt fs 1 4096) Room (λ n. tt))
-      (either are-codes are-bytes (form arenaName 2 fs) (arenaLine fs) Unknown (on-number are-codes are-bytes (numberAt fs 1 65536) Arena (λ n. tt)) tt)
+      either Its (form roomName 2 fs) (roomLine fs) _ (on-number Its Unknown tt (numberAt fs 1 4096) Room (λ n. tt))
+      (either Its (form arenaName 2 fs) (arenaLine fs) Unknown (on-number Its Unknown tt (numberAt fs 1 65536) Arena (λ n. tt)) tt)
 
-  on-card : Has are-codes are-bytes (cardAsked fs)
-  unfolding cardAsked totalLine versionLine blockLine attributeLine
+  on-stored : Its (storedAsked fs)
+  unfolding storedAsked blockLine attributeLine
+  on-stored =
+      either Its (form blockName 3 fs) (blockLine fs) _ (on-code Its Unknown tt (codeAt fs 1) _ (λ n. on-number Its Unknown tt (numberAt fs 2 4294967295) _ (λ m. tt)))
+      (either Its (form usedName 1 fs) (Of asks.Used) _ tt
+      (either Its (form attrName 2 fs) (attributeLine fs) (lentAsked fs) (on-code Its Unknown tt (codeAt fs 1) _ (λ n. tt)) on-lent))
+
+  on-lists : Its (listsAsked fs)
+  unfolding listsAsked
+  on-lists =
+      either Its (form areasName 2 fs) (codesLine asks.Areas fs) _ (on-codes asks.Areas (λ e. e))
+      (either Its (form svcsName 2 fs) (codesLine asks.Services fs) (storedAsked fs) (on-codes asks.Services (λ e. e)) on-stored)
+
+  on-card : Its (cardAsked fs)
+  unfolding cardAsked totalLine versionLine
   on-card =
-      let c = are-codes in
-      let b = are-bytes in
-      either c b (form totalName 2 fs) (totalLine fs) _ (on-code c b (codeAt fs 1) _ (λ n. tt))
-      (either c b (form verName 2 fs) (versionLine fs) _ (on-code c b (codeAt fs 1) _ (λ n. tt))
-      (either c b (form dirName 1 fs) (Of asks.Directory) _ tt
-      (either c b (form areasName 2 fs) (codesLine asks.Areas fs) _ (on-codes asks.Areas (λ e. e))
-      (either c b (form svcsName 2 fs) (codesLine asks.Services fs) _ (on-codes asks.Services (λ e. e))
-      (either c b (form blockName 3 fs) (blockLine fs) _ (on-code c b (codeAt fs 1) _ (λ n. on-number c b (numberAt fs 2 4294967295) _ (λ m. tt)))
-      (either c b (form usedName 1 fs) (Of asks.Used) _ tt
-      (either c b (form attrName 2 fs) (attributeLine fs) (lentAsked fs) (on-code c b (codeAt fs 1) _ (λ n. tt)) on-lent)))))))
+      either Its (form totalName 2 fs) (totalLine fs) _ (on-code Its Unknown tt (codeAt fs 1) _ (λ n. tt))
+      (either Its (form verName 2 fs) (versionLine fs) _ (on-code Its Unknown tt (codeAt fs 1) _ (λ n. tt))
+      (either Its (form dirName 1 fs) (Of asks.Directory) (listsAsked fs) tt on-lists))
 
-  on-message : Has are-codes are-bytes (messageAsked fs)
+  on-read : Its (bytesAsked fs)
+  unfolding bytesAsked
+  on-read =
+      either Its (form readlistName 2 fs) (bytesLine asks.ReadList fs) _ (on-bytes asks.ReadList (λ e. e))
+      (either Its (form readinfoName 2 fs) (bytesLine asks.ReadInfo fs) (cardAsked fs) (on-bytes asks.ReadInfo (λ e. e)) on-card)
+
+  on-message : Its (messageAsked fs)
   unfolding messageAsked listLine
   on-message =
-      let c = are-codes in
-      let b = are-bytes in
-      either c b (form listName 3 fs) (listLine fs) _ (on-code c b (codeAt fs 1) _ (λ n. on-number c b (numberAt fs 2 4294967295) _ (λ m. tt)))
-      (either c b (form infoName 2 fs) (codesLine asks.Info fs) _ (on-codes asks.Info (λ e. e))
-      (either c b (form readlistName 2 fs) (bytesLine asks.ReadList fs) _ (on-bytes asks.ReadList (λ e. e))
-      (either c b (form readinfoName 2 fs) (bytesLine asks.ReadInfo fs) (cardAsked fs) (on-bytes asks.ReadInfo (λ e. e)) on-card)))
+      either Its (form listName 3 fs) (listLine fs) _ (on-code Its Unknown tt (codeAt fs 1) _ (λ n. on-number Its Unknown tt (numberAt fs 2 4294967295) _ (λ m. tt)))
+      (either Its (form infoName 2 fs) (codesLine asks.Info fs) (bytesAsked fs) (on-codes asks.Info (λ e. e)) on-read)
 
 -- a question of the card is not unknown
 known : Question → ℕ

@@ -5,13 +5,9 @@ use mathlib.Core.List.{List, [], _∷_}
 use lib.Dec.{ltb}
 use lib.ListN.{length, getD}
 use Rattle.text_fields.specs.Field.{split}
-use Rattle.text_numbers.specs.declared.codes.Code.{Code}
-use Rattle.text_numbers.specs.declared.codes.Code.the-variants as codes
-use Rattle.text_numbers.specs.declared.decimals.Number.{Number}
-use Rattle.text_numbers.specs.declared.decimals.Number.the-variants as numbers
 use Rattle.text_numbers.specs.Hex.{hexField}
 use Rattle.text_numbers.specs.Codes.{codesField}
-use Rattle.line_image.specs.Line.{codeAt, numberAt, form}
+use Rattle.line_fields.specs.Fields.{codeAt, numberAt, withCode, withNumber, form}
 use Rattle.inspect_ask.specs.declared.Asked.{Asked}
 use Rattle.inspect_ask.specs.declared.Asked.the-variants as asks
 use Rattle.inspect_ask.specs.declared.Question.{Question}
@@ -67,38 +63,29 @@ mostRoom = 4096
 abbrev pub mostArena : ℕ
 mostArena = 65536
 
--- a question goes on with what a field says; a malformed field makes it unknown
-abbrev pub withCode : Code → (ℕ → Question) → Question
-withCode (codes.Is n) more = more n
-withCode codes.Bad more = Unknown
-
-abbrev pub withNumber : Number → (ℕ → Question) → Question
-withNumber (numbers.Is n) more = more n
-withNumber numbers.Bad more = Unknown
-
 -- `list` parent packet, of 32 bits
 unfoldable pub listLine : List (List ℕ) → Question
 listLine fs =
-    withCode (codeAt fs 1) (λ parent.
-    withNumber (numberAt fs 2 4294967295) (λ packet.
+    withCode Unknown (codeAt fs 1) (λ parent.
+    withNumber Unknown (numberAt fs 2 4294967295) (λ packet.
     Of (asks.List parent packet)))
 
 -- `block` code number, of 32 bits
 unfoldable pub blockLine : List (List ℕ) → Question
 blockLine fs =
-    withCode (codeAt fs 1) (λ code.
-    withNumber (numberAt fs 2 4294967295) (λ number.
+    withCode Unknown (codeAt fs 1) (λ code.
+    withNumber Unknown (numberAt fs 2 4294967295) (λ number.
     Of (asks.Block code number)))
 
 -- `total`, `ver`, `attr` code
 unfoldable pub totalLine : List (List ℕ) → Question
-totalLine fs = withCode (codeAt fs 1) (λ code. Of (asks.Total code))
+totalLine fs = withCode Unknown (codeAt fs 1) (λ code. Of (asks.Total code))
 
 unfoldable pub versionLine : List (List ℕ) → Question
-versionLine fs = withCode (codeAt fs 1) (λ code. Of (asks.Version code))
+versionLine fs = withCode Unknown (codeAt fs 1) (λ code. Of (asks.Version code))
 
 unfoldable pub attributeLine : List (List ℕ) → Question
-attributeLine fs = withCode (codeAt fs 1) (λ code. Of (asks.Attribute code))
+attributeLine fs = withCode Unknown (codeAt fs 1) (λ code. Of (asks.Attribute code))
 
 -- codes joined, or bytes in hex, in field 1
 unfoldable pub codesLine : Asked → List (List ℕ) → Question
@@ -109,10 +96,10 @@ bytesLine asked fs = cond (hexField (getD fs 1 [])) (Of asked) Unknown
 
 -- `room` and `arena` length
 unfoldable pub roomLine : List (List ℕ) → Question
-roomLine fs = withNumber (numberAt fs 1 mostRoom) Room
+roomLine fs = withNumber Unknown (numberAt fs 1 mostRoom) Room
 
 unfoldable pub arenaLine : List (List ℕ) → Question
-arenaLine fs = withNumber (numberAt fs 1 mostArena) Arena
+arenaLine fs = withNumber Unknown (numberAt fs 1 mostArena) Arena
 
 -- each name with its number of fields; what has none of them is unknown
 unfoldable pub lentAsked : List (List ℕ) → Question
@@ -120,23 +107,32 @@ lentAsked fs =
     cond (form roomName 2 fs) (roomLine fs)
     (cond (form arenaName 2 fs) (arenaLine fs) Unknown)
 
+unfoldable pub storedAsked : List (List ℕ) → Question
+storedAsked fs =
+    cond (form blockName 3 fs) (blockLine fs)
+    (cond (form usedName 1 fs) (Of asks.Used)
+    (cond (form attrName 2 fs) (attributeLine fs) (lentAsked fs)))
+
+unfoldable pub listsAsked : List (List ℕ) → Question
+listsAsked fs =
+    cond (form areasName 2 fs) (codesLine asks.Areas fs)
+    (cond (form svcsName 2 fs) (codesLine asks.Services fs) (storedAsked fs))
+
 unfoldable pub cardAsked : List (List ℕ) → Question
 cardAsked fs =
     cond (form totalName 2 fs) (totalLine fs)
     (cond (form verName 2 fs) (versionLine fs)
-    (cond (form dirName 1 fs) (Of asks.Directory)
-    (cond (form areasName 2 fs) (codesLine asks.Areas fs)
-    (cond (form svcsName 2 fs) (codesLine asks.Services fs)
-    (cond (form blockName 3 fs) (blockLine fs)
-    (cond (form usedName 1 fs) (Of asks.Used)
-    (cond (form attrName 2 fs) (attributeLine fs) (lentAsked fs))))))))
+    (cond (form dirName 1 fs) (Of asks.Directory) (listsAsked fs)))
+
+unfoldable pub bytesAsked : List (List ℕ) → Question
+bytesAsked fs =
+    cond (form readlistName 2 fs) (bytesLine asks.ReadList fs)
+    (cond (form readinfoName 2 fs) (bytesLine asks.ReadInfo fs) (cardAsked fs))
 
 unfoldable pub messageAsked : List (List ℕ) → Question
 messageAsked fs =
     cond (form listName 3 fs) (listLine fs)
-    (cond (form infoName 2 fs) (codesLine asks.Info fs)
-    (cond (form readlistName 2 fs) (bytesLine asks.ReadList fs)
-    (cond (form readinfoName 2 fs) (bytesLine asks.ReadInfo fs) (cardAsked fs))))
+    (cond (form infoName 2 fs) (codesLine asks.Info fs) (bytesAsked fs))
 
 -- a line of at most 32,768 bytes, its fields parted by tabs (9)
 unfoldable pub questionOf : List ℕ → Question

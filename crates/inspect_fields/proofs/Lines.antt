@@ -1,5 +1,5 @@
 -- Codes and bytes of a question, at the front of a buffer. Assumes nothing.
-use Prim.Native.Nat.{ℕ, _+_, _-_, _/_, _≤_, min}
+use Prim.Native.Nat.{ℕ, _+_, _-_, _≤_, min}
 use native.Mathlib.Omega.{arith}
 use native.Mathlib.Nat.{sub-zero}
 use mathlib.Core.Path.{_≡_, refl, sym, ap, _∙_}
@@ -32,10 +32,5 @@ module _ (line : List ℕ) (short : length line ≤ 32768) where
       ((k, omega arith), p ∙ ap (λ (m : ℕ). put old 0 m t) k)
 
   -- The bytes of a line have room.
-  pub bytes-put : (old : List ℕ) {r : ℕ} {new : List ℕ} → let t = unhex (fieldOne line) in length old ≡ 16384 → r ≡ 0 + length (fieldOne line) / 2
-      → new ≡ put old 0 (length (fieldOne line) / 2) t → ((r ≡ length t) × (r ≤ 16384)) × (new ≡ put old 0 (length t) t)
-  bytes-put old h e p =
-      let t = unhex (fieldOne line) in
-      let n = length-unhex (fieldOne line) in
-      let l = field-long 9 line 1 in
-      ((omega arith, omega arith), p ∙ ap (λ (m : ℕ). put old 0 m t) (omega arith))
+  pub bytes-room : length (unhex (fieldOne line)) ≤ 16384
+  bytes-room = omega (arith, length-unhex (fieldOne line), field-long 9 line 1)

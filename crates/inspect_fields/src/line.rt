@@ -1,6 +1,4 @@
 // Codes and bytes that a question has in its field 1.
-use text_numbers::codes;
-use text_numbers::hex;
 ghost use mathlib.Core.Path.{_≡_};
 ghost use mathlib.Core.Bool.{true};
 ghost use Prim.Native.Nat.{_≤_};
@@ -16,7 +14,8 @@ pub fn read_codes(line: &[u8], codes: &mut [u16]) -> usize
     ensures { λ r. ⌜ (r ≡ length (codesOf (fieldOne (now (line .entry))))) × (r ≤ 8192) ⌝ }
     ensures { λ _. ⌜ now (codes .exit) ≡ put (now (codes .entry)) 0 (length (codesOf (fieldOne (now (line .entry))))) (codesOf (fieldOne (now (line .entry)))) ⌝ }
 {
-    codes::read_codes(text_fields::field(line, 1, b'\t'), codes)
+    let ends = text_fields::find_ends(line, b'\t');
+    line_fields::read_codes(line, ends, 1, codes)
 }
 
 // Puts the bytes of a question to the front of `bytes`, and answers how many.
@@ -25,5 +24,6 @@ pub fn read_bytes(line: &[u8], bytes: &mut [u8]) -> usize
     ensures { λ r. ⌜ (r ≡ length (unhex (fieldOne (now (line .entry))))) × (r ≤ 16384) ⌝ }
     ensures { λ _. ⌜ now (bytes .exit) ≡ put (now (bytes .entry)) 0 (length (unhex (fieldOne (now (line .entry))))) (unhex (fieldOne (now (line .entry)))) ⌝ }
 {
-    hex::put_bytes(text_fields::field(line, 1, b'\t'), bytes, 0)
+    let ends = text_fields::find_ends(line, b'\t');
+    line_fields::put_field(line, ends, 1, bytes, 0)
 }

@@ -1,4 +1,3 @@
 -- What callers cite, and worked lines.
 pub mod Lines
 pub mod Rows
-mod Digits

@@ -11,7 +11,8 @@ use Rattle.text_numbers.specs.Hex.{grouped, hexField}
 use Rattle.text_numbers.specs.Codes.{hex16}
 use Rattle.text_numbers.specs.Decimal.{plain, upTo, decimal, positive, negative, signed}
 use Rattle.line_image.specs.declared.line.Line.the-variants.{Malformed, Card, Area, Service, Limit, Block}
-use Rattle.line_image.specs.Line.{cardLine, headingOf, areaLine, serviceLine, limitLine, hex32, blockLine, named, form, joins, firstLine, laterLine, imageLine}
+use Rattle.line_fields.specs.Fields.{named, form}
+use Rattle.line_image.specs.Line.{cardLine, headingOf, areaLine, serviceLine, limitLine, hex32, blockLine, joins, firstLine, laterLine, imageLine}
 
 -- `card 0001 0000 join`, `card 0001 0000`, `svc 1 1049 2 0000` and `svc 1 104B 5 0000`, with a tab for each blank.
 pub whole-case

@@ -2,16 +2,22 @@
 use byte_parts::sizes::LONGEST_LINE;
 use byte_parts::spans;
 use card_build::card::System;
+use line_fields::bound_at;
+use line_fields::code_at;
+use line_fields::is_form;
+use line_fields::is_word;
+use line_fields::number_at;
+use text_fields::Ends;
 use text_numbers::codes::Code;
-use text_numbers::codes::read_hex16;
 use text_numbers::decimals::Number;
 use text_numbers::decimals::Signed;
-use text_numbers::decimals::read_dec;
-use text_numbers::decimals::read_signed;
 use text_numbers::hex::is_hex_field;
 ghost use mathlib.Core.Path.{_≡_};
-ghost use Rattle.text_fields.specs.Field.{split};
-ghost use Rattle.line_image.specs.Line.{codeAt, numberAt, boundAt, hex32, named, form, joins, imageNamed, cardLine, headingOf, areaLine, serviceLine, limitLine, blockLine, firstLine, laterLine, imageLine};
+ghost use mathlib.Core.List.{[]};
+ghost use lib.ListN.{getD};
+ghost use Rattle.byte_parts.specs.Part.{sameBytes};
+ghost use Rattle.text_fields.specs.Field.{split, endsOf};
+ghost use Rattle.line_image.specs.Line.{hex32, joinWord, joins, imageNamed, cardLine, headingOf, areaLine, serviceLine, limitLine, blockLine, firstLine, laterLine, imageLine};
 
 // What an image line says, or that it is malformed. A block's bytes stay in the line's last field.
 pub enum Line {
@@ -40,35 +46,15 @@ pub enum Line {
     },
 }
 
-// Reads field k as a code or a version.
-pub fn code_at(line: &[u8], k: usize) -> Code
-    ensures { λ r. ⌜ r ≡ codeAt (split 9 (now (line .entry))) k ⌝ }
-{
-    read_hex16(text_fields::field(line, k, b'\t'))
-}
-
-// Reads field k as a decimal that is at most `most`.
-pub fn number_at(line: &[u8], k: usize, most: u32) -> Number
-    ensures { λ r. ⌜ r ≡ numberAt (split 9 (now (line .entry))) k most ⌝ }
-{
-    read_dec(text_fields::field(line, k, b'\t'), most)
-}
-
-// Reads field k as a bound.
-fn bound_at(line: &[u8], k: usize) -> Signed
-    ensures { λ r. ⌜ r ≡ boundAt (split 9 (now (line .entry))) k ⌝ }
-{
-    read_signed(text_fields::field(line, k, b'\t'))
-}
-
 // Reads a line `card`: the system's code, its version; whether it joins is known.
-fn card_line(line: &[u8], join: bool) -> Line
+fn card_line(line: &[u8], ends: Ends, join: bool) -> Line
+    requires { ⌜ ends ≡ endsOf 9 (now line) ⌝ }
     ensures { λ r. ⌜ r ≡ cardLine join (split 9 (now (line .entry))) ⌝ }
 {
-    let Code::Is(code) = code_at(line, 1) else {
+    let Code::Is(code) = code_at(line, ends, 1) else {
         return Line::Malformed;
     };
-    let Code::Is(version) = code_at(line, 2) else {
+    let Code::Is(version) = code_at(line, ends, 2) else {
         return Line::Malformed;
     };
     Line::Card(System {
@@ -85,16 +71,17 @@ enum Heading {
 }
 
 // Reads what `area` and `svc` have in common.
-fn heading_of(line: &[u8]) -> Heading
+fn heading_of(line: &[u8], ends: Ends) -> Heading
+    requires { ⌜ ends ≡ endsOf 9 (now line) ⌝ }
     ensures { λ r. ⌜ r ≡ headingOf (split 9 (now (line .entry))) ⌝ }
 {
-    let Number::Is(depth) = number_at(line, 1, u32::MAX) else {
+    let Number::Is(depth) = number_at(line, ends, 1, u32::MAX) else {
         return Heading::Malformed;
     };
-    let Code::Is(code) = code_at(line, 2) else {
+    let Code::Is(code) = code_at(line, ends, 2) else {
         return Heading::Malformed;
     };
-    let Code::Is(version) = code_at(line, 4) else {
+    let Code::Is(version) = code_at(line, ends, 4) else {
         return Heading::Malformed;
     };
     Heading::Is {
@@ -105,18 +92,19 @@ fn heading_of(line: &[u8]) -> Heading
 }
 
 // Reads a line `area`: depth, code, end, version.
-fn area_line(line: &[u8]) -> Line
+fn area_line(line: &[u8], ends: Ends) -> Line
+    requires { ⌜ ends ≡ endsOf 9 (now line) ⌝ }
     ensures { λ r. ⌜ r ≡ areaLine (split 9 (now (line .entry))) ⌝ }
 {
     let Heading::Is {
         depth,
         code,
         version,
-    } = heading_of(line)
+    } = heading_of(line, ends)
     else {
         return Line::Malformed;
     };
-    let Code::Is(end) = code_at(line, 3) else {
+    let Code::Is(end) = code_at(line, ends, 3) else {
         return Line::Malformed;
     };
     Line::Area {
@@ -128,18 +116,19 @@ fn area_line(line: &[u8]) -> Line
 }
 
 // Reads a line `svc`: depth, code, blocks, version.
-fn service_line(line: &[u8]) -> Line
+fn service_line(line: &[u8], ends: Ends) -> Line
+    requires { ⌜ ends ≡ endsOf 9 (now line) ⌝ }
     ensures { λ r. ⌜ r ≡ serviceLine (split 9 (now (line .entry))) ⌝ }
 {
     let Heading::Is {
         depth,
         code,
         version,
-    } = heading_of(line)
+    } = heading_of(line, ends)
     else {
         return Line::Malformed;
     };
-    let Number::Is(blocks) = number_at(line, 3, u32::MAX) else {
+    let Number::Is(blocks) = number_at(line, ends, 3, u32::MAX) else {
         return Line::Malformed;
     };
     Line::Service {
@@ -151,16 +140,17 @@ fn service_line(line: &[u8]) -> Line
 }
 
 // Reads a line `lim`: upper, lower, generation.
-fn limit_line(line: &[u8]) -> Line
+fn limit_line(line: &[u8], ends: Ends) -> Line
+    requires { ⌜ ends ≡ endsOf 9 (now line) ⌝ }
     ensures { λ r. ⌜ r ≡ limitLine (split 9 (now (line .entry))) ⌝ }
 {
-    let Signed::Is(upper) = bound_at(line, 1) else {
+    let Signed::Is(upper) = bound_at(line, ends, 1) else {
         return Line::Malformed;
     };
-    let Signed::Is(lower) = bound_at(line, 2) else {
+    let Signed::Is(lower) = bound_at(line, ends, 2) else {
         return Line::Malformed;
     };
-    let Number::Is(generation) = number_at(line, 3, 255) else {
+    let Number::Is(generation) = number_at(line, ends, 3, 255) else {
         return Line::Malformed;
     };
     Line::Limit {
@@ -181,95 +171,91 @@ fn is_hex32(s: &[u8]) -> bool
 }
 
 // Reads a line `blk`: code, number, 32 hex digits.
-fn block_line(line: &[u8]) -> Line
+fn block_line(line: &[u8], ends: Ends) -> Line
+    requires { ⌜ ends ≡ endsOf 9 (now line) ⌝ }
     ensures { λ r. ⌜ r ≡ blockLine (split 9 (now (line .entry))) ⌝ }
 {
-    let Code::Is(code) = code_at(line, 1) else {
+    let Code::Is(code) = code_at(line, ends, 1) else {
         return Line::Malformed;
     };
-    let Number::Is(number) = number_at(line, 2, u32::MAX) else {
+    let Number::Is(number) = number_at(line, ends, 2, u32::MAX) else {
         return Line::Malformed;
     };
-    if !is_hex32(text_fields::field(line, 3, b'\t')) {
+    if !is_hex32(text_fields::field_at(line, ends, 3, b'\t')) {
         return Line::Malformed;
     }
     Line::Block { code, number }
-}
-
-// Whether the line's first field is this word.
-fn is_named(line: &[u8], word: &[u8]) -> bool
-    ensures { λ r. ⌜ r ≡ named (now (word .entry)) (split 9 (now (line .entry))) ⌝ }
-{
-    spans::same(text_fields::field(line, 0, b'\t'), word)
 }
 
 // Whether the line's first field names a kind of image line, well formed or not.
 pub fn is_image(line: &[u8]) -> bool
     ensures { λ r. ⌜ r ≡ imageNamed (split 9 (now (line .entry))) ⌝ }
 {
-    if is_named(line, b"card") {
+    let name = text_fields::field(line, 0, b'\t');
+    if spans::same(name, b"card") {
         return true;
     }
-    if is_named(line, b"area") {
+    if spans::same(name, b"area") {
         return true;
     }
-    if is_named(line, b"svc") {
+    if spans::same(name, b"svc") {
         return true;
     }
-    if is_named(line, b"lim") {
+    if spans::same(name, b"lim") {
         return true;
     }
-    is_named(line, b"blk")
+    spans::same(name, b"blk")
 }
 
-// Whether the line's first field is this word, and it has so many fields in all.
-pub fn is_form(line: &[u8], word: &[u8], count: usize) -> bool
-    ensures { λ r. ⌜ r ≡ form (now (word .entry)) count (split 9 (now (line .entry))) ⌝ }
+// Whether the line's fourth field is `join`.
+fn says_join(line: &[u8], ends: Ends) -> bool
+    requires { ⌜ ends ≡ endsOf 9 (now line) ⌝ }
+    ensures { λ r. ⌜ r ≡ sameBytes (getD (split 9 (now (line .entry))) 3 []) joinWord ⌝ }
 {
-    if !is_named(line, word) {
-        return false;
-    }
-    text_fields::field_count(line, b'\t') == count
+    is_word(line, ends, 3, b"join")
 }
 
 // Whether the line is `card` and ends with `join`, its fourth field.
-fn is_join(line: &[u8]) -> bool
+fn is_join(line: &[u8], ends: Ends) -> bool
+    requires { ⌜ ends ≡ endsOf 9 (now line) ⌝ }
     ensures { λ r. ⌜ r ≡ joins (split 9 (now (line .entry))) ⌝ }
 {
-    if !is_form(line, b"card", 4) {
+    if !is_form(line, ends, b"card", 4) {
         return false;
     }
-    spans::same(text_fields::field(line, 3, b'\t'), b"join")
+    says_join(line, ends)
 }
 
 // Reads line 1, which must be `card`.
-fn first_line(line: &[u8]) -> Line
+fn first_line(line: &[u8], ends: Ends) -> Line
+    requires { ⌜ ends ≡ endsOf 9 (now line) ⌝ }
     ensures { λ r. ⌜ r ≡ firstLine (split 9 (now (line .entry))) ⌝ }
 {
-    if is_form(line, b"card", 3) {
-        return card_line(line, false);
+    if is_form(line, ends, b"card", 3) {
+        return card_line(line, ends, false);
     }
-    if is_join(line) {
-        return card_line(line, true);
+    if is_join(line, ends) {
+        return card_line(line, ends, true);
     }
     Line::Malformed
 }
 
 // Reads any other line, which must not be `card`.
-fn later_line(line: &[u8]) -> Line
+fn later_line(line: &[u8], ends: Ends) -> Line
+    requires { ⌜ ends ≡ endsOf 9 (now line) ⌝ }
     ensures { λ r. ⌜ r ≡ laterLine (split 9 (now (line .entry))) ⌝ }
 {
-    if is_form(line, b"area", 5) {
-        return area_line(line);
+    if is_form(line, ends, b"area", 5) {
+        return area_line(line, ends);
     }
-    if is_form(line, b"svc", 5) {
-        return service_line(line);
+    if is_form(line, ends, b"svc", 5) {
+        return service_line(line, ends);
     }
-    if is_form(line, b"lim", 4) {
-        return limit_line(line);
+    if is_form(line, ends, b"lim", 4) {
+        return limit_line(line, ends);
     }
-    if is_form(line, b"blk", 4) {
-        return block_line(line);
+    if is_form(line, ends, b"blk", 4) {
+        return block_line(line, ends);
     }
     Line::Malformed
 }
@@ -281,8 +267,9 @@ pub fn read_line(line: &[u8], first: bool) -> Line
     if LONGEST_LINE < line.len() {
         return Line::Malformed;
     }
+    let ends = text_fields::find_ends(line, b'\t');
     if first {
-        return first_line(line);
+        return first_line(line, ends);
     }
-    later_line(line)
+    later_line(line, ends)
 }

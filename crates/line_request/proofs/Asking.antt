@@ -14,7 +14,8 @@ use Rattle.text_numbers.specs.Hex.{hexField}
 use Rattle.text_numbers.specs.Codes.{codesField}
 use Rattle.line_request.specs.declared.Ask.{Ask}
 use Rattle.line_request.specs.declared.Ask.the-variants.{Malformed, Read, Write}
-use Rattle.line_request.specs.Ask.{fieldIn, isLetter, isEither, isOpen, shaped, isWrite, countIn, countedAsk, askOf}
+use Rattle.line_fields.specs.Fields.{fieldIn}
+use Rattle.line_request.specs.Ask.{isLetter, isEither, isOpen, shaped, isWrite, countIn, countedAsk, askOf}
 
 -- No letter, where there is not one byte.
 pub no-letter : (x : ℕ) (s : List ℕ) → (length s ≡ 1 → ⊥) → false ≡ isLetter x s

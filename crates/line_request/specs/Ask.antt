@@ -2,21 +2,18 @@
 -- for `W` data; exactly so many, and no more than 32,768 bytes in all.
 use Prim.Native.Nat.{ℕ}
 use mathlib.Core.Bool.{Bool, cond, _&&_, _||_}
-use mathlib.Core.List.{List, []}
+use mathlib.Core.List.{List}
 use lib.Dec.{ltb, eqb}
 use lib.ListN.{length, getD}
 use Rattle.text_fields.specs.Field.{split}
 use Rattle.text_numbers.specs.declared.decimals.Number.{Number}
 use Rattle.text_numbers.specs.declared.decimals.Number.the-variants.{Is, Bad}
-use Rattle.text_numbers.specs.Decimal.{decimal}
 use Rattle.text_numbers.specs.Hex.{hexField}
 use Rattle.text_numbers.specs.Codes.{codesField}
+use Rattle.line_fields.specs.Fields.{numberAt}
+pub use Rattle.line_fields.specs.Fields.{fieldIn}
 use Rattle.line_request.specs.declared.Ask.{Ask}
 use Rattle.line_request.specs.declared.Ask.the-variants.{Malformed, Read, Write}
-
--- field k of a line, parted by tabs (9)
-abbrev pub fieldIn : List ℕ → ℕ → List ℕ
-fieldIn line k = getD (split 9 line) k []
 
 -- whether a field is one letter
 unfoldable pub isLetter : ℕ → List ℕ → Bool
@@ -48,7 +45,7 @@ isWrite line = shaped 87 6 line && hexField (fieldIn line 5)
 
 -- an element count has 32 bits
 abbrev pub countIn : List ℕ → Number
-countIn line = decimal 4294967295 (fieldIn line 3)
+countIn line = numberAt (split 9 line) 3 4294967295
 
 abbrev pub countedAsk : List ℕ → Number → Ask
 countedAsk line Bad = Malformed

@@ -1,15 +1,14 @@
 // What a request line asks.
 use byte_parts::sizes::LONGEST_LINE;
+use line_fields::has_codes;
+use line_fields::has_hex;
+use line_fields::number_at;
 use text_fields::Ends;
-use text_numbers::codes;
-use text_numbers::decimals;
 use text_numbers::decimals::Number;
-use text_numbers::hex;
 ghost use mathlib.Core.Path.{_≡_};
 ghost use Rattle.text_fields.specs.Field.{endsOf};
-ghost use Rattle.text_numbers.specs.Hex.{hexField};
-ghost use Rattle.text_numbers.specs.Codes.{codesField};
-ghost use Rattle.line_request.specs.Ask.{fieldIn, isLetter, isEither, requestLine, shaped, isWrite, countIn, askOf};
+ghost use Rattle.line_fields.specs.Fields.{fieldIn};
+ghost use Rattle.line_request.specs.Ask.{isLetter, isEither, requestLine, shaped, isWrite, askOf};
 
 // What a line asks: a read or a write, open or in a session, and how many elements it has. Codes, list and data stand in the line.
 pub enum Ask {
@@ -46,30 +45,6 @@ pub fn is_request(line: &[u8]) -> bool
     is_either(line, 0, b'R', b'W')
 }
 
-// Whether field k of a line is hex.
-fn has_hex(line: &[u8], ends: Ends, k: usize) -> bool
-    requires { ⌜ ends ≡ endsOf 9 (now line) ⌝ }
-    ensures { λ r. ⌜ r ≡ hexField (fieldIn (now (line .entry)) k) ⌝ }
-{
-    hex::is_hex_field(text_fields::field_at(line, ends, k, b'\t'))
-}
-
-// Whether field 2 of a line is codes, several of them joined.
-fn has_codes(line: &[u8], ends: Ends) -> bool
-    requires { ⌜ ends ≡ endsOf 9 (now line) ⌝ }
-    ensures { λ r. ⌜ r ≡ codesField (fieldIn (now (line .entry)) 2) ⌝ }
-{
-    codes::is_codes(text_fields::field_at(line, ends, 2, b'\t'))
-}
-
-// Reads how many elements a line's list has, from field 3.
-fn count_in(line: &[u8], ends: Ends) -> Number
-    requires { ⌜ ends ≡ endsOf 9 (now line) ⌝ }
-    ensures { λ r. ⌜ r ≡ countIn (now (line .entry)) ⌝ }
-{
-    decimals::read_dec(text_fields::field_at(line, ends, 3, b'\t'), u32::MAX)
-}
-
 // Whether a line begins with this letter and has `count` fields, and kind, codes and list are well formed.
 fn is_shaped(line: &[u8], ends: Ends, letter: u8, count: usize) -> bool
     requires { ⌜ ends ≡ endsOf 9 (now line) ⌝ }
@@ -84,7 +59,7 @@ fn is_shaped(line: &[u8], ends: Ends, letter: u8, count: usize) -> bool
     if !is_either(line, 1, b'O', b'S') {
         return false;
     }
-    if !has_codes(line, ends) {
+    if !has_codes(line, ends, 2) {
         return false;
     }
     has_hex(line, ends, 4)
@@ -109,7 +84,7 @@ pub fn ask_of(line: &[u8], ends: Ends) -> Ask
     if LONGEST_LINE < line.len() {
         return Ask::Malformed;
     }
-    let Number::Is(count) = count_in(line, ends) else {
+    let Number::Is(count) = number_at(line, ends, 3, u32::MAX) else {
         return Ask::Malformed;
     };
     let open = is_letter(line, 1, b'O');

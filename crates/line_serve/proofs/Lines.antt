@@ -18,9 +18,10 @@ use Rattle.request_plan.specs.Request.{readRequest, writeRequest}
 use Rattle.request_plan.specs.Serve.{Served, serve, lengthRead, outputAfter, stagingBy}
 use Rattle.request_plan.proofs.ReadLaws.{read-said, write-read}
 use Rattle.request_plan.proofs.Codes.{cut}
+use Rattle.line_fields.specs.Fields.{fieldIn}
 use Rattle.line_request.specs.declared.Ask.{Ask}
 use Rattle.line_request.specs.declared.Ask.the-variants.{Malformed, Read, Write}
-use Rattle.line_request.specs.Ask.{fieldIn, askOf}
+use Rattle.line_request.specs.Ask.{askOf}
 use Rattle.line_request.proofs.Asking.{Fields}
 use Rattle.line_serve.specs.Line.{codesIn, listIn, dataIn, outcomeOf, askServed, lineServed, workBy, workAfter, spelledBy, bytesAfter}
 use Rattle.line_serve.proofs.Parts.{front-put, both, first, second}

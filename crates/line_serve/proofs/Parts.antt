@@ -1,5 +1,5 @@
 -- What stands at the front of a buffer after one or two puts. Assumes nothing.
-use Prim.Native.Nat.{ℕ, _+_, _-_, _/_, _≤_, min}
+use Prim.Native.Nat.{ℕ, _+_, _-_, _≤_, min}
 use native.Mathlib.Omega.{arith}
 use native.Mathlib.Decide.{decLt}
 use native.Mathlib.Nat.{sub-zero, zero-add}
@@ -10,19 +10,11 @@ use lib.Seq.{take-length, take-all, take-at, drop-at}
 use Rattle.byte_parts.specs.Part.{part, put}
 use Rattle.byte_parts.proofs.Part.{part-put, put-split}
 use Rattle.byte_parts.proofs.Put.{put-append}
-use Rattle.text_numbers.specs.Hex.{unhex}
-use Rattle.text_numbers.proofs.HexLaws.{length-unhex}
 
 -- What was put at the front is there.
 pub front-put : (s t : List ℕ) → length t ≤ length s → take (length t) (put s 0 (length t) t) ≡ t
 unfolding part
 front-put s t h = part-put s 0 (length t) t (omega arith) (omega arith) ∙ take-length t
-
--- The bytes of a field, where f is the field.
-pub spelled
-    : (f s old : List ℕ) (at : ℕ) {r : ℕ} {new : List ℕ} → f ≡ s → r ≡ at + length f / 2 → new ≡ put old at (length f / 2) (unhex f)
-    → (r ≡ at + length (unhex s)) × (new ≡ put old at (length (unhex s)) (unhex s))
-spelled f s old at e p q = rw (← e, length-unhex f) (p, q)
 
 -- As many as there is room for are at the front.
 pub as-many

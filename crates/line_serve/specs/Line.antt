@@ -10,9 +10,10 @@ use Rattle.card_build.specs.declared.card.Card.{Card}
 use Rattle.request_plan.specs.declared.Reply.the-variants.{Refused}
 use Rattle.request_plan.specs.Request.{readRequest, writeRequest}
 use Rattle.request_plan.specs.Serve.{Served, answeredOnly, serve, outputAfter, stagingBy}
+use Rattle.line_fields.specs.Fields.{fieldIn}
 use Rattle.line_request.specs.declared.Ask.{Ask}
 use Rattle.line_request.specs.declared.Ask.the-variants.{Malformed, Read, Write}
-use Rattle.line_request.specs.Ask.{fieldIn, askOf}
+use Rattle.line_request.specs.Ask.{askOf}
 use Rattle.line_serve.specs.declared.Outcome.{Outcome}
 
 -- several service codes stand joined

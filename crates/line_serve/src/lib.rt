@@ -1,45 +1,23 @@
 // Request lines, carried out on a card and answered.
 use answers::refusal::Refusal;
 use card_build::card::Card;
+use line_fields::put_field;
+use line_fields::read_codes;
 use line_request::Ask;
 use request_plan::Reply;
 use request_serve::reading;
 use request_serve::writing;
 use text_fields::Ends;
-use text_numbers::codes;
-use text_numbers::hex;
 ghost use mathlib.Core.Path.{_≡_};
-ghost use mathlib.Core.Bool.{true};
 ghost use Prim.Native.Nat.{_+_, _≤_};
-ghost use lib.ListN.{length, take};
-ghost use Rattle.byte_parts.specs.Part.{put};
+ghost use lib.ListN.{length};
 ghost use Rattle.text_fields.specs.Field.{endsOf};
-ghost use Rattle.text_numbers.specs.Hex.{hexField, unhex};
-ghost use Rattle.text_numbers.specs.Codes.{codesField};
 ghost use Rattle.request_plan.specs.Serve.{lengthRead};
 ghost use Rattle.line_request.specs.declared.Ask.the-variants.{Read, Write};
-ghost use Rattle.line_request.specs.Ask.{fieldIn, askOf};
+ghost use Rattle.line_request.specs.Ask.{askOf};
 ghost use Rattle.text_stream.specs.Stream.{Written};
-ghost use Rattle.line_serve.specs.Line.{codesIn, outcomeOf, lineServed, workAfter, bytesAfter};
+ghost use Rattle.line_serve.specs.Line.{outcomeOf, lineServed, workAfter, bytesAfter};
 ghost use Rattle.line_serve.specs.Text.{mostSpelled, mostPrinted, requestText};
-
-// Puts the codes of a line to the front of `codes`, as many as it holds, and answers how many.
-fn read_codes(line: &[u8], ends: Ends, codes: &mut [u16]) -> usize
-    requires { ⌜ (codesField (fieldIn (now line) 2) ≡ true) × (ends ≡ endsOf 9 (now line)) ⌝ }
-    ensures { λ r. ⌜ r ≤ length (now (codes .entry)) ⌝ }
-    ensures { λ r. ⌜ take r (now (codes .exit)) ≡ take (length (now (codes .entry))) (codesIn (now (line .entry))) ⌝ }
-{
-    codes::read_codes(text_fields::field_at(line, ends, 2, b'\t'), codes)
-}
-
-// Puts the bytes that field k of a line spells into `bytes` from `at` on, and answers the place after them.
-fn put_field(line: &[u8], ends: Ends, k: usize, bytes: &mut [u8], at: usize) -> usize
-    requires { ⌜ (hexField (fieldIn (now line) k) ≡ true) × (at + length (unhex (fieldIn (now line) k)) ≤ length (now bytes)) × (ends ≡ endsOf 9 (now line)) ⌝ }
-    ensures { λ r. ⌜ r ≡ at + length (unhex (fieldIn (now (line .entry)) k)) ⌝ }
-    ensures { λ _. ⌜ now (bytes .exit) ≡ put (now (bytes .entry)) at (length (unhex (fieldIn (now (line .entry)) k))) (unhex (fieldIn (now (line .entry)) k)) ⌝ }
-{
-    hex::put_bytes(text_fields::field_at(line, ends, k, b'\t'), bytes, at)
-}
 
 // Carries out a read that a line asks. Seventeen codes are as good as all: more than sixteen are refused.
 fn read_asked(
@@ -58,7 +36,7 @@ fn read_asked(
     ensures { λ _. ⌜ now (bytes .exit) ≡ bytesAfter (now (bytes .entry)) (now (line .entry)) ⌝ }
 {
     let mut codes = [0u16; 17];
-    let n = read_codes(line, ends, &mut codes);
+    let n = read_codes(line, ends, 2, &mut codes);
     let end = put_field(line, ends, 4, bytes, 0);
     reading::read(card, arena, work, open, &codes[0..n], count, &bytes[0..end])
 }
@@ -81,7 +59,7 @@ fn write_asked(
     ensures { λ _. ⌜ now (bytes .exit) ≡ bytesAfter (now (bytes .entry)) (now (line .entry)) ⌝ }
 {
     let mut codes = [0u16; 17];
-    let n = read_codes(line, ends, &mut codes);
+    let n = read_codes(line, ends, 2, &mut codes);
     let middle = put_field(line, ends, 4, bytes, 0);
     let last = put_field(line, ends, 5, bytes, middle);
     writing::write(

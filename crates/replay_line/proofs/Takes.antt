@@ -11,7 +11,7 @@ use Rattle.answers.specs.declared.refusal.Answer.the-variants as answers
 use Rattle.card_build.specs.declared.card.Added.{Added}
 use Rattle.text_stream.specs.Stream.{Written}
 use Rattle.text_stream.proofs.Prints.{written-none}
-use Rattle.line_image.specs.Image.{Imaged, imageStep}
+use Rattle.line_build.specs.Image.{Imaged, imageStep}
 use Rattle.line_serve.specs.Line.{lineServed, workAfter, bytesAfter}
 use Rattle.line_serve.specs.Text.{mostPrinted, requestText}
 use Rattle.board_line.specs.Line.{boardLineText}

@@ -6,7 +6,7 @@ use lib.ListN.{length, replicate}
 use Rattle.answers.specs.declared.refusal.Answer.{Answer}
 use Rattle.answers.specs.declared.refusal.Answer.the-variants as answers
 use Rattle.text_stream.specs.Stream.{Machine, saysOf}
-use Rattle.line_image.specs.Image.{Imaged, imageStep}
+use Rattle.line_build.specs.Image.{Imaged, imageStep}
 use Rattle.line_request.specs.Ask.{requestLine}
 use Rattle.line_serve.specs.Line.{lineServed, workAfter, bytesAfter}
 use Rattle.line_serve.specs.Text.{requestText}

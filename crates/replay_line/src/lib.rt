@@ -1,6 +1,5 @@
 // Replay, line by line: an image, then requests and their answers.
 use answers::refusal::Answer;
-use line_image::image;
 use replay_state::Phase;
 use replay_state::Replay;
 use replay_state::put_refusal;
@@ -8,7 +7,7 @@ ghost use mathlib.Core.Path.{_≡_};
 ghost use Prim.Native.Nat.{_+_, _≤_};
 ghost use lib.ListN.{length};
 ghost use Rattle.text_stream.specs.Stream.{Written};
-ghost use Rattle.line_image.specs.Image.{imageStep};
+ghost use Rattle.line_build.specs.Image.{imageStep};
 ghost use Rattle.line_serve.specs.Line.{workAfter, bytesAfter};
 ghost use Rattle.line_serve.specs.Text.{mostSpelled, mostPrinted, requestText};
 ghost use Rattle.board_line.specs.Line.{boardLineText};
@@ -51,7 +50,7 @@ fn image_line(
     ensures { λ r. ⌜ Written (now (out .entry)) at (imageText (oneMore (replay .lines)) (imageStep first (replay .card) (now (arena .entry)) (now (line .entry)) .added .answer)) (r .at) (now (out .exit)) × (r .at ≤ at + 48) ⌝ }
 {
     let lines = one_more(replay.lines);
-    let added = image::image_line(replay.card, first, arena, line);
+    let added = line_build::image_line(replay.card, first, arena, line);
     let card = added.card;
     let answer = added.answer;
     let asked = replay.asked;

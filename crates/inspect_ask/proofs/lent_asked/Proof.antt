@@ -6,7 +6,7 @@ use Prim.Native.Nat.{ℕ}
 use denote.Ref.{now}
 use borrow.Author.Needs.{needs}
 use Rattle.text_fields.specs.Field.{split}
-use Rattle.line_image.specs.Line.{form}
+use Rattle.line_fields.specs.Fields.{form}
 use Rattle.inspect_ask.specs.Question.{roomName, arenaName, lentAsked}
 use Rattle.inspect_ask.proofs.lent_asked.Statement.{statement}
 use Rattle.inspect_ask.proofs.lent_asked.Tie as tie

@@ -6,8 +6,8 @@ use Prim.Native.Nat.{ℕ}
 use denote.Ref.{now}
 use borrow.Author.Needs.{needs}
 use Rattle.text_fields.specs.Field.{split}
-use Rattle.line_image.specs.Line.{form}
-use Rattle.inspect_ask.specs.Question.{listName, infoName, readlistName, readinfoName, messageAsked}
+use Rattle.line_fields.specs.Fields.{form}
+use Rattle.inspect_ask.specs.Question.{listName, infoName, messageAsked}
 use Rattle.inspect_ask.proofs.message_asked.Statement.{statement}
 use Rattle.inspect_ask.proofs.message_asked.Tie as tie
 
@@ -21,12 +21,6 @@ is-list c e = sym (c .is-form .ensures) ∙ e
 
 is-info : (c : tie.After-is-form2) {b : Bool} → c .is-form2 .result ≡ b → form infoName 2 (parts (c .before .before .before)) ≡ b
 is-info c e = sym (c .is-form2 .ensures) ∙ e
-
-is-readlist : (c : tie.After-is-form3) {b : Bool} → c .is-form3 .result ≡ b → form readlistName 2 (parts (c .before .before .before .before .before .before)) ≡ b
-is-readlist c e = sym (c .is-form3 .ensures) ∙ e
-
-is-readinfo : (c : tie.After-is-form4) {b : Bool} → c .is-form4 .result ≡ b → form readinfoName 2 (parts (c .before .before .before .before .before .before .before .before .before)) ≡ b
-is-readinfo c e = sym (c .is-form4 .ensures) ∙ e
 
 returns : tie.Need-returns
 unfolding messageAsked
@@ -46,31 +40,10 @@ returns-2 c =
 returns-3 : tie.Need-returns-3
 unfolding messageAsked
 returns-3 c =
-    let t = c .before in
-    let e2 = t .before .before .before in
+    let e2 = c .before in
     let e1 = e2 .before .before .before in
-    rw (is-list (e1 .before) (e1 .if1 .left), is-info (e2 .before) (e2 .if2 .left), is-readlist (t .before) (t .if3 .taken))
-    (c .bytes-line .ensures)
-
-returns-4 : tie.Need-returns-4
-unfolding messageAsked
-returns-4 c =
-    let t = c .before in
-    let e3 = t .before .before .before in
-    let e2 = e3 .before .before .before in
-    let e1 = e2 .before .before .before in
-    rw (is-list (e1 .before) (e1 .if1 .left), is-info (e2 .before) (e2 .if2 .left), is-readlist (e3 .before) (e3 .if3 .left), is-readinfo (t .before) (t .if4 .taken))
-    (c .bytes-line2 .ensures)
-
-returns-5 : tie.Need-returns-5
-unfolding messageAsked
-returns-5 c =
-    let e4 = c .before in
-    let e3 = e4 .before .before .before in
-    let e2 = e3 .before .before .before in
-    let e1 = e2 .before .before .before in
-    rw (is-list (e1 .before) (e1 .if1 .left), is-info (e2 .before) (e2 .if2 .left), is-readlist (e3 .before) (e3 .if3 .left), is-readinfo (e4 .before) (e4 .if4 .left))
-    (c .card-asked .ensures)
+    rw (is-list (e1 .before) (e1 .if1 .left), is-info (e2 .before) (e2 .if2 .left))
+    (c .bytes-asked .ensures)
 
 pub message-asked-spec : {M : Type 1} → statement M
 message-asked-spec =
@@ -84,13 +57,5 @@ message-asked-spec =
     (λ c κs. search needs)
     (λ c κs. search needs)
     returns-2
-    (λ c. search needs)
     (λ c κs. search needs)
-    (λ c κs. search needs)
-    returns-3
-    (λ c. search needs)
-    (λ c κs. search needs)
-    (λ c κs. search needs)
-    returns-4
-    (λ c κs. search needs)
-    returns-5)
+    returns-3)

@@ -13,7 +13,7 @@ returns c = rw (lt-ltb 32768 (length (now (c .before .before .args .line))) (c .
 
 returns-2 : tie.Need-returns-2
 unfolding questionOf
-returns-2 c = rw (le-ltb 32768 (length (now (c .before .before .before .args .line))) (c .before .if1 .left)) (c .message-asked .ensures)
+returns-2 c = rw (le-ltb 32768 (length (now (c .before .before .before .before .args .line))) (c .before .before .if1 .left)) (c .message-asked .ensures)
 
 pub question-of-spec : {M : Type 1} → statement M
-question-of-spec = tie.close (tie.spec returns (λ c κs. search needs) returns-2)
+question-of-spec = tie.close (tie.spec returns (λ c κs. search needs) (λ c κs. c .find-ends .ensures) returns-2)

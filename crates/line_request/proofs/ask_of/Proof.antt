@@ -17,15 +17,19 @@ short c = le-ltb _ _ (c .if1 .left)
 
 -- its count is a number
 count : (c : tie.After-count) → countIn (now (c .before .before .before .before .before .args .line)) ≡ Is (c .count .given .0 .0)
-count c = sym (c .before .before .count-in .ensures) ∙ c .count .given .1
+count c = sym (c .before .before .number-at .ensures) ∙ c .count .given .1
 
 -- it is no read
 no-read : (c : tie.Else2) → shaped 82 5 (now (c .before .before .before .before .before .before .before .before .before .args .line)) ≡ false
 no-read c = sym (c .before .is-shaped .ensures) ∙ c .if2 .left
 
+returns : tie.Need-returns
+unfolding askOf
+returns c = rw (lt-ltb 32768 (length (now (c .before .before .args .line))) (c .if1 .taken))
+
 returns-2 : tie.Need-returns-2
 unfolding askOf
-returns-2 c = let n = c .before .before in rw (short (n .before), sym (n .count-in .ensures) ∙ c .enum-told .given .1)
+returns-2 c = let n = c .before .before in rw (short (n .before), sym (n .number-at .ensures) ∙ c .enum-told .given .1)
 
 returns-3 : tie.Need-returns-3
 unfolding askOf
@@ -51,11 +55,10 @@ returns-5 c =
     rw (short (k .before .before .before), count k, no-read (w .before), sym (w .is-write .ensures) ∙ c .if3 .left)
 
 pub ask-of-spec : {M : Type 1} → statement M
-unfolding askOf
 ask-of-spec =
     tie.close
     (tie.spec
-    (λ c. search (lt-ltb _ _ (c .if1 .taken)))
+    returns
     (λ c κs. search needs)
     (λ c. search needs)
     (λ c. search needs)

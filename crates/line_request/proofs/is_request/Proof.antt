@@ -4,6 +4,9 @@ use Rattle.line_request.specs.Ask.{requestLine}
 use Rattle.line_request.proofs.is_request.Statement.{statement}
 use Rattle.line_request.proofs.is_request.Tie as tie
 
-pub is-request-spec : {M : Type 1} → statement M
+returns : tie.Need-returns
 unfolding requestLine
-is-request-spec = tie.close (tie.spec (λ c κs. search needs) (λ c. c .is-either .ensures))
+returns c = c .is-either .ensures
+
+pub is-request-spec : {M : Type 1} → statement M
+is-request-spec = tie.close (tie.spec (λ c κs. search needs) returns)

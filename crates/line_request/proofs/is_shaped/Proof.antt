@@ -7,7 +7,8 @@ use lib.Dec.{eqb}
 use lib.ListN.{length}
 use denote.Ref.{now}
 use Rattle.text_fields.specs.Field.{split}
-use Rattle.line_request.specs.Ask.{fieldIn, isLetter, isEither, shaped}
+use Rattle.line_fields.specs.Fields.{fieldIn}
+use Rattle.line_request.specs.Ask.{isLetter, isEither, shaped}
 use Rattle.text_numbers.specs.Codes.{codesField}
 use Rattle.line_request.proofs.is_shaped.Statement.{statement}
 use Rattle.line_request.proofs.is_shaped.Tie as tie

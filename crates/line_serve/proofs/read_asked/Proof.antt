@@ -5,8 +5,9 @@ use native.Mathlib.Omega.{arith}
 use lib.ListN.{length}
 use denote.Ref.{now}
 use Rattle.line_request.proofs.Asking.{Fields, read-fields}
-use Rattle.line_serve.specs.Line.{listIn}
+use Rattle.line_serve.specs.Line.{codesIn, listIn}
 use Rattle.line_serve.proofs.Lines.{list-room, read-line}
+use Rattle.line_serve.proofs.Parts.{as-many}
 use Rattle.line_serve.proofs.read_asked.Statement.{statement}
 use Rattle.line_serve.proofs.read_asked.Tie as tie
 
@@ -37,7 +38,7 @@ returns c =
     let k = p .before .before .before in
     let s = start-of k in
     let a = s .args in
-    read-line (a .card) (now (a .arena)) (now (a .work)) (now (a .line)) (k .read-codes .result) (k .read-codes .last .1 .1 .0) (k .read-codes .ensures .1) (s .pre .0) (now (a .bytes)) (room s)
+    read-line (a .card) (now (a .arena)) (now (a .work)) (now (a .line)) (k .read-codes .result) (k .read-codes .last .1 .1 .1 .0) (as-many _ (codesIn (now (a .line))) (k .read-codes .ensures .0 .0) (k .read-codes .ensures .1) .1) (s .pre .0) (now (a .bytes)) (room s)
     (p .put-field .ensures .0) (p .put-field .ensures .1) (r .read .ensures .0) (r .read .ensures .1)
 
 pub read-asked-spec : {M : Type 1} → statement M

@@ -7,10 +7,11 @@ use mathlib.Core.Bool.{true}
 use lib.ListN.{length}
 use denote.Ref.{now}
 use Rattle.text_numbers.specs.Hex.{hexField}
-use Rattle.line_request.specs.Ask.{fieldIn}
+use Rattle.line_fields.specs.Fields.{fieldIn}
 use Rattle.line_request.proofs.Asking.{Fields, write-fields}
-use Rattle.line_serve.specs.Line.{listIn, dataIn}
+use Rattle.line_serve.specs.Line.{codesIn, listIn, dataIn}
 use Rattle.line_serve.proofs.Lines.{list-room, data-room, write-line}
+use Rattle.line_serve.proofs.Parts.{as-many}
 use Rattle.line_serve.proofs.write_asked.Statement.{statement}
 use Rattle.line_serve.proofs.write_asked.Tie as tie
 
@@ -58,7 +59,7 @@ returns c =
     let s = start-of p in
     let a = s .args in
     let o = r .write .ensures in
-    write-line (a .card) (now (a .arena)) (now (a .work)) (now (a .line)) (k .read-codes .result) (k .read-codes .last .1 .1 .0) (k .read-codes .ensures .1) (s .pre .0) (now (a .bytes)) (room s)
+    write-line (a .card) (now (a .arena)) (now (a .work)) (now (a .line)) (k .read-codes .result) (k .read-codes .last .1 .1 .1 .0) (as-many _ (codesIn (now (a .line))) (k .read-codes .ensures .0 .0) (k .read-codes .ensures .1) .1) (s .pre .0) (now (a .bytes)) (room s)
     (p .put-field .ensures .0) (q .put-field2 .ensures .0) (p .put-field .ensures .1) (q .put-field2 .ensures .1) (o .0) (o .1 .0) (o .1 .1)
 
 pub write-asked-spec : {M : Type 1} → statement M

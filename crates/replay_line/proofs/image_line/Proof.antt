@@ -1,7 +1,7 @@
 -- `replay_line::image_line` meets its contract: the line is accepted, or refused. Assumes nothing.
 use borrow.Author.Needs.{needs}
 use denote.Ref.{now}
-use Rattle.line_image.specs.Image.{imageStep}
+use Rattle.line_build.specs.Image.{imageStep}
 use Rattle.replay_line.proofs.Takes.{image-done, image-refused}
 use Rattle.replay_line.proofs.image_line.Statement.{statement}
 use Rattle.replay_line.proofs.image_line.Tie as tie

@@ -2,29 +2,27 @@
 use borrow.Author.Needs.{needs}
 use native.Mathlib.Omega.{arith}
 use denote.Ref.{now}
-use Rattle.text_fields.proofs.FieldLaws.{field-long}
-use Rattle.inspect_fields.proofs.Lines.{bytes-put}
+use Rattle.inspect_fields.proofs.Lines.{bytes-room}
 use Rattle.inspect_fields.proofs.line.read_bytes.Statement.{statement}
 use Rattle.inspect_fields.proofs.line.read_bytes.Tie as tie
 
-put-bytes-requires : tie.Need-put-bytes-requires
-put-bytes-requires c κs =
+put-field-requires : tie.Need-put-field-requires
+put-field-requires c κs =
     let s = c .before .before .before .before in
-    rw (c .before .field .ensures) (s .pre .0, omega (arith, field-long 9 (now (s .args .line)) 1, s .pre .1, s .pre .2))
+    (s .pre .0, omega (arith, bytes-room (now (s .args .line)) (s .pre .1), s .pre .2), c .before .find-ends .ensures)
 
 returns : tie.Need-returns
 returns c =
     let p = c .before .before in
-    let f = p .before .before in
-    let s = f .before .before .before in
-    let e = f .field .ensures in
-    bytes-put (now (s .args .line)) (s .pre .1) (now (s .args .bytes)) (s .pre .2) (rw e at (p .put-bytes .ensures .0)) (rw e at (p .put-bytes .ensures .1))
+    let s = p .before .before .before .before .before in
+    let e = p .put-field .ensures in
+    ((omega (arith, e .0), omega (arith, e .0, bytes-room (now (s .args .line)) (s .pre .1))), e .1)
 
 pub read-bytes-spec : {M : Type 1} → statement M
 read-bytes-spec =
     tie.close
     (tie.spec
     (λ c κs. search needs)
-    put-bytes-requires
+    put-field-requires
     (λ c. search needs)
     returns)

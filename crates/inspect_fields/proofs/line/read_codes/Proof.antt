@@ -7,15 +7,13 @@ use Rattle.inspect_fields.proofs.line.read_codes.Statement.{statement}
 use Rattle.inspect_fields.proofs.line.read_codes.Tie as tie
 
 read-codes-requires : tie.Need-read-codes-requires
-read-codes-requires c κs = rw (c .before .field .ensures) (c .before .before .before .before .pre .0)
+read-codes-requires c κs = (c .before .before .before .before .pre .0, c .before .find-ends .ensures)
 
 returns : tie.Need-returns
 returns c =
     let p = c .before .before in
-    let f = p .before .before in
-    let s = f .before .before .before in
-    let e = f .field .ensures in
-    codes-put (now (s .args .line)) (s .pre .1) (now (s .args .codes)) (s .pre .2) (rw e at (p .read-codes .ensures .0)) (rw e at (p .read-codes .ensures .1))
+    let s = p .before .before .before .before .before in
+    codes-put (now (s .args .line)) (s .pre .1) (now (s .args .codes)) (s .pre .2) (p .read-codes .ensures .0 .0) (p .read-codes .ensures .1)
 
 pub read-codes-spec : {M : Type 1} → statement M
 read-codes-spec =

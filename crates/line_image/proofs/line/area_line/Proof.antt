@@ -7,7 +7,8 @@ use borrow.Author.Needs.{needs}
 use Rattle.text_fields.specs.Field.{split}
 use Rattle.text_numbers.specs.declared.codes.Code.{Code}
 use Rattle.line_image.specs.declared.line.Heading.{Heading}
-use Rattle.line_image.specs.Line.{codeAt, headingOf, areaLine}
+use Rattle.line_fields.specs.Fields.{codeAt}
+use Rattle.line_image.specs.Line.{headingOf, areaLine}
 use Rattle.line_image.proofs.line.area_line.Statement.{statement}
 use Rattle.line_image.proofs.line.area_line.Tie as tie
 

@@ -10,7 +10,8 @@ use borrow.Author.Tests.{not-true, not-false}
 use Rattle.text_fields.specs.Field.{split}
 use Rattle.text_numbers.specs.declared.codes.Code.{Code}
 use Rattle.text_numbers.specs.declared.decimals.Number.{Number}
-use Rattle.line_image.specs.Line.{codeAt, numberAt, hex32, blockLine}
+use Rattle.line_fields.specs.Fields.{codeAt, numberAt}
+use Rattle.line_image.specs.Line.{hex32, blockLine}
 use Rattle.line_image.proofs.line.block_line.Statement.{statement}
 use Rattle.line_image.proofs.line.block_line.Tie as tie
 
@@ -26,7 +27,7 @@ number : (c : tie.After-number-at) {r : Number} → c .number-at .result ≡ r �
 number c e = sym (c .number-at .ensures) ∙ e
 
 digits : (c : tie.After-is-hex32) {r : Bool} → c .is-hex32 .result ≡ r → hex32 (getD (parts (c .before .before .before .before .before .before .before .before .before)) 3 []) ≡ r
-digits c e = ap hex32 (sym (c .before .field .ensures)) ∙ sym (c .is-hex32 .ensures) ∙ e
+digits c e = ap hex32 (sym (c .before .field-at .ensures)) ∙ sym (c .is-hex32 .ensures) ∙ e
 
 returns : tie.Need-returns
 unfolding blockLine

@@ -6,7 +6,8 @@ use denote.Ref.{now}
 use borrow.Author.Needs.{needs}
 use Rattle.text_fields.specs.Field.{split}
 use Rattle.text_numbers.specs.declared.codes.Code.{Code}
-use Rattle.line_image.specs.Line.{codeAt, cardLine}
+use Rattle.line_fields.specs.Fields.{codeAt}
+use Rattle.line_image.specs.Line.{cardLine}
 use Rattle.line_image.proofs.line.card_line.Statement.{statement}
 use Rattle.line_image.proofs.line.card_line.Tie as tie
 

@@ -4,7 +4,8 @@ use mathlib.Core.Bool.{Bool}
 use denote.Ref.{now}
 use borrow.Author.Needs.{needs}
 use Rattle.text_fields.specs.Field.{split}
-use Rattle.line_image.specs.Line.{cardWord, form, joins, firstLine}
+use Rattle.line_fields.specs.Fields.{form}
+use Rattle.line_image.specs.Line.{cardWord, joins, firstLine}
 use Rattle.line_image.proofs.line.first_line.Statement.{statement}
 use Rattle.line_image.proofs.line.first_line.Tie as tie
 

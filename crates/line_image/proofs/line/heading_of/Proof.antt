@@ -7,7 +7,8 @@ use borrow.Author.Needs.{needs}
 use Rattle.text_fields.specs.Field.{split}
 use Rattle.text_numbers.specs.declared.codes.Code.{Code}
 use Rattle.text_numbers.specs.declared.decimals.Number.{Number}
-use Rattle.line_image.specs.Line.{codeAt, numberAt, headingOf}
+use Rattle.line_fields.specs.Fields.{codeAt, numberAt}
+use Rattle.line_image.specs.Line.{headingOf}
 use Rattle.line_image.proofs.line.heading_of.Statement.{statement}
 use Rattle.line_image.proofs.line.heading_of.Tie as tie
 

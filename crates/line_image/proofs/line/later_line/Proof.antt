@@ -6,7 +6,8 @@ use Prim.Native.Nat.{ℕ}
 use denote.Ref.{now}
 use borrow.Author.Needs.{needs}
 use Rattle.text_fields.specs.Field.{split}
-use Rattle.line_image.specs.Line.{areaWord, svcWord, limWord, blkWord, form, laterLine}
+use Rattle.line_fields.specs.Fields.{form}
+use Rattle.line_image.specs.Line.{areaWord, svcWord, limWord, blkWord, laterLine}
 use Rattle.line_image.proofs.line.later_line.Statement.{statement}
 use Rattle.line_image.proofs.line.later_line.Tie as tie
 

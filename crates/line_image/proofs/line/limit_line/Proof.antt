@@ -11,7 +11,8 @@ use Rattle.text_fields.specs.Field.{split}
 use Rattle.text_numbers.specs.declared.decimals.Number.{Number}
 use Rattle.text_numbers.specs.declared.decimals.Signed.{Signed}
 use Rattle.text_numbers.proofs.DecimalLaws.{decimal-most}
-use Rattle.line_image.specs.Line.{numberAt, boundAt, limitLine}
+use Rattle.line_fields.specs.Fields.{numberAt, boundAt}
+use Rattle.line_image.specs.Line.{limitLine}
 use Rattle.line_image.proofs.line.limit_line.Statement.{statement}
 use Rattle.line_image.proofs.line.limit_line.Tie as tie
 
@@ -50,9 +51,6 @@ returns-3 c =
     let first = second .before .before .before .before in
     rw (upper first (second .before .before .upper .given .1), lower second (third .before .before .lower .given .1), generation third (c .enum-told3 .given .1))
 
-cast-t8 : tie.Need-cast-t8
-cast-t8 c = omega (arith, decimal-most 255 _ _ (generation (c .before .before .before) (c .before .generation .given .1)))
-
 returns-4 : tie.Need-returns-4
 unfolding limitLine
 returns-4 c =
@@ -85,5 +83,5 @@ limit-line-spec =
     (λ c. search needs)
     (λ c. search needs)
     returns-3
-    cast-t8
+    (λ c. omega (arith, decimal-most 255 _ _ (generation (c .before .before .before) (c .before .generation .given .1))))
     returns-4)

@@ -15,10 +15,10 @@ short : (c : tie.Else1) → ltb 32768 (length (now (c .before .before .args .lin
 short c = le-ltb 32768 (length (now (c .before .before .args .line))) (c .if1 .left)
 
 -- it is line 1, or a later one
-first : (c : tie.Then2) → c .before .before .before .args .first ≡ true
+first : (c : tie.Then2) → c .before .before .before .before .args .first ≡ true
 first c = c .if2 .taken
 
-later : (c : tie.Else2) → c .before .before .before .args .first ≡ false
+later : (c : tie.Else2) → c .before .before .before .before .args .first ≡ false
 later c = c .if2 .left
 
 returns : tie.Need-returns
@@ -27,11 +27,19 @@ returns c = rw (lt-ltb 32768 (length (now (c .before .before .args .line))) (c .
 
 returns-2 : tie.Need-returns-2
 unfolding imageLine
-returns-2 c = rw (short (c .before .before), first (c .before)) (c .first-line .ensures)
+returns-2 c = rw (short (c .before .before .before), first (c .before)) (c .first-line .ensures)
 
 returns-3 : tie.Need-returns-3
 unfolding imageLine
-returns-3 c = rw (short (c .before .before), later (c .before)) (c .later-line .ensures)
+returns-3 c = rw (short (c .before .before .before), later (c .before)) (c .later-line .ensures)
 
 pub read-line-spec : {M : Type 1} → statement M
-read-line-spec = tie.close (tie.spec returns (λ c κs. search needs) returns-2 (λ c κs. search needs) returns-3)
+read-line-spec =
+    tie.close
+    (tie.spec
+    returns
+    (λ c κs. search needs)
+    (λ c κs. c .before .find-ends .ensures)
+    returns-2
+    (λ c κs. c .before .find-ends .ensures)
+    returns-3)

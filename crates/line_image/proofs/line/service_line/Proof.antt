@@ -7,7 +7,8 @@ use borrow.Author.Needs.{needs}
 use Rattle.text_fields.specs.Field.{split}
 use Rattle.text_numbers.specs.declared.decimals.Number.{Number}
 use Rattle.line_image.specs.declared.line.Heading.{Heading}
-use Rattle.line_image.specs.Line.{numberAt, headingOf, serviceLine}
+use Rattle.line_fields.specs.Fields.{numberAt}
+use Rattle.line_image.specs.Line.{headingOf, serviceLine}
 use Rattle.line_image.proofs.line.service_line.Statement.{statement}
 use Rattle.line_image.proofs.line.service_line.Tie as tie
 
