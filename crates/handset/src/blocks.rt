@@ -9,8 +9,8 @@ ghost use mathlib.Core.Path.{_≡_};
 ghost use lib.ListN.{length};
 ghost use Rattle.request_block.specs.Block.{blockJudged};
 ghost use Rattle.handset_bytes.specs.Card.{decodedOf};
-ghost use Rattle.handset.specs.Outcome.{answerAs};
-ghost use Rattle.handset.specs.Block.{unfitAfter, setAnswer, setAfter, placeAfter};
+ghost use Rattle.handset_words.specs.Outcome.{answerAs};
+ghost use Rattle.handset_words.specs.Block.{unfitAfter, setAnswer, setAfter, placeAfter};
 
 // The number that setting a block of another length than sixteen returns: 30, after the refusals in `answer` that the call
 // gives for a block of sixteen.

@@ -10,7 +10,7 @@ ghost use Prim.Native.Nat.{_≤_};
 ghost use lib.ListN.{length};
 ghost use Rattle.board_read.specs.Refresh.{boardServed, refreshed};
 ghost use Rattle.handset_bytes.specs.Card.{decodedOf};
-ghost use Rattle.handset.specs.Board.{refreshedAs, boardRoom, boardMade, recordsBy, recordsAfter};
+ghost use Rattle.handset_words.specs.Board.{refreshedAs, boardRoom, boardMade, recordsBy, recordsAfter};
 
 // How many of 128 bytes the read is lent, where `len` bytes are there for the records.
 fn room(len: usize) -> usize

@@ -17,8 +17,19 @@ ghost use Rattle.card_build.specs.Card.{systemOf, newCard};
 ghost use Rattle.card_build.specs.Build.{areaAdded, serviceAdded, arenaAdded, limitAdded};
 ghost use Rattle.handset_bytes.specs.Layout.{cardSize};
 ghost use Rattle.handset_bytes.specs.Card.{cardPut, decodedOf};
-ghost use Rattle.handset.specs.Outcome.{refusedAs, answerAs};
-ghost use Rattle.handset.specs.Kept.{cardAfter};
+ghost use Rattle.handset_words.specs.Outcome.{refusedAs, answerAs};
+ghost use Rattle.handset_words.specs.Kept.{cardAfter};
+
+// A card of a new system, with nothing but its root.
+fn begun(system: u16, version: u16, join: bool) -> Card
+    ensures { λ r. ⌜ r ≡ newCard (systemOf system version join) ⌝ }
+{
+    Card::new(System {
+        code: system,
+        version,
+        join,
+    })
+}
 
 // Writes a card with nothing but its root to `card`, whose services may join a store of another count if it joins. Bytes of another length than a card's are refusal 8.
 #[no_mangle]
@@ -29,12 +40,7 @@ pub extern "C" fn uluvoli_new(card: &mut [u8], system: u16, version: u16, join: 
     if card.len() != layout::SIZE {
         return outcome::refused(Refusal::NotBuilt);
     }
-    let own = System {
-        code: system,
-        version,
-        join,
-    };
-    encoding::encode(Card::new(own), card);
+    encoding::encode(begun(system, version, join), card);
     0
 }
 

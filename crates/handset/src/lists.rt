@@ -6,7 +6,7 @@ use handset_bytes::decoding;
 ghost use mathlib.Core.Path.{_≡_};
 ghost use Rattle.card_questions.specs.Keys.{areaListAnswer, serviceListAnswer};
 ghost use Rattle.handset_bytes.specs.Card.{decodedOf};
-ghost use Rattle.handset.specs.Checked.{checkedAs, checkedAfter};
+ghost use Rattle.handset_words.specs.Checked.{checkedAs, checkedAfter};
 
 // Writes to `out` whether a list is well formed, unless the check was refused, and gives what the call returns.
 fn checked(answer: Checked, out: &mut bool) -> u32

@@ -9,7 +9,7 @@ ghost use lib.ListN.{length};
 ghost use Rattle.card_lists.specs.Packet.{codeListPut, codeListOut};
 ghost use Rattle.card_lists.specs.Information.{blocksPut, blocksOut};
 ghost use Rattle.handset_bytes.specs.Card.{decodedOf};
-ghost use Rattle.handset.specs.Message.{putAs, putAfter};
+ghost use Rattle.handset_words.specs.Message.{putAs, putAfter};
 
 // Writes to `out` how many bytes a message has, unless it was refused, and gives what the call returns.
 fn sized(answer: Put, out: &mut usize) -> u32

@@ -2,7 +2,7 @@
 use answers::refusal::Answer;
 use answers::refusal::Refusal;
 ghost use mathlib.Core.Path.{_≡_};
-ghost use Rattle.handset.specs.Outcome.{refusalAs, refusedAs, answerAs};
+ghost use Rattle.handset_words.specs.Outcome.{refusalAs, refusedAs, answerAs};
 
 // The number that a call returns for the refusal with this number.
 pub(crate) fn numbered(number: u8) -> u32

@@ -12,7 +12,7 @@ ghost use Rattle.card_questions.specs.Directory.{directoryAnswer, directoryOut}
 ghost use Rattle.card_questions.specs.Total.{totalAnswer};
 ghost use Rattle.card_questions.specs.Keys.{versionAnswer};
 ghost use Rattle.handset_bytes.specs.Card.{decodedOf};
-ghost use Rattle.handset.specs.Told.{toldAs, toldAfter, listedAs, listedAfter};
+ghost use Rattle.handset_words.specs.Told.{toldAs, toldAfter, listedAs, listedAfter};
 
 // Writes to `out` how many nodes a directory lists, unless it was refused, and gives what the call returns.
 fn listed(answer: Listing, out: &mut usize) -> u32

@@ -12,8 +12,8 @@ ghost use lib.ListN.{length};
 ghost use Rattle.byte_parts.specs.Part.{put};
 ghost use Rattle.node_messages.specs.CodeList.{readCodeList};
 ghost use Rattle.node_messages.specs.Information.{readInformation};
-ghost use Rattle.handset.specs.Outcome.{answerAs};
-ghost use Rattle.handset.specs.Message.{toldBy, numbersTold, roomed, listRead, informationRead};
+ghost use Rattle.handset_words.specs.Outcome.{answerAs};
+ghost use Rattle.handset_words.specs.Message.{toldBy, numbersTold, roomed, listRead, informationRead};
 
 // Whether two lists find room in the parts that are there for them.
 fn both_fit(first: usize, room: usize, second: usize, rest: usize) -> bool
@@ -38,26 +38,6 @@ fn judged(answer: Answer, first: usize, room: usize, second: usize, rest: usize)
             }
             Answer::Refused(Refusal::ShortOutput)
         }
-    }
-}
-
-// A number where a call is done, and the old one after a refusal.
-fn number_by(answer: Answer, old: usize, new: usize) -> usize
-    ensures { λ r. ⌜ r ≡ toldBy {A = ℕ} answer old new ⌝ }
-{
-    match answer {
-        Answer::Done => new,
-        Answer::Refused(_) => old,
-    }
-}
-
-// A flag where a call is done, and the old one after a refusal.
-fn flag_by(answer: Answer, old: bool, new: bool) -> bool
-    ensures { λ r. ⌜ r ≡ toldBy {A = Bool} answer old new ⌝ }
-{
-    match answer {
-        Answer::Done => new,
-        Answer::Refused(_) => old,
     }
 }
 
@@ -101,14 +81,19 @@ pub extern "C" fn uluvoli_read_code_list(
         list.services,
         services.len(),
     );
-    let ranges = list.ranges;
-    fill(&ranges[0..32], number_by(answer, 0, 2 * list.areas), areas);
-    let codes = list.codes;
-    fill(&codes[0..16], number_by(answer, 0, list.services), services);
-    *area_count = number_by(answer, *area_count, list.areas);
-    *service_count = number_by(answer, *service_count, list.services);
-    *more = flag_by(answer, *more, list.more);
-    outcome::answered(answer)
+    match answer {
+        Answer::Refused(refusal) => outcome::refused(refusal),
+        Answer::Done => {
+            let ranges = list.ranges;
+            fill(&ranges[0..32], 2 * list.areas, areas);
+            let codes = list.codes;
+            fill(&codes[0..16], list.services, services);
+            *area_count = list.areas;
+            *service_count = list.services;
+            *more = list.more;
+            0
+        }
+    }
 }
 
 // Reads block information. The assigned counts go to the front of `assigned`, the free ones to the front of `free`, and `nodes` tells how
@@ -129,11 +114,15 @@ pub extern "C" fn uluvoli_read_block_information(
     let told = read.told;
     let said = read.answer;
     let answer = judged(said, told.count, assigned.len(), told.count, free.len());
-    let many = number_by(answer, 0, told.count);
-    let counts = told.assigned;
-    fill(&counts[0..32], many, assigned);
-    let unused = told.free;
-    fill(&unused[0..32], many, free);
-    *nodes = number_by(answer, *nodes, told.count);
-    outcome::answered(answer)
+    match answer {
+        Answer::Refused(refusal) => outcome::refused(refusal),
+        Answer::Done => {
+            let counts = told.assigned;
+            fill(&counts[0..32], told.count, assigned);
+            let unused = told.free;
+            fill(&unused[0..32], told.count, free);
+            *nodes = told.count;
+            0
+        }
+    }
 }

@@ -11,17 +11,23 @@ ghost use lib.ListN.{length};
 ghost use Rattle.request_plan.specs.Request.{readRequest, writeRequest};
 ghost use Rattle.request_plan.specs.Serve.{serve, outputAfter, stagingBy};
 ghost use Rattle.handset_bytes.specs.Card.{decodedOf};
-ghost use Rattle.handset.specs.Reply.{replyAs};
+ghost use Rattle.request_plan.specs.declared.Response.the-variants.{Pair};
+ghost use Rattle.handset_words.specs.Reply.{responseAs, replyAs};
 
-// The number that a request returns: its status pair, with the cause of an A5 above it, or its refusal.
+// The number that a status pair returns, with the cause of an A5 above it.
+fn paired(cause: u8, flag1: u8, flag2: u8) -> u32
+    ensures { λ r. ⌜ r ≡ responseAs cause (Pair flag1 flag2) ⌝ }
+{
+    16777216 * (cause as u32) + 256 * (flag1 as u32) + flag2 as u32
+}
+
+// The number that a request returns: its status pair, or its refusal.
 pub(crate) fn replied(reply: Reply) -> u32
     ensures { λ r. ⌜ r ≡ replyAs reply ⌝ }
 {
     let cause = reply.cause();
     match reply.response() {
-        Response::Pair { flag1, flag2 } => {
-            16777216 * (cause as u32) + 256 * (flag1 as u32) + flag2 as u32
-        }
+        Response::Pair { flag1, flag2 } => paired(cause, flag1, flag2),
         Response::Refusal(number) => outcome::numbered(number),
     }
 }

@@ -22,9 +22,9 @@ use Rattle.board_lanes.specs.Board.{blockAt, boardNumber, Lane, empty, filled, 
 use Rattle.board_lanes.specs.Records.{laneRecord, lanesRecords}
 use Rattle.board_read.specs.Refresh.{eightBlocks, boardServed, refreshedBy, refreshedAfter, refreshed, blocksAfter}
 use Rattle.board_read.proofs.Refreshing.{by-blocks, read-room, board-bytes}
-use Rattle.handset.specs.Reply.{replyAs}
-use Rattle.handset.specs.Board.{refreshedAs, boardRoom, boardMade, recordsAfter}
-use Rattle.handset.proofs.Left.{board-left}
+use Rattle.handset_words.specs.Reply.{replyAs}
+use Rattle.handset_words.specs.Board.{refreshedAs, boardRoom, boardMade, recordsAfter}
+use Rattle.handset_words.proofs.Left.{board-left}
 use Rattle.law_terminals.specs.Two.{Answer, answerOf, outputOf, arenaAfter}
 use Rattle.law_terminals.specs.Runs.{Exchange, Call, reads, writes, requestOf, Left, leftBy}
 use Rattle.law_terminals.proofs.Runs.{tower-runs}

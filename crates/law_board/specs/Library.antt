@@ -8,8 +8,8 @@ use Rattle.byte_parts.specs.Part.{part, put}
 use Rattle.card_build.specs.declared.card.Card.{Card}
 use Rattle.board_lanes.specs.Board.{laneOf, lanes, lanesOf, boardOf}
 use Rattle.board_lanes.specs.Records.{laneRecord, lanesRecords}
-use Rattle.handset.specs.Reply.{replyAs}
-use Rattle.handset.specs.Board.{refreshedAs, boardMade, recordsAfter}
+use Rattle.handset_words.specs.Reply.{replyAs}
+use Rattle.handset_words.specs.Board.{refreshedAs, boardMade, recordsAfter}
 use Rattle.law_terminals.specs.Two.{All}
 use Rattle.law_terminals.specs.Last.{NamesBlock, LastBrings}
 use Rattle.law_terminals.specs.Runs.{Exchange, Call, requestOf, Left, leftBy, Ran}

@@ -18,7 +18,7 @@ use Rattle.handset_bytes.specs.Card.{cardPut, isCard, decodedOf}
 use Rattle.handset_bytes.specs.Fits.{LimitFits, SystemFits, Fits, Bytes}
 use Rattle.law_bytes.proofs.Round.{valid-long, read-back, unsound}
 use Rattle.law_bytes.proofs.Fitting.{decoded-fits, new-fits, area-fits, service-fits, limit-fits}
-use Rattle.handset.specs.Kept.{cardAfter}
+use Rattle.handset_words.specs.Kept.{cardAfter}
 
 -- bytes of a card's length, written anew
 put-back : (s : List ℕ) (c : Card) → length s ≡ cardSize → Fits c → decodedOf (cardPut c s) ≡ c

@@ -24,7 +24,7 @@ use Rattle.request_plan.specs.declared.Reply.the-variants.{Refused, Done, Short
 use Rattle.request_plan.proofs.Accepted.{read-leaves}
 use Rattle.handset_bytes.specs.Layout.{headSize, recordSize}
 use Rattle.handset_bytes.specs.Card.{nodesIn, cardIn, noCard, isCard, decodedOf}
-use Rattle.handset.specs.Reply.{replyAs}
+use Rattle.handset_words.specs.Reply.{replyAs}
 use Rattle.law_terminals.specs.Two.{Answer}
 use Rattle.law_terminals.specs.Runs.{Call, reads, writes, requestOf, Left, leftBy, Leaves, TwoRuns, TowerRuns}
 use Rattle.law_terminals.proofs.Runs.{two-runs, tower-runs}

@@ -15,7 +15,7 @@ use Rattle.request_plan.specs.Request.{Request}
 use Rattle.request_plan.specs.Plan.{Plan, stop, go, planOf, rowsIn}
 use Rattle.request_plan.specs.Serve.{committed, carried, planServed, serve}
 use Rattle.handset_bytes.specs.Card.{decodedOf}
-use Rattle.handset.specs.Reply.{replyAs}
+use Rattle.handset_words.specs.Reply.{replyAs}
 use Rattle.line_request.specs.declared.Ask.{Ask}
 use Rattle.line_request.specs.declared.Ask.the-variants.{Malformed, Read, Write}
 use Rattle.line_request.specs.Ask.{askOf}

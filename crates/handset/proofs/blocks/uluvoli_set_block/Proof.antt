@@ -2,7 +2,7 @@
 use mathlib.Core.Path.{refl}
 use borrow.Author.Tests.{eq-eqb, ne-eqb}
 use borrow.Author.Needs.{needs}
-use Rattle.handset.specs.Block.{setAnswer, setAfter}
+use Rattle.handset_words.specs.Block.{setAnswer, setAfter}
 use Rattle.handset.proofs.blocks.uluvoli_set_block.Statement.{statement}
 use Rattle.handset.proofs.blocks.uluvoli_set_block.Tie as tie
 

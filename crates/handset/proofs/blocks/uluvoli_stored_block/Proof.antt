@@ -1,7 +1,7 @@
 -- The place of a block that is there.
 use mathlib.Core.Path.{refl, sym, _∙_}
 use borrow.Author.Needs.{needs}
-use Rattle.handset.specs.Block.{placeAfter}
+use Rattle.handset_words.specs.Block.{placeAfter}
 use Rattle.handset.proofs.blocks.uluvoli_stored_block.Statement.{statement}
 use Rattle.handset.proofs.blocks.uluvoli_stored_block.Tie as tie
 

@@ -12,7 +12,7 @@ use Rattle.board_lanes.specs.Records.{lanesRecords}
 use Rattle.board_read.specs.declared.Refreshed.the-variants.{Board}
 use Rattle.board_read.specs.Refresh.{refreshed}
 use Rattle.board_read.proofs.Refreshing.{read-room, blocks-front, board-done}
-use Rattle.handset.specs.Outcome.{refusalAs}
+use Rattle.handset_words.specs.Outcome.{refusalAs}
 use Rattle.handset.proofs.board.filled.Statement.{statement}
 use Rattle.handset.proofs.board.filled.Tie as tie
 

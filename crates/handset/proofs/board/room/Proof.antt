@@ -1,7 +1,7 @@
 -- No more than 128, and no more than there are.
 use native.Mathlib.Omega.{arith}
 use borrow.Author.Tests.{lt-ltb, le-ltb}
-use Rattle.handset.specs.Board.{boardRoom}
+use Rattle.handset_words.specs.Board.{boardRoom}
 use Rattle.handset.proofs.board.room.Statement.{statement}
 use Rattle.handset.proofs.board.room.Tie as tie
 

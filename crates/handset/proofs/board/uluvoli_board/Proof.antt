@@ -10,7 +10,7 @@ use borrow.Author.Needs.{needs}
 use Rattle.card_build.specs.declared.card.Card.{Card}
 use Rattle.board_read.specs.Refresh.{boardServed, refreshed}
 use Rattle.handset_bytes.specs.Card.{decodedOf}
-use Rattle.handset.specs.Board.{refreshedAs, boardRoom, boardMade, recordsBy, recordsAfter}
+use Rattle.handset_words.specs.Board.{refreshedAs, boardRoom, boardMade, recordsBy, recordsAfter}
 use Rattle.handset.proofs.board.uluvoli_board.Statement.{statement}
 use Rattle.handset.proofs.board.uluvoli_board.Tie as tie
 

@@ -14,7 +14,9 @@ unfolding cardPut
 returns c = rw (ne-eqb _ cardSize (c .before .if1 .taken)) (c .refused .ensures, refl)
 
 returns-2 : tie.Need-returns-2
-returns-2 c = rw (eq-eqb _ cardSize (c .before .before .before .before .before .if1 .left)) (refl, c .before .before .encode .ensures ∙ ap (λ (k : Card). cardPut k (now (c .before .before .before .before .before .before .before .args .card))) (c .before .before .before .before .new .ensures))
+returns-2 c =
+    let b = c .before .before .before .before in
+    rw (eq-eqb _ cardSize (b .before .if1 .left)) (refl, c .before .before .encode .ensures ∙ ap (λ (k : Card). cardPut k (now (b .before .before .before .args .card))) (b .begun .ensures))
 
 pub uluvoli-new-spec : {M : Type 1} → statement M
 uluvoli-new-spec =

@@ -1,7 +1,7 @@
 -- Its own refusal, or whether both lists find room.
 use mathlib.Core.Path.{sym, _∙_}
 use borrow.Author.Needs.{needs}
-use Rattle.handset.specs.Message.{roomed}
+use Rattle.handset_words.specs.Message.{roomed}
 use Rattle.handset.proofs.readers.judged.Statement.{statement}
 use Rattle.handset.proofs.readers.judged.Tie as tie
 

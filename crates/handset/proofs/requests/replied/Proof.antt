@@ -1,15 +1,15 @@
 -- A status pair with its cause, or the refusal.
 use mathlib.Core.Path.{sym, _∙_}
 use borrow.Author.Needs.{needs}
-use Rattle.handset.specs.Reply.{responseAs}
+use Rattle.handset_words.specs.Reply.{responseAs}
 use Rattle.handset.proofs.requests.replied.Statement.{statement}
 use Rattle.handset.proofs.requests.replied.Tie as tie
 
 -- the pair and its cause
 returns : tie.Need-returns
 returns c =
-    let p = c .before .before .before in
-    λ i. responseAs (p .before .cause .ensures i) ((sym (c .before .flag1 .given .1) ∙ p .response .ensures) i)
+    let p = c .before .before .before .before in
+    c .paired .ensures ∙ (λ i. responseAs (p .before .cause .ensures i) ((sym (c .before .before .flag1 .given .1) ∙ p .response .ensures) i))
 
 -- the refusal
 returns-2 : tie.Need-returns-2
@@ -24,13 +24,7 @@ replied-spec =
     (λ c κs. search needs)
     (λ c κs. search needs)
     (λ c. search needs)
-    (λ c. search needs)
-    (λ c. search needs)
-    (λ c. search needs)
-    (λ c. search needs)
-    (λ c. search needs)
-    (λ c. search needs)
-    (λ c. search needs)
+    (λ c κs. search needs)
     (λ c. search needs)
     (λ c κs. search needs)
     returns

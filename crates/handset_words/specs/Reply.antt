@@ -4,7 +4,7 @@ use Rattle.request_plan.specs.declared.Reply.{Reply}
 use Rattle.request_plan.specs.declared.Response.{Response}
 use Rattle.request_plan.specs.declared.Response.the-variants.{Pair, Refusal}
 use Rattle.request_plan.specs.Request.{responseOf, causeIn}
-use Rattle.handset.specs.Outcome.{refusalAs}
+use Rattle.handset_words.specs.Outcome.{refusalAs}
 
 -- a cause stands above all that a refusal takes
 abbrev pub responseAs : ℕ → Response → ℕ

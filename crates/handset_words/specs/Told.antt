@@ -4,7 +4,7 @@ use Rattle.card_questions.specs.declared.listing.Listing.{Listing}
 use Rattle.card_questions.specs.declared.listing.Listing.the-variants.{Listed, Refused as NotListed}
 use Rattle.answers.specs.declared.refusal.Told.{Told}
 use Rattle.answers.specs.declared.refusal.Told.the-variants.{Number, Refused as NotTold}
-use Rattle.handset.specs.Outcome.{refusedAs}
+use Rattle.handset_words.specs.Outcome.{refusedAs}
 
 -- a number of 16 bits
 abbrev pub toldAs : Told → ℕ

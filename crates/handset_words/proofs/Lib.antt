@@ -1,4 +1,4 @@
 -- A refusal leaves all that a call was lent as it was.
 pub mod Left
 -- What a reader of messages tells.
-mod Reading
+pub mod Reading

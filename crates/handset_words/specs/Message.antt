@@ -11,7 +11,7 @@ use Rattle.node_messages.specs.declared.message.Put.{Put}
 use Rattle.node_messages.specs.declared.message.Put.the-variants.{Bytes, Refused as NotPut}
 use Rattle.node_messages.specs.CodeList.{readCodeList}
 use Rattle.node_messages.specs.Information.{readInformation}
-use Rattle.handset.specs.Outcome.{refusedAs}
+use Rattle.handset_words.specs.Outcome.{refusedAs}
 
 -- how many bytes a message has
 abbrev pub putAs : Put → ℕ

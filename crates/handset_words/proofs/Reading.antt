@@ -1,7 +1,7 @@
 -- What a reader of messages tells, whatever the bytes: its counts are small, and its lists find room.
 use Prim.Native.Nat.{ℕ, _+_, _*_, _≤_}
 use native.Mathlib.Omega.{arith}
-use mathlib.Core.Path.{_≡_, refl, _∙_, ap}
+use mathlib.Core.Path.{_≡_, refl, sym, _∙_, ap}
 use mathlib.Core.Bool.{Bool, true, false, cond, _&&_}
 use mathlib.Core.List.{List}
 use lib.Dec.{leb}
@@ -10,13 +10,15 @@ use lib.Seq.{take-take}
 use borrow.Author.Tests.{leb-true}
 use Rattle.answers.specs.declared.refusal.Answer.{Answer}
 use Rattle.answers.specs.declared.refusal.Answer.the-variants.{Done, Refused}
+use Rattle.answers.specs.declared.refusal.Refusal.{Refusal}
 use Rattle.answers.specs.declared.refusal.Refusal.the-variants.{NotAMessage}
 use Rattle.node_messages.specs.CodeList.{isCodeList, codeListIn, listTold, listRefused, readCodeList}
 use Rattle.node_messages.specs.Information.{isInformation, informationIn, informationTold, informationRefused, readInformation}
 use Rattle.byte_parts.specs.Part.{put}
+use Rattle.byte_parts.proofs.Part.{put-zero}
 use Rattle.node_messages.proofs.NumberLaws.{padded-long}
 use Rattle.node_messages.proofs.Takes.{list-bytes, information-bytes}
-use Rattle.handset.specs.Message.{toldBy, numbersTold, roomedBy, roomed}
+use Rattle.handset_words.specs.Message.{toldBy, numbersTold, roomedBy, roomed}
 
 pub list-few : (s : List ℕ) → readCodeList s .list .areas + readCodeList s .list .services ≤ 16
 unfolding readCodeList
@@ -51,11 +53,6 @@ counts-long s = by (isInformation s)
     by true = (padded-long 32 _, padded-long 32 _)
     by false = (refl, refl)
 
--- none is told after a refusal
-pub told-most : (a : Answer) (n : ℕ) → toldBy a 0 n ≤ n
-told-most Done n = omega arith
-told-most (Refused r) n = omega arith
-
 -- both lists find room
 both-roomed : (a : Answer) (n room m rest : ℕ) → (toldBy (roomed a n room m rest) 0 n ≤ room) × (toldBy (roomed a n room m rest) 0 m ≤ rest)
 unfolding roomed
@@ -80,10 +77,14 @@ module _ {Y : Type 0} {x y : Y} (e : x ≡ y) (ask : Y → Answer) {a : Answer} 
   pub as-told : {B : Type 0} (f : Y → Answer → B) → f x a ≡ f y (ask y)
   as-told f = ap (f x) j ∙ ap (λ (z : Y). f z (ask z)) e
 
-  pub list-told : (old : List ℕ) (m : ℕ) (count : Y → ℕ) (list : Y → List ℕ) {n : ℕ} {after : List ℕ} → count x ≤ m → n ≡ toldBy a 0 (count x) →
-      after ≡ put old 0 n (take m (list x)) → after ≡ numbersTold (ask y) old (count y) (list y)
-  list-told old m count list {n = n} h k q =
-      let few : n ≤ m = omega (arith, k, told-most a (count x)) in
-      q ∙ put-within old n m (list x) few
-      ∙ ap (λ (i : ℕ). put old 0 i (list x)) k
-      ∙ as-told (λ (z : Y) (b : Answer). put old 0 (toldBy b 0 (count z)) (list z))
+-- a reader that is done has written the numbers of its list
+pub list-told : {Y : Type 0} {x y : Y} (e : x ≡ y) (ask : Y → Answer) (j : Done ≡ ask x) (old : List ℕ) (m : ℕ) (count : Y → ℕ) (list : Y → List ℕ) {after : List ℕ} →
+    count x ≤ m → after ≡ put old 0 (count x) (take m (list x)) → after ≡ numbersTold (ask y) old (count y) (list y)
+list-told {Y = Y} {x = x} e ask j old m count list h q =
+    q ∙ put-within old (count x) m (list x) h ∙ as-told e ask j (λ (z : Y) (b : Answer). numbersTold b old (count z) (list z))
+
+-- one that refuses has left them
+pub list-kept : {Y : Type 0} {x y : Y} (e : x ≡ y) (ask : Y → Answer) {r : Refusal} (j : Refused r ≡ ask x) (old : List ℕ) (count : Y → ℕ) (list : Y → List ℕ) →
+    old ≡ numbersTold (ask y) old (count y) (list y)
+list-kept {Y = Y} {x = x} e ask j old count list =
+    sym (put-zero old 0 (list x)) ∙ as-told e ask j (λ (z : Y) (b : Answer). numbersTold b old (count z) (list z))

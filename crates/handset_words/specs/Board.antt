@@ -11,8 +11,8 @@ use Rattle.board_lanes.specs.Records.{lanesRecords}
 use Rattle.board_read.specs.declared.Refreshed.{Refreshed}
 use Rattle.board_read.specs.declared.Refreshed.the-variants.{Board, NoBoard, Card as ByCard}
 use Rattle.board_read.specs.Refresh.{boardServed, refreshed}
-use Rattle.handset.specs.Outcome.{refusalAs}
-use Rattle.handset.specs.Reply.{replyAs}
+use Rattle.handset_words.specs.Outcome.{refusalAs}
+use Rattle.handset_words.specs.Reply.{replyAs}
 
 -- 0 for a board, the board's refusal, or what any request returns
 abbrev pub refreshedAs : Refreshed → ℕ

@@ -3,7 +3,7 @@ use Prim.Native.Nat.{ℕ}
 use mathlib.Core.Bool.{Bool, true, false}
 use Rattle.card_questions.specs.declared.keys.Checked.{Checked}
 use Rattle.card_questions.specs.declared.keys.Checked.the-variants.{WellFormed, Malformed, Refused}
-use Rattle.handset.specs.Outcome.{refusedAs}
+use Rattle.handset_words.specs.Outcome.{refusedAs}
 
 abbrev pub checkedAs : Checked → ℕ
 checkedAs WellFormed = 0

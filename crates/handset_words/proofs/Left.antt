@@ -49,13 +49,13 @@ use Rattle.request_block.specs.Block.{blockPlace, blockJudged, setBy, arenaSet}
 use Rattle.board_read.specs.declared.Refreshed.{Refreshed}
 use Rattle.board_read.specs.declared.Refreshed.the-variants.{Board, NoBoard, Card as ByCard}
 use Rattle.board_read.specs.Refresh.{boardServed}
-use Rattle.handset.specs.Outcome.{answerAs}
-use Rattle.handset.specs.Kept.{cardBy, cardAfter}
-use Rattle.handset.specs.Told.{toldAs, toldAfter, listedAs, listedAfter}
-use Rattle.handset.specs.Message.{putAs, putAfter, toldBy, numbersTold}
-use Rattle.handset.specs.Checked.{checkedAs, checkedAfter}
-use Rattle.handset.specs.Board.{refreshedAs, boardRoom, boardMade, recordsBy, recordsAfter}
-use Rattle.handset.specs.Block.{unfitAfter, setAnswer, setAfter, placeBy, placeAfter}
+use Rattle.handset_words.specs.Outcome.{answerAs}
+use Rattle.handset_words.specs.Kept.{cardBy, cardAfter}
+use Rattle.handset_words.specs.Told.{toldAs, toldAfter, listedAs, listedAfter}
+use Rattle.handset_words.specs.Message.{putAs, putAfter, toldBy, numbersTold}
+use Rattle.handset_words.specs.Checked.{checkedAs, checkedAfter}
+use Rattle.handset_words.specs.Board.{refreshedAs, boardRoom, boardMade, recordsBy, recordsAfter}
+use Rattle.handset_words.specs.Block.{unfitAfter, setAnswer, setAfter, placeBy, placeAfter}
 
 -- the number of a question
 pub told-left : (old : ℕ) (a : Told) → (toldAs a ≡ 0 → ⊥) → toldAfter old a ≡ old
