@@ -20,8 +20,11 @@
  *   too, and no call reads or writes past the lengths given to it.
  *   It cannot check the pointers: each must be valid for as many elements as the length after it says, aligned for its
  *   type, and not null, even where the length is 0. A part that a call writes may overlap no other part of that call.
- *   Two calls may run at once only if neither writes what the other is lent. No call takes over ULUVOLI_STACK bytes of
- *   stack, on any card and with any request; what a signal handler takes on the same stack comes on top.
+ *   Two calls may run at once only if neither writes what the other is lent. A call takes at most ULUVOLI_STACK bytes of
+ *   stack, on any card; that is measured, not proved, and what a signal handler takes on the same stack comes on top.
+ *   All or nothing holds between calls. A process that is killed, or loses power, within a call leaves card and arena as
+ *   far as they were written by then: whoever has to be safe from that works on a copy, and stores card and arena together
+ *   once the call has returned.
  */
 #ifndef ULUVOLI_H
 #define ULUVOLI_H
@@ -87,7 +90,8 @@ enum {
     ULUVOLI_NOT_A_MESSAGE = 47               /* bytes that are no message */
 };
 
-/* Status flag 2. Status flag 1 is the place of the element that failed, counted from 1 and at most 255. */
+/* Status flag 2. Status flag 1 is the place of the element that failed, 1 to 254; FF is no place: it is told for the 255th
+ * element, for all after it, and for short data. */
 enum {
     ULUVOLI_SF2_OUTSIDE_WORD = 0x01,         /* a purse without limits would leave 0 to 4,294,967,295 */
     ULUVOLI_SF2_CASHBACK_EXCEEDS = 0x02,     /* a cashback above the stored one */
