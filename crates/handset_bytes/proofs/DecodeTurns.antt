@@ -1,21 +1,21 @@
 -- The loop over a card's records: what it knows on its way.
 use mathlib.Core.Path.{_≡_, refl, sym, ap, _∙_}
-use mathlib.Core.Bool.{Bool, true, false}
+use mathlib.Core.Bool.{Bool, true, false, cond, _&&_, and-eq-true-iff, true≢false}
 use mathlib.Core.List.{List, [], _∷_, _++_, append-assoc, append-nil}
 use Prim.Native.Nat.{ℕ, suc, _+_, _-_, _≤_, _<_}
 use native.Mathlib.Numerals.{add-one}
 use native.Mathlib.Omega.{arith}
-use lib.Dec.{eqb}
+use lib.Dec.{eqb, leb}
 use lib.ListN.{length, set, take, drop, length-set}
 use lib.Seq.{drop-drop, take-all, take-suc-set}
-use borrow.Author.Tests.{eq-eqb, ne-eqb, le-leb, lt-leb}
+use borrow.Author.Tests.{eq-eqb, eqb-true, le-leb, leb-true}
 use Rattle.card_nodes.specs.declared.node.Node.{Node}
 use Rattle.card_build.specs.declared.card.Card.{Card}
 use Rattle.byte_parts.specs.Half.{halfAt}
-use Rattle.card_build.specs.Card.{systemOf}
+use Rattle.card_build.specs.declared.card.System.{System}
 use Rattle.handset_bytes.specs.Layout.{headSize, recordSize, cardSize}
 use Rattle.handset_bytes.specs.Node.{nodeIn, isRecord}
-use Rattle.handset_bytes.specs.Card.{nodesIn, areRecords, isCard, noCard, decodedOf}
+use Rattle.handset_bytes.specs.Card.{nodesIn, areRecords, systemIn, cardIn, isHeaded, isCard, noCard, decodedOf}
 use Rattle.handset_bytes.proofs.Long.{at, ownOf, one-long}
 
 -- after i records that were read: what is left decides the rest
@@ -28,18 +28,21 @@ pub record Reading (s : List ℕ) (nodes : List Node) (i : ℕ) : Type 0 where
   pub same : nodesIn 64 (drop headSize s) ≡ take i nodes ++ nodesIn (64 - i) (drop (at i) s)
 
 -- before the first
-pub begun : (s : List ℕ) (nodes : List Node) → length s ≡ cardSize → halfAt s 8 ≤ 1 → length nodes ≡ 64 → Reading s nodes 0
-begun s nodes h f k = record { most = omega arith; size = h; flag = f; long = k; whole = refl; same = refl }
+pub begun : (s : List ℕ) (nodes : List Node) → isHeaded s ≡ true → length nodes ≡ 64 → Reading s nodes 0
+unfolding isHeaded
+begun s nodes h k =
+    let b = and-eq-true-iff (eqb (length s) cardSize) (leb (halfAt s 8) 1) .0 h in
+    record { most = omega arith; size = eqb-true (length s) cardSize (b .0); flag = leb-true (halfAt s 8) 1 (b .1); long = k; whole = refl; same = refl }
 
--- bytes of another length
-pub misfit : (s : List ℕ) → (length s ≡ cardSize → ⊥) → decodedOf s ≡ noCard
-unfolding decodedOf isCard
-misfit s h = rw (ne-eqb (length s) cardSize h)
-
--- neither yes nor no
-pub unsaid : (s : List ℕ) → length s ≡ cardSize → 1 < halfAt s 8 → decodedOf s ≡ noCard
-unfolding decodedOf isCard
-unsaid s h f = rw (eq-eqb (length s) cardSize h, lt-leb (halfAt s 8) 1 f)
+-- another length, or neither yes nor no
+pub unheaded : (s : List ℕ) → isHeaded s ≡ false → decodedOf s ≡ noCard
+unfolding decodedOf isCard isHeaded
+unheaded s e = by (eqb (length s) cardSize) (leb (halfAt s 8) 1) e
+  where
+    by : (t u : Bool) → (t && u) ≡ false → cond (t && (u && areRecords 64 (drop headSize s))) (cardIn s) noCard ≡ noCard
+    by false u e = refl
+    by true false e = refl
+    by true true e = absurd (true≢false e)
 
 module _ {s : List ℕ} {nodes : List Node} {i : ℕ} (k : Reading s nodes i) where
   module _ (h : i < 64) where
@@ -77,12 +80,12 @@ module _ {s : List ℕ} {nodes : List Node} {i : ℕ} (k : Reading s nodes i) wh
         }
 
   -- all were read
-  pub read-all : {a b c d : ℕ} {e : Bool} → 64 ≤ i → a ≡ halfAt s 0 → b ≡ halfAt s 2 → c ≡ halfAt s 4 → d ≡ halfAt s 6 → e ≡ eqb (halfAt s 8) 1 →
-      _≡_ {A = Card} (record { nodes = nodes; count = a; used = b; system = systemOf c d e }) (decodedOf s)
+  pub read-all : {a b : ℕ} {y : System} → 64 ≤ i → a ≡ halfAt s 0 → b ≡ halfAt s 2 → y ≡ systemIn s →
+      _≡_ {A = Card} (record { nodes = nodes; count = a; used = b; system = y }) (decodedOf s)
   unfolding decodedOf isCard areRecords nodesIn
-  read-all h x y z w j =
+  read-all h x y z =
       let none : 64 - i ≡ 0 = omega arith in
       let ok : areRecords 64 (drop headSize s) ≡ true = k .whole ∙ rw none in
       let same : nodesIn 64 (drop headSize s) ≡ nodes =
       k .same ∙ rw none (append-nil (take i nodes) ∙ take-all i nodes (omega (arith, k .long))) in
-      rw (eq-eqb (length s) cardSize (k .size), le-leb (halfAt s 8) 1 (k .flag), ok, same, x, y, z, w, j)
+      rw (eq-eqb (length s) cardSize (k .size), le-leb (halfAt s 8) 1 (k .flag), ok, same, x, y, z)

@@ -42,16 +42,24 @@ unfoldable pub areRecords : ℕ → List ℕ → Bool
 areRecords zero s = true
 areRecords (suc n) s = isRecord (take recordSize s) && areRecords n (drop recordSize s)
 
+-- what the header names
+abbrev pub systemIn : List ℕ → System
+systemIn s = systemOf (halfAt s 4) (halfAt s 6) (eqb (halfAt s 8) 1)
+
 -- what bytes read as
 abbrev pub cardIn : List ℕ → Card
 cardIn s = record {
   nodes = nodesIn 64 (drop headSize s);
   count = halfAt s 0;
   used = halfAt s 2;
-  system = systemOf (halfAt s 4) (halfAt s 6) (eqb (halfAt s 8) 1);
+  system = systemIn s;
 }
 
--- as many bytes as a card has, with yes or no where that stands, whose records are all a node's
+-- as many bytes as a card has, with yes or no where that stands
+unfoldable pub isHeaded : List ℕ → Bool
+isHeaded s = eqb (length s) cardSize && leb (halfAt s 8) 1
+
+-- whose records are all a node's, too
 unfoldable pub isCard : List ℕ → Bool
 isCard s = eqb (length s) cardSize && (leb (halfAt s 8) 1 && areRecords 64 (drop headSize s))
 

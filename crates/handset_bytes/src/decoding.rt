@@ -6,7 +6,10 @@ use card_build::card::Card;
 use card_build::card::System;
 use card_nodes::node::Node;
 ghost use mathlib.Core.Path.{_≡_};
-ghost use Rattle.handset_bytes.specs.Card.{noCard, decodedOf};
+ghost use Prim.Native.Nat.{_≤_};
+ghost use lib.ListN.{length};
+ghost use Rattle.handset_bytes.specs.Layout.{headSize};
+ghost use Rattle.handset_bytes.specs.Card.{systemIn, isHeaded, noCard, decodedOf};
 
 // What stands for the card of bytes that encode none. It has not even a root, so that every call on it is refusal 8.
 fn none() -> Card
@@ -25,15 +28,33 @@ fn none() -> Card
     }
 }
 
-// The card that `bytes` encode: as many as a card takes, 0 or 1 for whether it joins, each record a node's. Whether accepted calls build it is not looked at here.
+// Whether there are as many bytes as a card takes, with 0 or 1 where they say whether it joins.
+fn is_headed(bytes: &[u8]) -> bool
+    ensures { λ r. ⌜ r ≡ isHeaded (now (bytes .entry)) ⌝ }
+{
+    if bytes.len() != layout::SIZE {
+        return false;
+    }
+    half::half(bytes, 8) <= 1
+}
+
+// The system that the header names.
+fn system_in(bytes: &[u8]) -> System
+    requires { ⌜ headSize ≤ length (now bytes) ⌝ }
+    ensures { λ r. ⌜ r ≡ systemIn (now (bytes .entry)) ⌝ }
+{
+    System {
+        code: half::half(bytes, 4),
+        version: half::half(bytes, 6),
+        join: half::half(bytes, 8) == 1,
+    }
+}
+
+// The card that `bytes` encode: a card's header, each record a node's. Whether accepted calls build it is not looked at here.
 pub fn decode(bytes: &[u8]) -> Card
     ensures { λ r. ⌜ r ≡ decodedOf (now (bytes .entry)) ⌝ }
 {
-    if bytes.len() != layout::SIZE {
-        return none();
-    }
-    let joins = half::half(bytes, 8);
-    if 1 < joins {
+    if !is_headed(bytes) {
         return none();
     }
     let root = Node::root();
@@ -52,10 +73,6 @@ pub fn decode(bytes: &[u8]) -> Card
         nodes,
         count: half::half(bytes, 0) as usize,
         used: half::half(bytes, 2) as usize,
-        system: System {
-            code: half::half(bytes, 4),
-            version: half::half(bytes, 6),
-            join: joins == 1,
-        },
+        system: system_in(bytes),
     }
 }
