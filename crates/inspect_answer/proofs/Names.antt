@@ -17,12 +17,12 @@ use Rattle.text_numbers.specs.declared.decimals.Number.{Number}
 use Rattle.text_numbers.specs.declared.decimals.Number.the-variants as numbers
 use Rattle.text_numbers.specs.Hex.{hexField}
 use Rattle.text_numbers.specs.Codes.{codesField}
-use Rattle.line_image.specs.Line.{codeAt, numberAt, named, form}
+use Rattle.line_fields.specs.Fields.{codeAt, numberAt, withCode, withNumber, named, form}
 use Rattle.inspect_ask.specs.declared.Asked.{Asked}
 use Rattle.inspect_ask.specs.declared.Asked.the-variants as asks
 use Rattle.inspect_ask.specs.declared.Question.{Question}
 use Rattle.inspect_ask.specs.declared.Question.the-variants.{Unknown, Of, Room, Arena}
-use Rattle.inspect_ask.specs.Question.{listName, infoName, readlistName, readinfoName, totalName, verName, dirName, areasName, svcsName, blockName, usedName, attrName, roomName, arenaName, withCode, withNumber, listLine, blockLine, totalLine, versionLine, attributeLine, codesLine, bytesLine, roomLine, arenaLine, lentAsked, cardAsked, messageAsked, questionOf}
+use Rattle.inspect_ask.specs.Question.{listName, infoName, readlistName, readinfoName, totalName, verName, dirName, areasName, svcsName, blockName, usedName, attrName, roomName, arenaName, listLine, blockLine, totalLine, versionLine, attributeLine, codesLine, bytesLine, roomLine, arenaLine, lentAsked, storedAsked, listsAsked, cardAsked, bytesAsked, messageAsked, questionOf}
 use Rattle.inspect_ask.proofs.Asking.{asked-short}
 use Rattle.inspect_answer.specs.Answer.{fieldZero, nameOf}
 
@@ -49,11 +49,11 @@ module _ (fs : List (List ℕ)) where
       go true e = p (formed name n e)
       go false e = q
 
-  on-code : (x : Code) (more : ℕ → Question) → ((n : ℕ) → Named first (more n)) → Named first (withCode x more)
+  on-code : (x : Code) (more : ℕ → Question) → ((n : ℕ) → Named first (more n)) → Named first (withCode Unknown x more)
   on-code (codes.Is n) more p = p n
   on-code codes.Bad more p = tt
 
-  on-number : (x : Number) (more : ℕ → Question) → ((n : ℕ) → Named first (more n)) → Named first (withNumber x more)
+  on-number : (x : Number) (more : ℕ → Question) → ((n : ℕ) → Named first (more n)) → Named first (withNumber Unknown x more)
   on-number (numbers.Is n) more p = p n
   on-number numbers.Bad more p = tt
 
@@ -67,25 +67,37 @@ module _ (fs : List (List ℕ)) where
       by roomName 2 (roomLine fs) _ (λ e. on-number (numberAt fs 1 4096) Room (λ n. tt))
       (by arenaName 2 (arenaLine fs) Unknown (λ e. on-number (numberAt fs 1 65536) Arena (λ n. tt)) tt)
 
+  on-stored : Named first (storedAsked fs)
+  unfolding storedAsked blockLine attributeLine
+  on-stored =
+      by blockName 3 (blockLine fs) _ (λ e. on-code (codeAt fs 1) _ (λ n. on-number (numberAt fs 2 4294967295) _ (λ m. e)))
+      (by usedName 1 (Of asks.Used) _ (λ e. e)
+      (by attrName 2 (attributeLine fs) (lentAsked fs) (λ e. on-code (codeAt fs 1) _ (λ n. e)) on-lent))
+
+  on-lists : Named first (listsAsked fs)
+  unfolding listsAsked codesLine
+  on-lists =
+      by areasName 2 (codesLine asks.Areas fs) _ (λ e. tested (codesField (getD fs 1 [])) asks.Areas e)
+      (by svcsName 2 (codesLine asks.Services fs) (storedAsked fs) (λ e. tested (codesField (getD fs 1 [])) asks.Services e) on-stored)
+
   on-card : Named first (cardAsked fs)
-  unfolding cardAsked totalLine versionLine blockLine attributeLine codesLine
+  unfolding cardAsked totalLine versionLine
   on-card =
       by totalName 2 (totalLine fs) _ (λ e. on-code (codeAt fs 1) _ (λ n. e))
       (by verName 2 (versionLine fs) _ (λ e. on-code (codeAt fs 1) _ (λ n. e))
-      (by dirName 1 (Of asks.Directory) _ (λ e. e)
-      (by areasName 2 (codesLine asks.Areas fs) _ (λ e. tested (codesField (getD fs 1 [])) asks.Areas e)
-      (by svcsName 2 (codesLine asks.Services fs) _ (λ e. tested (codesField (getD fs 1 [])) asks.Services e)
-      (by blockName 3 (blockLine fs) _ (λ e. on-code (codeAt fs 1) _ (λ n. on-number (numberAt fs 2 4294967295) _ (λ m. e)))
-      (by usedName 1 (Of asks.Used) _ (λ e. e)
-      (by attrName 2 (attributeLine fs) (lentAsked fs) (λ e. on-code (codeAt fs 1) _ (λ n. e)) on-lent)))))))
+      (by dirName 1 (Of asks.Directory) (listsAsked fs) (λ e. e) on-lists))
+
+  on-bytes : Named first (bytesAsked fs)
+  unfolding bytesAsked bytesLine
+  on-bytes =
+      by readlistName 2 (bytesLine asks.ReadList fs) _ (λ e. tested (hexField (getD fs 1 [])) asks.ReadList e)
+      (by readinfoName 2 (bytesLine asks.ReadInfo fs) (cardAsked fs) (λ e. tested (hexField (getD fs 1 [])) asks.ReadInfo e) on-card)
 
   on-message : Named first (messageAsked fs)
-  unfolding messageAsked listLine codesLine bytesLine
+  unfolding messageAsked listLine codesLine
   on-message =
       by listName 3 (listLine fs) _ (λ e. on-code (codeAt fs 1) _ (λ n. on-number (numberAt fs 2 4294967295) _ (λ m. e)))
-      (by infoName 2 (codesLine asks.Info fs) _ (λ e. tested (codesField (getD fs 1 [])) asks.Info e)
-      (by readlistName 2 (bytesLine asks.ReadList fs) _ (λ e. tested (hexField (getD fs 1 [])) asks.ReadList e)
-      (by readinfoName 2 (bytesLine asks.ReadInfo fs) (cardAsked fs) (λ e. tested (hexField (getD fs 1 [])) asks.ReadInfo e) on-card)))
+      (by infoName 2 (codesLine asks.Info fs) (bytesAsked fs) (λ e. tested (codesField (getD fs 1 [])) asks.Info e) on-bytes)
 
 -- A line that asks has the question's name in its first field.
 pub asked-name : (line : List ℕ) (asked : Asked) → questionOf line ≡ Of asked → fieldZero line ≡ nameOf asked

@@ -14,7 +14,7 @@ use Rattle.card_build.specs.declared.card.Card.{Card}
 use Rattle.text_stream.specs.Stream.{Blind}
 use Rattle.line_image.specs.declared.line.Line.the-variants as image
 use Rattle.line_image.specs.Line.{imageLine}
-use Rattle.line_image.specs.Image.{imageStep}
+use Rattle.line_build.specs.Image.{imageStep}
 use Rattle.line_request.specs.declared.Ask.the-variants as asks
 use Rattle.line_request.specs.Ask.{isLetter, isEither, requestLine, askOf}
 use Rattle.line_request.proofs.Asking.{no-letter}
