@@ -1,4 +1,3 @@
-pub mod UnderLaws
 pub mod ListingWorded
 pub mod BuiltCards
 mod TableLaws

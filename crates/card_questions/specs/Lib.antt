@@ -1,4 +1,3 @@
-pub mod Under
 pub mod Directory
 pub mod Table
 pub mod ListingWorded

@@ -15,9 +15,9 @@ use Rattle.card_build.specs.declared.card.Card.{Card}
 use Rattle.card_build.specs.Card.{nodesOf, isSound}
 use Rattle.card_questions.specs.declared.listing.Listing.{Listing}
 use Rattle.card_questions.specs.declared.listing.Listing.the-variants.{Listed, Refused}
-use Rattle.card_questions.specs.Under.{spanUnder}
+use Rattle.card_laws.specs.Under.{spanUnder}
 use Rattle.card_questions.specs.Directory.{pairOf, pairsUnder, directoryOf, listedOf, listingOf, outAfter, directoryAnswer, directoryOut}
-use Rattle.card_questions.proofs.UnderLaws.{span-most}
+use Rattle.card_laws.proofs.UnderLaws.{span-most}
 use Rattle.inspect_fields.proofs.Lines.{front-put}
 
 -- there are two numbers for each node
