@@ -9,7 +9,7 @@ ghost use Rattle.text_stream.specs.Stream.{saysOf};
 ghost use Rattle.text_pull.specs.Pull.{Answered, Next, Flushed, Ran};
 ghost use Rattle.line_serve.specs.Text.{mostSpelled, mostPrinted};
 ghost use Rattle.replay_line.specs.Replay.{lentBytes};
-ghost use Rattle.inspect_line.specs.Inspect.{seen, inspectMachine, atStart};
+ghost use Rattle.inspect_line.specs.Inspect.{beginsWith, seen, inspectMachine, atStart};
 ghost use Rattle.inspect_shell.specs.Stop.{stops};
 
 // An inspection, and where the reading is.
@@ -64,9 +64,10 @@ fn flush(flow: Flow, out: &[u8]) -> Flow
     text_pull::writing::flush(flow, out, MOST_PRINTED)
 }
 
-// Inspects what the descriptor has over lent buffers, to standard output.
+// Inspects what the descriptor has from the start on, over lent buffers, to standard output.
 fn run(
     fd: i32,
+    inspect: Inspect,
     arena: &mut [u8],
     work: &mut [u8],
     bytes: &mut [u8],
@@ -74,12 +75,12 @@ fn run(
     line: &mut [u8],
     out: &mut [u8],
 ) -> Flow
-    requires { ⌜ now arena ≡ replicate lentBytes 0 ⌝ }
+    requires { ⌜ (now arena ≡ replicate lentBytes 0) × (inspect ≡ beginsWith) ⌝ }
     requires { ⌜ (length (now work) ≡ lentBytes) × (mostSpelled ≤ length (now bytes)) × (length (now chunk) ≡ 65536) × (length (now line) ≡ 32769) × (length (now out) ≡ 65536) ⌝ }
     ensures { λ r. ⌜ Ran inspectMachine atStart r ⌝ }
 {
     let mut moved = Moved {
-        inspect: inspect_line::start(),
+        inspect,
         flow: text_pull::start(),
     };
     while text_pull::goes_on(moved.flow) {
@@ -94,6 +95,7 @@ fn run(
 pub fn inspect(fd: i32) -> Flow
     ensures { λ r. ⌜ Ran inspectMachine atStart r ⌝ }
 {
+    let start = inspect_line::start();
     let mut arena = [0u8; 65536];
     let mut work = [0u8; 65536];
     let mut bytes = [0u8; 16384];
@@ -102,6 +104,7 @@ pub fn inspect(fd: i32) -> Flow
     let mut out = [0u8; 65536];
     run(
         fd,
+        start,
         &mut arena,
         &mut work,
         &mut bytes,

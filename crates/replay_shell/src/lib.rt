@@ -9,6 +9,7 @@ ghost use lib.ListN.{length, take, replicate};
 ghost use Rattle.text_stream.specs.Stream.{saysOf};
 ghost use Rattle.text_pull.specs.Pull.{Answered, Next, Flushed, Ran};
 ghost use Rattle.line_serve.specs.Text.{mostSpelled, mostPrinted};
+ghost use Rattle.replay_state.specs.Phases.{startOf};
 ghost use Rattle.replay_line.specs.Replay.{lentBytes, held, replayMachine, atStart};
 ghost use Rattle.replay_shell.specs.Stop.{stopsIn, stops};
 
@@ -74,9 +75,10 @@ fn flush(flow: Flow, out: &[u8]) -> Flow
     text_pull::writing::flush(flow, out, MOST_PRINTED)
 }
 
-// Replays what the descriptor has over lent buffers, to standard output.
+// Replays what the descriptor has from the start on, over lent buffers, to standard output.
 fn run(
     fd: i32,
+    replay: Replay,
     arena: &mut [u8],
     work: &mut [u8],
     bytes: &mut [u8],
@@ -84,12 +86,12 @@ fn run(
     line: &mut [u8],
     out: &mut [u8],
 ) -> Flow
-    requires { ⌜ now arena ≡ replicate lentBytes 0 ⌝ }
+    requires { ⌜ (now arena ≡ replicate lentBytes 0) × (replay ≡ startOf) ⌝ }
     requires { ⌜ (length (now work) ≡ lentBytes) × (mostSpelled ≤ length (now bytes)) × (length (now chunk) ≡ 65536) × (length (now line) ≡ 32769) × (length (now out) ≡ 65536) ⌝ }
     ensures { λ r. ⌜ Ran replayMachine atStart r ⌝ }
 {
     let mut moved = Moved {
-        replay: replay_state::start(),
+        replay,
         flow: text_pull::start(),
     };
     while text_pull::goes_on(moved.flow) {
@@ -104,6 +106,7 @@ fn run(
 pub fn replay(fd: i32) -> Flow
     ensures { λ r. ⌜ Ran replayMachine atStart r ⌝ }
 {
+    let start = replay_state::start();
     let mut arena = [0u8; 65536];
     let mut work = [0u8; 65536];
     let mut bytes = [0u8; 16384];
@@ -112,6 +115,7 @@ pub fn replay(fd: i32) -> Flow
     let mut out = [0u8; 65536];
     run(
         fd,
+        start,
         &mut arena,
         &mut work,
         &mut bytes,

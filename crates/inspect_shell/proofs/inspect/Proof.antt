@@ -5,7 +5,7 @@ use Rattle.inspect_shell.proofs.inspect.Statement.{statement}
 use Rattle.inspect_shell.proofs.inspect.Tie as tie
 
 run-requires : tie.Need-run-requires
-run-requires c κs = (refl, search needs)
+run-requires c κs = ((refl, search needs), search needs)
 
 returns : tie.Need-returns
 returns c = c .before .before .before .before .before .before .run .ensures
@@ -13,4 +13,4 @@ returns c = c .before .before .before .before .before .before .run .ensures
 pub inspect-spec : {M : Type 1} → statement M
 inspect-spec =
     tie.close
-    (tie.spec (λ c. search needs) (λ c. search needs) (λ c. search needs) (λ c. search needs) (λ c. search needs) (λ c. search needs) run-requires returns)
+    (tie.spec (λ c κs. search needs) (λ c. search needs) (λ c. search needs) (λ c. search needs) (λ c. search needs) (λ c. search needs) (λ c. search needs) run-requires returns)

@@ -5,7 +5,7 @@ use Rattle.replay_shell.proofs.replay.Statement.{statement}
 use Rattle.replay_shell.proofs.replay.Tie as tie
 
 run-requires : tie.Need-run-requires
-run-requires c κs = (refl, search needs)
+run-requires c κs = ((refl, search needs), search needs)
 
 returns : tie.Need-returns
 returns c = c .before .before .before .before .before .before .run .ensures
@@ -13,4 +13,4 @@ returns c = c .before .before .before .before .before .before .run .ensures
 pub replay-spec : {M : Type 1} → statement M
 replay-spec =
     tie.close
-    (tie.spec (λ c. search needs) (λ c. search needs) (λ c. search needs) (λ c. search needs) (λ c. search needs) (λ c. search needs) run-requires returns)
+    (tie.spec (λ c κs. search needs) (λ c. search needs) (λ c. search needs) (λ c. search needs) (λ c. search needs) (λ c. search needs) (λ c. search needs) run-requires returns)

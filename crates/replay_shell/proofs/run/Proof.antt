@@ -25,9 +25,9 @@ abbrev μ-loop : tie.MeasureT-loop
 
 loop-holds : tie.Need-loop-holds Inv-loop μ-loop
 loop-holds c =
-    let s = c .before .before .before .before .before .before .before .before in
+    let s = c .before .before .before .before .before .before .before in
     let a = s .args in
-    rw (c .start2 .ensures, c .before .start .ensures, s .pre .0)
+    rw (c .start .ensures, s .pre .0 .1, s .pre .0 .0)
     (begun replayMachine 32769 atStart mostPrinted (now (a .line)) (now (a .chunk)) (now (a .out)) (omega (arith, s .pre .1)) (omega (arith, s .pre .1)) (omega (arith, s .pre .1)) (omega arith), refl, refl, refl, refl, refl, refl)
 
 pull-requires : tie.Need-pull-requires Inv-loop μ-loop
@@ -40,7 +40,7 @@ answer-requires c κs =
     let d = c .before .before .before .before .before .before .before .before .before in
     let l = d .before .before .before .before .before in
     let i = l .loop .inv in
-    let p = l .before .before .before .before .before .before .before .before .before .pre .1 in
+    let p = l .before .before .before .before .before .before .before .before .pre .1 in
     let m = answer-may replayMachine 32769 atStart mostPrinted (i .0) (d .pull .ensures) (d .pull .kept .1 .1 .1 .0) in
     (omega (arith, p, i .2), omega (arith, p, i .3), m .0, m .1)
 
@@ -81,6 +81,6 @@ returns c =
 pub run-spec : {M : Type 1} → statement M
 run-spec =
     tie.close
-    (tie.spec Inv-loop μ-loop (λ c κs. search needs) (λ c κs. search needs) loop-holds (λ c κs. search needs)
+    (tie.spec Inv-loop μ-loop (λ c κs. search needs) loop-holds (λ c κs. search needs)
     pull-requires answer-requires flush-requires loop-less loop-again
     (λ c. search needs) (λ c. search needs) (λ c. search needs) (λ c. search needs) (λ c. search needs) (λ c. search needs) returns)
