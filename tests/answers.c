@@ -109,13 +109,13 @@ static uint32_t stored(const uint8_t *own, uint16_t code, uint32_t at, size_t *o
 
 /* A block that is not there, or is not sixteen bytes: the refusal that is first, and nothing is written. */
 static void block_refused(uint16_t code, uint32_t at, size_t length) {
-    size_t offset = MARK;
+    size_t offset = MARKED;
     bool right = set(code, at, length - 1) == ULUVOLI_NOT_A_BLOCK << 16 && arena_agrees();
     right = right && set(code, UINT32_MAX, length) == ULUVOLI_NO_SUCH_BLOCK << 16 && arena_agrees();
     right = right && set(code, UINT32_MAX, length - 1) == ULUVOLI_NO_SUCH_BLOCK << 16 && arena_agrees();
     right = right && stored(lent_card(), code, UINT32_MAX, &offset) == ULUVOLI_NO_SUCH_BLOCK << 16;
     right = right && stored(lent_unbuilt(), code, at, &offset) == UNBUILT;
-    check(right && offset == MARK, "a block refused");
+    check(right && offset == MARKED, "a block refused");
 }
 
 /* Sets a block, and asks where it lies. */
@@ -136,14 +136,14 @@ static void block(char *f[FIELDS]) {
 
 /* A directory, and the same on a card that no calls build: then as on a refusal the pairs and their number stay. */
 static void directory(char *f[FIELDS]) {
-    size_t many = number(f[1]), nodes = MARK, wanted_nodes = MARK;
+    size_t many = number(f[1]), nodes = MARKED, wanted_nodes = MARKED;
     uint32_t wanted = *f[2] == '!' ? answer(f[2]) : 0;
     mark_room(2 * many);
     const uint8_t *own = lent_unbuilt();
     uint16_t *out = lend_writable(ROOM, room, 2 * many);
     uint32_t got = uluvoli_directory(own, sizeof card, out, many, lend_writable(TOLD, &nodes, sizeof nodes));
     take_back();
-    check(got == UNBUILT && nodes == MARK && room_agrees(), "a directory of no card");
+    check(got == UNBUILT && nodes == MARKED && room_agrees(), "a directory of no card");
     if (wanted == 0) {
         wanted_nodes = halves(f[2], (uint16_t *)(void *)room_wanted, sizeof room / 2) / 2;
     }
@@ -156,7 +156,7 @@ static void directory(char *f[FIELDS]) {
 
 /* A total or a key version; on a card that no calls build the number stays. */
 static void told(char *f[FIELDS], uint32_t (*ask)(const uint8_t *, size_t, uint16_t, uint16_t *)) {
-    uint16_t code = (uint16_t)number(f[1]), wanted = (uint16_t)number(f[2]), before = (uint16_t)(wanted ^ MARK);
+    uint16_t code = (uint16_t)number(f[1]), wanted = (uint16_t)number(f[2]), before = (uint16_t)MARKED;
     uint16_t value = before;
     const uint8_t *own = lent_unbuilt();
     uint32_t got = ask(own, sizeof card, code, lend_writable(TOLD, &value, sizeof value));
@@ -168,17 +168,17 @@ static void told(char *f[FIELDS], uint32_t (*ask)(const uint8_t *, size_t, uint1
     check(got == 0 && value == wanted, "a number");
 }
 
-/* An area list or a service list; on a card that no calls build the flag stays, whatever it was. */
+/* An area list or a service list; on a card that no calls build the flag stays, whatever byte it was. */
 static void formed(char *f[FIELDS], uint32_t (*ask)(const uint8_t *, size_t, const uint16_t *, size_t, bool *)) {
     bool wanted = number(f[2]) == 1;
     size_t many = halves(f[1], codes, sizeof codes / sizeof *codes);
-    for (int before = 0; before < 2; before++) {
-        bool well = before == 1;
+    for (size_t before = 0; before < sizeof flag_bytes; before++) {
+        uint8_t well = flag_bytes[before];
         const uint8_t *own = lent_unbuilt();
         const uint16_t *list_asked = lend(CODES, codes, 2 * many);
         uint32_t got = ask(own, sizeof card, list_asked, many, lend_writable(TOLD, &well, sizeof well));
         take_back();
-        check(got == UNBUILT && well == (before == 1), "a list for no card");
+        check(got == UNBUILT && well == flag_bytes[before], "a list for no card");
         own = lent_card();
         list_asked = lend(CODES, codes, 2 * many);
         got = ask(own, sizeof card, list_asked, many, lend_writable(TOLD, &well, sizeof well));

@@ -12,6 +12,12 @@
 
 enum { ARENA_SIZE = 70000, ROOM_SIZE = 140000, CODES_MOST = 1024, LIST_SIZE = 4096, DATA_SIZE = 16384, MARK = 0xa5 };
 
+/* A number whose bytes are all the mark: what a call answers through a pointer holds it before. */
+static const size_t MARKED = SIZE_MAX / 255 * MARK;
+
+/* The bytes that a flag holds before: no, yes, and one that is neither. */
+static const uint8_t flag_bytes[] = {0, 1, MARK};
+
 /* Refusal 8, as a call returns it. */
 enum { UNBUILT = ULUVOLI_NOT_BUILT << 16 };
 

@@ -35,7 +35,7 @@ static uint32_t ask(char *f[FIELDS], uint32_t how, uint32_t length, size_t *told
     size_t card_len;
     uint32_t got;
     mark_room(length);
-    *told = MARK;
+    *told = MARKED;
     const uint8_t *own = lent_as(how, &card_len);
     uint8_t *out = lend_writable(ROOM, room, room_len);
     size_t *bytes_told = lend_writable(TOLD, told, sizeof *told);
@@ -54,11 +54,11 @@ static uint32_t ask(char *f[FIELDS], uint32_t how, uint32_t length, size_t *told
 void message_written(char *f[FIELDS]) {
     char **rest = f + (*f[0] == 'C' ? 3 : 2);
     uint32_t how = number(rest[0]), length = number(rest[1]), wanted = refusal(rest[2]);
-    size_t told, told_wanted = MARK;
+    size_t told, told_wanted = MARKED;
     spoil_card();
     uint32_t got = ask(f, AS_IT_IS, length, &told);
     mend_card();
-    check(got == 0 || (told == MARK && room_agrees()), "a message of a spoilt card");
+    check(got == 0 || (told == MARKED && room_agrees()), "a message of a spoilt card");
     got = ask(f, how, length, &told);
     if (wanted == 0) {
         told_wanted = bytes(rest[2], room_wanted, sizeof room_wanted);
@@ -92,13 +92,13 @@ static void check_lists(uint32_t got, uint32_t wanted) {
     check(memcmp(filled, filled_wanted, sizeof filled) == 0, "the lists of a reader, or what is behind them");
 }
 
-/* On a refusal the counts and the flag stay, whatever it was. */
+/* On a refusal the counts and the flag stay, whatever byte it was: one that a program has not set is no bool. */
 void code_list_read(char *f[FIELDS]) {
     uint32_t wanted = refusal(f[4]);
     size_t length = bytes(f[1], list, sizeof list);
-    for (int before = 0; before < 2; before++) {
-        size_t areas = MARK, areas_wanted = MARK, services = MARK, services_wanted = MARK;
-        bool more = before == 1, more_wanted = before == 1;
+    for (size_t before = 0; before < sizeof flag_bytes; before++) {
+        size_t areas = MARKED, areas_wanted = MARKED, services = MARKED, services_wanted = MARKED;
+        uint8_t more = flag_bytes[before], more_wanted = flag_bytes[before];
         mark_lists(f);
         if (wanted == 0) {
             more_wanted = number(f[4]) == 1;
@@ -120,7 +120,7 @@ void code_list_read(char *f[FIELDS]) {
 
 void information_read(char *f[FIELDS]) {
     uint32_t wanted = refusal(f[4]);
-    size_t length = bytes(f[1], list, sizeof list), nodes = MARK, nodes_wanted = MARK;
+    size_t length = bytes(f[1], list, sizeof list), nodes = MARKED, nodes_wanted = MARKED;
     mark_lists(f);
     if (wanted == 0) {
         nodes_wanted = halves(f[4], filled_wanted[0], NUMBERS);
