@@ -1,11 +1,11 @@
 // Lines that grow a card.
-use crate::numbers::at16;
-use crate::numbers::at32;
 use answers::refusal::Answer;
 use byte_parts::word;
 use card_build::card::Added;
 use card_build::card::Card;
 use card_build::card::System;
+use test_spelt::numbers::at16;
+use test_spelt::numbers::at32;
 
 // A card, the length of the arena that is lent, and whether the line agreed.
 pub(crate) struct Grown {

@@ -1,6 +1,4 @@
 // Questions about a card's tree.
-use crate::codes::codes;
-use crate::numbers::at16;
 use answers::refusal::Told;
 use card_build::card::Card;
 use card_questions::keys;
@@ -8,6 +6,8 @@ use card_questions::keys::Checked;
 use card_questions::listing;
 use card_questions::listing::Listing;
 use card_questions::totals;
+use test_spelt::codes::codes;
+use test_spelt::numbers::at16;
 use test_stored::number16;
 
 // Whether a number is the one told.

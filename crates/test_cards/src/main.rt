@@ -6,10 +6,6 @@ use card_build::card::System;
 
 mod add;
 mod ask;
-mod codes;
-mod numbers;
-mod request;
-mod spelt;
 
 // How many lines agree, and how many do not.
 struct Tally {
@@ -56,8 +52,8 @@ fn asked(grown: Grown, kind: u8, line: &[u8], b: &[u8], arena: &mut [u8]) -> boo
         return false;
     }
     match kind {
-        b'b' => request::set(card, &mut arena[0..arena_len], b),
-        b'R' | b'W' => request::request(card, &mut arena[0..arena_len], line),
+        b'b' => test_requests::set(card, &mut arena[0..arena_len], b),
+        b'R' | b'W' => test_requests::request(card, &mut arena[0..arena_len], line),
         _ => ask::agrees(card, kind, b),
     }
 }

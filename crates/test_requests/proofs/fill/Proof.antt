@@ -2,8 +2,8 @@ use Prim.Native.Nat.{ℕ, _≤_, _<_, _-_, _+_, _*_, _/_}
 use mathlib.Core.Path.{_≡_}
 use lib.ListN.{length}
 use borrow.Author.Needs.{needs}
-use Rattle.test_cards.proofs.request.fill.Statement.{statement}
-use Rattle.test_cards.proofs.request.fill.Tie as tie
+use Rattle.test_requests.proofs.fill.Statement.{statement}
+use Rattle.test_requests.proofs.fill.Tie as tie
 
 abbrev Inv-loop : tie.InvT-loop
 Inv-loop s₀ value i₀ s i = (i ≤ length s₀) × (length s ≡ length s₀)

@@ -3,7 +3,7 @@ use test_stored::number16;
 use test_stored::number32;
 
 // The number of 16 bits at an index, or 0 where the line is shorter.
-pub(crate) fn at16(b: &[u8], i: usize) -> u16 {
+pub fn at16(b: &[u8], i: usize) -> u16 {
     if b.len() < 2 {
         return 0;
     }
@@ -14,7 +14,7 @@ pub(crate) fn at16(b: &[u8], i: usize) -> u16 {
 }
 
 // The number of 32 bits at an index, or 0 where the line is shorter.
-pub(crate) fn at32(b: &[u8], i: usize) -> u32 {
+pub fn at32(b: &[u8], i: usize) -> u32 {
     if b.len() < 4 {
         return 0;
     }

@@ -2,8 +2,8 @@ use Prim.Native.Nat.{ℕ, _≤_, _<_, _-_, _+_, _*_, _/_}
 use mathlib.Core.Path.{_≡_}
 use lib.ListN.{length}
 use borrow.Author.Needs.{needs}
-use Rattle.test_cards.proofs.request.put_changed.Statement.{statement}
-use Rattle.test_cards.proofs.request.put_changed.Tie as tie
+use Rattle.test_requests.proofs.put_changed.Statement.{statement}
+use Rattle.test_requests.proofs.put_changed.Tie as tie
 
 abbrev Inv-loop : tie.InvT-loop
 Inv-loop copy₀ changed i₀ copy i = (i ≤ length changed) × (length copy ≡ length copy₀)

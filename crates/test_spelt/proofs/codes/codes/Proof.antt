@@ -2,8 +2,8 @@ use Prim.Native.Nat.{ℕ, _≤_, _<_, _-_, _+_, _*_, _/_}
 use mathlib.Core.Path.{_≡_}
 use lib.ListN.{length}
 use borrow.Author.Needs.{needs}
-use Rattle.test_cards.proofs.codes.codes.Statement.{statement}
-use Rattle.test_cards.proofs.codes.codes.Tie as tie
+use Rattle.test_spelt.proofs.codes.codes.Statement.{statement}
+use Rattle.test_spelt.proofs.codes.codes.Tie as tie
 
 abbrev Inv-loop : tie.InvT-loop
 Inv-loop b list₀ n₀ i₀ list n i = (1 ≤ i) × (n ≤ length list) × (i ≤ length b + 1) × (length list ≡ length list₀)

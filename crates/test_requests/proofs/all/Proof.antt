@@ -2,8 +2,8 @@ use Prim.Native.Nat.{ℕ, _≤_, _<_, _-_, _+_, _*_, _/_}
 use mathlib.Core.Path.{_≡_}
 use lib.ListN.{length}
 use borrow.Author.Needs.{needs}
-use Rattle.test_cards.proofs.request.all.Statement.{statement}
-use Rattle.test_cards.proofs.request.all.Tie as tie
+use Rattle.test_requests.proofs.all.Statement.{statement}
+use Rattle.test_requests.proofs.all.Tie as tie
 
 abbrev Inv-loop : tie.InvT-loop
 Inv-loop s value i₀ i = i ≤ length s

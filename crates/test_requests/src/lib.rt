@@ -1,7 +1,4 @@
 // Requests on a card, and blocks set between them.
-use crate::codes::codes;
-use crate::numbers::at16;
-use crate::spelt;
 use answers::refusal::Answer;
 use byte_parts::spans;
 use card_build::card::Card;
@@ -9,6 +6,9 @@ use request_plan::Reply;
 use request_plan::Response;
 use request_serve::reading;
 use request_serve::writing;
+use test_spelt::codes::codes;
+use test_spelt::numbers::at16;
+use test_spelt::spelt;
 use test_stored::number16;
 ghost use Prim.Native.Nat.{_≤_};
 ghost use lib.ListN.{length};
@@ -186,7 +186,7 @@ fn served(
 }
 
 // A line `R` or `W`.
-pub(crate) fn request(card: Card, arena: &mut [u8], line: &[u8]) -> bool {
+pub fn request(card: Card, arena: &mut [u8], line: &[u8]) -> bool {
     let mut names = [0u16; 64];
     let n = named(line, &mut names);
     let mut list = [0u8; 2048];
@@ -207,7 +207,7 @@ pub(crate) fn request(card: Card, arena: &mut [u8], line: &[u8]) -> bool {
 }
 
 // A line `b`: code, number, block.
-pub(crate) fn set(card: Card, arena: &mut [u8], b: &[u8]) -> bool {
+pub fn set(card: Card, arena: &mut [u8], b: &[u8]) -> bool {
     if b.len() != 20 {
         return false;
     }

@@ -16,7 +16,7 @@ fn put_code(list: &mut [u16], n: usize, code: u16) -> usize
 }
 
 // Puts the codes that bytes spell, high byte first, into a list, as many as it holds; gives how many they are.
-pub(crate) fn codes(b: &[u8], list: &mut [u16]) -> usize
+pub fn codes(b: &[u8], list: &mut [u16]) -> usize
     ensures { λ r. ⌜ r ≤ length (now (list .entry)) ⌝ }
 {
     let mut n = 0;
