@@ -1,30 +1,61 @@
 /*
  * Uluvoli: a soft FeliCa card, as a static library.
  *
- * The card is a value of ULUVOLI_CARD_SIZE bytes that the caller keeps; the blocks of its services lie in an arena that
- * the caller lends. Nothing else is kept between calls: no allocation, no global, no lock. Card and arena belong
+ * The card is a value of ULUVOLI_CARD_SIZE bytes that the caller keeps; the blocks of its services lie in an arena
+ * that the caller lends. Nothing else is kept between calls: no allocation, no global, no lock. Card and arena belong
  * together: save and restore both, or neither.
  *
  * What every call returns
  *   0                      done; of a read, a write or a board that is the status pair 00 00
  *   cause << 24 | SF1 << 8 | SF2
- *                          another status pair, of a read, a write or a board (uluvoli_pair), and which A5 it was (uluvoli_cause)
+ *                          another status pair, of a read, a write or a board (uluvoli_pair), and which A5 it was
+ *                          (uluvoli_cause)
  *   number << 16           a refusal (uluvoli_refusal): it has no status pair
- * uluvoli_end_of says which of the three it is. A refusal leaves every byte that the caller lent as it was; a pair other than 00 00 leaves card, arena and output as
- * they were. A number or flag that a call answers is written through its last pointers, only where it returns 0. Each
- * call below lists the refusals that it can give: the first that holds is given.
+ * uluvoli_end_of says which of the three it is. A refusal leaves every byte that the caller lent as it was; a pair
+ * other than 00 00 leaves card, arena and output as they were. A number or flag that a call answers is written
+ * through its last pointers, only where it returns 0. Each call below lists the refusals that it can give: the first
+ * that holds is given.
  *
  * What the library checks, and what it cannot
- *   Every call on a card checks its bytes: a length other than ULUVOLI_CARD_SIZE, bytes that no card is written as, and
- *   cards that no accepted calls build, are refusal 8. An arena, a staging or an output that is too short is refused
- *   too, and no call reads or writes past the lengths given to it.
- *   It cannot check the pointers: each must be valid for as many elements as the length after it says, aligned for its
- *   type, and not null, even where the length is 0. A part that a call writes may overlap no other part of that call.
- *   Two calls may run at once only if neither writes what the other is lent. A call takes at most ULUVOLI_STACK bytes of
- *   stack, on any card; that is measured, not proved, and what a signal handler takes on the same stack comes on top.
- *   All or nothing holds between calls. A process that is killed, or loses power, within a call leaves card and arena as
- *   far as they were written by then: whoever has to be safe from that works on a copy, and stores card and arena together
- *   once the call has returned.
+ *   Every call on a card checks its bytes: a length other than ULUVOLI_CARD_SIZE, bytes that no card is written as,
+ *   and cards that no accepted calls build, are refusal 8. An arena, a staging or an output that is too short is
+ *   refused too, and no call reads or writes past the lengths given to it.
+ *   It cannot check the pointers: each must be valid for as many elements as the length after it says, aligned for
+ *   its type, and not null, even where the length is 0. A part that a call writes may overlap no other part of that
+ *   call. Two calls may run at once only if neither writes what the other is lent. A call takes at most ULUVOLI_STACK
+ *   bytes of stack, on any card; that is measured, not proved, and what a signal handler takes on the same stack
+ *   comes on top.
+ *   All or nothing holds between calls. A process that is killed, or loses power, within a call leaves card and arena
+ *   as far as they were written by then: whoever has to be safe from that works on a copy, and stores card and arena
+ *   together once the call has returned.
+ *
+ * What a client has to know of a card
+ *   Codes. The upper ten bits of a service's code are its number; the services of a number share one store and are of
+ *   one kind. The lower six bits are its attribute. Bit 0 is the key bit: an even code needs a key, so that open
+ *   requests are A5 there (cause 1), and an odd one is key-free. An area's code has no such bit.
+ *     08, 09  random, read/write    0C, 0D  cyclic, read/write    10, 11  purse, direct      14, 15  purse, decrement
+ *     0A, 0B  random, read-only     0E, 0F  cyclic, read-only     12, 13  purse, cashback    16, 17  purse, read-only
+ *   Depths. The root has depth 0 and is there from the start; what lies right under it has depth 1; 8 is the last.
+ *   Versions. A node's `version` is its key version: it is kept for uluvoli_key_version and does nothing else. That
+ *   of a card is its system's, which the code FFFF asks for; the root's is 0000.
+ *   Random stores. The data of an element become the block. Of two elements for one block the later one stays.
+ *   Rings. Block 0 of a cyclic store is the newest. Every element of a write names block 0; the elements of a number
+ *   that stand together are a run, which goes in front in its order, so that its first is block 0 afterwards and the
+ *   oldest blocks are lost. A run equal to what the store begins with does not turn it. A read may name any block.
+ *   Purses. A block has three numbers, low byte first: the purse in bytes 0 to 3, the cashback in 4 to 7, the
+ *   execution id in 12 to 15. In data, bytes 0 to 3 are the amount. Purse, cashback and amount are signed just where
+ *   the code that the element names has a limit (the first service of that code), and then the purse stays within it.
+ *   All of a new store is zero: uluvoli_set_block fills a purse. A decrement takes the amount away and keeps it as
+ *   the cashback. Access mode 1, on a cashback service alone, gives back: the amount, which may not be above the
+ *   stored cashback, is added to the purse, and the cashback falls to 0. In mode 0 such a service decrements. Both
+ *   keep bytes 8 to 11 and store the id; under the stored id they change nothing and are 00 00. A direct write stores
+ *   all 16 bytes and can raise neither purse nor cashback. Reads have mode 0 alone.
+ *   Limits. uluvoli_set_limit takes the upper bound first. A lower one above it is accepted; no purse is within then.
+ *   Data and staging. Data beyond 16 bytes an element are passed over. A write zeroes the staging that it needs, 16
+ *   bytes for each block in use, and leaves what is beyond it. A staging as long as the arena always does.
+ *   None. A request that counts 0 elements, with a list of 0 bytes, is 00 00 whatever codes it has, unless it is
+ *   refused. A service may have 0 blocks. uluvoli_total of FFFF is 0: the whole card's is that of 0000.
+ *   Machine. The library is for x86-64 alone.
  */
 #ifndef ULUVOLI_H
 #define ULUVOLI_H
@@ -77,7 +108,7 @@ enum {
     ULUVOLI_NO_PARENT = 21,                  /* no parent at that depth, or a depth of 0 or over 8 */
     ULUVOLI_NO_ROOM = 22,                    /* too few unused blocks in the arena */
     ULUVOLI_NO_SUCH_BLOCK = 23,              /* no such service, or no block of that number */
-    ULUVOLI_COUNTS_DIFFER = 24,              /* the number's store has another block count, and the card does not join */
+    ULUVOLI_COUNTS_DIFFER = 24,              /* the store has another block count, and the card does not join */
     ULUVOLI_NOT_A_SERVICE = 28,              /* a limit for a node that is no service */
     ULUVOLI_NOT_A_BLOCK = 30,                /* a block to set that is not sixteen bytes */
     ULUVOLI_RACES_DIFFER = 40,               /* two filled lanes of a board are of different races */
@@ -90,8 +121,8 @@ enum {
     ULUVOLI_NOT_A_MESSAGE = 47               /* bytes that are no message */
 };
 
-/* Status flag 2. Status flag 1 is the place of the element that failed, 1 to 254; FF is no place: it is told for the 255th
- * element, for all after it, and for short data. */
+/* Status flag 2. Status flag 1 is the place of the element that failed, 1 to 254; FF is no place: it is told for the
+ * 255th element, for all after it, and for short data. */
 enum {
     ULUVOLI_SF2_OUTSIDE_WORD = 0x01,         /* a purse without limits would leave 0 to 4,294,967,295 */
     ULUVOLI_SF2_CASHBACK_EXCEEDS = 0x02,     /* a cashback above the stored one */
@@ -114,7 +145,7 @@ enum {
     ULUVOLI_CAUSE_CYCLIC_BLOCK = 4,          /* a cyclic write that does not name block 0 */
     ULUVOLI_CAUSE_PURSE_RAISED = 5,          /* a direct write that would raise the purse */
     ULUVOLI_CAUSE_CASHBACK_RAISED = 6,       /* a direct write that would raise the cashback */
-    ULUVOLI_CAUSE_SUM_TOO_LARGE = 7          /* a direct write whose cashback and the stored purse are too much together */
+    ULUVOLI_CAUSE_SUM_TOO_LARGE = 7          /* a direct write: its cashback and the stored purse exceed FFFFFFFF */
 };
 
 /* How a call ended. */
@@ -135,7 +166,8 @@ static inline enum uluvoli_end uluvoli_end_of(uint32_t answer) {
 /* Which A5 a read or a write was told, 1 to 7; 0 for every other answer. */
 static inline uint32_t uluvoli_cause(uint32_t answer) { return answer >> 24; }
 
-/* Gives the status pair of a read, a write or a board, 00 00 too, and true. A refusal has none: false, and the flags stay. */
+/* Gives the status pair of a read, a write or a board, 00 00 too, and true. A refusal has none: false, and the flags
+ * stay. */
 static inline bool uluvoli_pair(uint32_t answer, uint8_t *sf1, uint8_t *sf2) {
     if (uluvoli_end_of(answer) == ULUVOLI_REFUSED) {
         return false;
@@ -193,8 +225,8 @@ typedef struct uluvoli_lane {
 } uluvoli_lane;
 
 /* Reads the first eight blocks of the service `code`, one request in a session, and writes the board that they make to
- * the front of `lanes`: ULUVOLI_LANES records of uluvoli_lane, lane 1 first. `lanes_len` counts bytes. Refusals: 8, 7, 5
- * (for `lanes_len`); a status pair; then 41, 42, 43 lane by lane, and 40. */
+ * the front of `lanes`: ULUVOLI_LANES records of uluvoli_lane, lane 1 first. `lanes_len` counts bytes. Refusals: 8, 7,
+ * 5 (for `lanes_len`); a status pair; then 41, 42, 43 lane by lane, and 40. */
 uint32_t uluvoli_board(const uint8_t *card, size_t card_len, const uint8_t *arena, size_t arena_len, uint16_t code,
                        uint8_t *lanes, size_t lanes_len);
 
@@ -224,11 +256,11 @@ uint32_t uluvoli_service_list(const uint8_t *card, size_t card_len, const uint16
 uint32_t uluvoli_stored_block(const uint8_t *card, size_t card_len, const uint8_t *arena, size_t arena_len,
                               uint16_t code, uint32_t number, size_t *offset);
 
-/* ---- messages: what a card has, for a program that has no card. Numbers of 16 bits go low byte first. `bytes` is how many
- * bytes a message has; those behind them stay as they were. */
+/* ---- messages: what a card has, for a program that has no card. Numbers of 16 bits go low byte first. `bytes` is how
+ * many bytes a message has; those behind them stay as they were. */
 
-/* Writes a packet of the direct children of the area `parent` to the front of `out` as a code list: a flag, 1 where more
- * packets follow; how many areas, code and end of each; how many services, their codes. Packet p, from 0 on, holds
+/* Writes a packet of the direct children of the area `parent` to the front of `out` as a code list: a flag, 1 where
+ * more packets follow; how many areas, code and end of each; how many services, their codes. Packet p, from 0 on, holds
  * children 16 p to 16 p + 15 in tree order, areas and services counted together; packet 0 always exists. The first area
  * of a code answers: one inside an area of its own code cannot be asked for, and a walk must not try.
  * ULUVOLI_CODE_LIST_MOST bytes are room for any. Refusals: 8, 44, 45, 5. */
