@@ -41,8 +41,8 @@ static uint32_t write_lanes(uint8_t first, const char *first_crew, uint8_t secon
     uint8_t data[2 * ULUVOLI_BLOCK_SIZE];
     draw(data, first, 7, first_crew);
     draw(data + ULUVOLI_BLOCK_SIZE, second, 7, second_crew);
-    return uluvoli_write(card, sizeof card, arena, sizeof arena, staging, sizeof staging, true, marshal_code, 1, 2, list,
-                         sizeof list, data, sizeof data);
+    return uluvoli_write(card, sizeof card, arena, sizeof arena, staging, sizeof staging, true, marshal_code, 1, 2,
+                         list, sizeof list, data, sizeof data);
 }
 
 /* Prints how a call ended. */

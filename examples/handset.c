@@ -65,7 +65,7 @@ static void read_lanes(void) {
     }
 }
 
-/* Lowers the purse by an amount, under an execution id of its own. */
+/* Lowers the purse by an amount, under an execution id of its own, and prints what is stored then. */
 static void spend(uint8_t amount, uint8_t id) {
     static const uint8_t list[] = {0x80, 0};
     uint8_t data[ULUVOLI_BLOCK_SIZE] = {0};
@@ -74,10 +74,11 @@ static void spend(uint8_t amount, uint8_t id) {
     data[12] = id;
     tell("practice on credit", uluvoli_write(card, sizeof card, arena, sizeof arena, staging, sizeof staging, true,
                                              credit_code, 1, 1, list, sizeof list, data, sizeof data));
-    tell("where the purse is",
-         uluvoli_stored_block(card, sizeof card, arena, sizeof arena, credit_code[0], 0, &offset));
-    printf("    purse at %u: %02X %02X %02X %02X\n", (unsigned)offset, (unsigned)arena[offset],
-           (unsigned)arena[offset + 1], (unsigned)arena[offset + 2], (unsigned)arena[offset + 3]);
+    uint32_t answer = uluvoli_stored_block(card, sizeof card, arena, sizeof arena, credit_code[0], 0, &offset);
+    if (tell("where the purse is", answer) == 0) {
+        printf("    purse at %u: %02X %02X %02X %02X\n", (unsigned)offset, (unsigned)arena[offset],
+               (unsigned)arena[offset + 1], (unsigned)arena[offset + 2], (unsigned)arena[offset + 3]);
+    }
 }
 
 /* What can be asked of the tree. */
@@ -89,8 +90,9 @@ static void ask(void) {
     for (size_t i = 0; i < nodes; i++) {
         printf("    %04X %04X\n", (unsigned)pairs[2 * i], (unsigned)pairs[2 * i + 1]);
     }
-    tell("total of area 1000", uluvoli_total(card, sizeof card, 0x1000, &blocks));
-    printf("    %u blocks\n", (unsigned)blocks);
+    if (tell("total of area 1000", uluvoli_total(card, sizeof card, 0x1000, &blocks)) == 0) {
+        printf("    %u blocks\n", (unsigned)blocks);
+    }
 }
 
 int main(void) {
@@ -108,5 +110,6 @@ int main(void) {
     spend(1, 2);
     card[0] = 99; /* bytes that no calls build: every call refuses them */
     read_lanes();
+    spend(1, 3);
     return 0;
 }
