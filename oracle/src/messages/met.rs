@@ -1,7 +1,7 @@
 //! What the calls of a list meet, for the counts: what their questions meet in a text, and what the calls of the
 //! library have beside them.
 
-use super::needed;
+use super::{ARENAS, needed};
 use crate::counts::Counts;
 use crate::inspect::line::Question;
 use crate::inspect::lists::PACKET;
@@ -82,6 +82,11 @@ impl Met {
         self.when(longer, format!("{}: longer room", asked.name()));
     }
 
+    /// Notes that an arena of this length was lent.
+    pub fn arena(&mut self, length: usize) {
+        self.when(true, format!("an arena of {length} bytes"));
+    }
+
     /// Notes what such a call met on bytes that are no card's, by what it would be told of the card.
     pub fn unbuilt(&mut self, asked: &Question, way: usize, told: &Result<String, Refusal>) {
         let name = asked.name();
@@ -154,8 +159,9 @@ fn all() -> impl Iterator<Item = String> {
         ahead.into_iter().chain(ways).chain(others)
     });
     let read = (READERS.into_iter()).flat_map(|name| READ.map(|what| format!("{name}{what}")));
+    let arenas = ARENAS.map(|length| format!("an arena of {length} bytes"));
     let others = JOINS.into_iter().chain([ONE_TOO_MANY]).map(String::from);
-    asked.chain(written).chain(read).chain(others)
+    asked.chain(written).chain(read).chain(arenas).chain(others)
 }
 
 /// What a list did not meet.

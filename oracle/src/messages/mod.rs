@@ -18,11 +18,11 @@ use crate::refusal::{NOT_BUILT, OUTPUT_SHORT, Refusal};
 use crate::replay::fields::bytes;
 use crate::replay::{self, ARENA, line::image};
 use crate::texts::line::Line;
-use crate::tree::{Addition, Card};
+use crate::tree::{Addition, Card, MOST_BLOCKS, usable};
 use met::{Met, WAYS};
 
 /// Length and seed of the list that is small enough to be stored.
-pub const SMALL: (usize, u64) = (52, 1);
+pub const SMALL: (usize, u64) = (53, 1);
 
 /// The root of the first cards of a list has so many children, about as many as fill packets.
 const CHILDREN: [u16; 7] = [15, 16, 17, 31, 32, 33, 63];
@@ -39,11 +39,17 @@ const ENTRIES: [(usize, usize); 8] = [
     (1, 255),
 ];
 
-/// This many cards, fixed by the seed; each text is a card with its calls.
+/// Lengths in bytes of arenas about the largest that can be used, 4,096 blocks, and beyond it.
+pub const ARENAS: [usize; 9] = [
+    65_519, 65_520, 65_535, 65_536, 65_537, 65_551, 65_552, 69_999, 70_000,
+];
+
+/// This many cards, fixed by the seed; each text is a card with its calls. The last one is lent the largest arenas.
 pub fn all(length: usize, seed: u64) -> List {
     let mut random = Random::new(seed);
     let mut counts = Counts::default();
-    let texts = (0..length).map(|at| {
+    let drawn = (1..length).map(|number| {
+        let at = number - 1;
         let text = match CHILDREN.get(at) {
             Some(&children) => wide(&mut random, children),
             None => drawn::tree(&mut random),
@@ -55,7 +61,14 @@ pub fn all(length: usize, seed: u64) -> List {
         draft.others();
         draft.finished(&mut counts)
     });
-    (texts.collect(), counts)
+    let mut texts: Vec<String> = drawn.collect();
+    let mut last = Draft::of(
+        &mut random,
+        b"card\t0001\t0000\narea\t1\t0100\t01FF\t0000\n",
+    );
+    last.arenas();
+    texts.push(last.finished(&mut counts));
+    (texts, counts)
 }
 
 /// A card whose root has so many children, an area after every two services, and each packet of the root.
@@ -168,6 +181,42 @@ impl<'a> Draft<'a> {
             self.put(Question::ReadList(bytes.clone()));
             self.put(Question::ReadInfo(bytes));
         }
+    }
+
+    /// Block information with each of the largest arenas: with no block in use, so that 4,096 are free at most; with all
+    /// but one, and with all. Between them, with each of them, a store of one block more than is free: 22, or 7.
+    fn arenas(&mut self) {
+        self.informed();
+        for blocks in [MOST_BLOCKS - 1, 1] {
+            for arena in ARENAS {
+                self.put(Question::Arena(arena));
+                let free = usable(arena).saturating_sub(self.card.used());
+                self.add(0x2049, free + 1);
+            }
+            self.add(if blocks == 1 { 0x2049 } else { 0x1049 }, blocks);
+            self.informed();
+        }
+    }
+
+    /// Block information of root, area and two services with each of the largest arenas.
+    fn informed(&mut self) {
+        for arena in ARENAS {
+            self.put(Question::Arena(arena));
+            self.met.arena(arena);
+            self.put(Question::Info(vec![0x0000, 0x0100, 0x1049, 0x2049]));
+        }
+    }
+
+    /// The line of a service under the root, taken or not.
+    fn add(&mut self, code: u16, blocks: u32) {
+        let service = Addition::Service {
+            depth: 1,
+            code,
+            blocks,
+            version: 0x0000,
+        };
+        let refusal = self.card.add(self.arena, service).err().unwrap_or(0);
+        self.list += &lines::addition(service, refusal, self.card.used());
     }
 
     /// Calls of every kind, mostly about what the card has, some with another arena.

@@ -1,6 +1,7 @@
 //! Replay texts: those that are the same for every seed, then random ones of every kind; and what
 //! is printed for them.
 
+mod ahead;
 pub mod boards;
 mod edges;
 mod image;
@@ -22,7 +23,7 @@ use served::Taste;
 use std::collections::VecDeque;
 
 /// Length and seed of the list that is stored.
-pub const SMALL: (usize, u64) = (698, 1);
+pub const SMALL: (usize, u64) = (701, 1);
 
 /// Texts with boards come after so many random ones: those stored before there were boards keep their
 /// numbers.
@@ -62,12 +63,13 @@ impl Text {
 }
 
 /// This many texts, fixed by the seed, and what they met. The last are those of writes that are sent
-/// twice, and of services that join.
+/// twice, of services that join, and of what comes ahead of what.
 pub fn all(length: usize, seed: u64) -> (Vec<Text>, Counts) {
     let mut counts = Counts::default();
     let resent = resent::texts().map(|input| ("sent twice", input));
     let joined = joins::texts().map(|input| ("joined", input));
-    let last: Vec<_> = resent.chain(joined).collect();
+    let ahead = ahead::texts().map(|input| ("ahead", input));
+    let last: Vec<_> = resent.chain(joined).chain(ahead).collect();
     let drawn = Texts::new(seed).take(length.saturating_sub(last.len()));
     let last = last.into_iter().map(|(kind, input)| Text::new(kind, input));
     let texts: Vec<Text> = drawn.chain(last).collect();
