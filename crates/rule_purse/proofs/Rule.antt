@@ -11,7 +11,6 @@ use Rattle.service_code.specs.declared.limit.Limit.{Limit}
 use Rattle.rule_purse.specs.declared.fields.PurseData.{PurseData}
 use Rattle.rule_purse.specs.declared.fields.PurseWrite.{PurseWrite}
 use Rattle.rule_purse.specs.declared.fields.PurseWrite.the-variants.{Unchanged, Whole, Failed}
-use Rattle.rule_purse.specs.declared.fields.Sum.{Sum}
 use Rattle.rule_purse.specs.Purse.{valueOf, insideOf, outsideOf, sumOf, storedOf, purseRule}
 
 module _ (limit : Limit) (s c : PurseData) where
@@ -60,10 +59,10 @@ module _ (limit : Limit) (s c : PurseData) where
   module _ (h : c .id ≡ s .id → ⊥) where
     -- A decrement with another one, by its difference.
     pub decrement-other
-        : (r : Sum) → r ≡ sumOf limit (valueOf limit (s .purse) -ℤ valueOf limit (c .purse)) → (w : PurseWrite) → w ≡ storedOf limit (c .purse) r
+        : (w : PurseWrite) → w ≡ storedOf limit (c .purse) (sumOf limit (valueOf limit (s .purse) -ℤ valueOf limit (c .purse)))
         → w ≡ purseRule Decrement limit s c
     unfolding purseRule
-    decrement-other r er w ew = rw (ne-eqb (c .id) (s .id) h, sym er) ew
+    decrement-other w ew = rw (ne-eqb (c .id) (s .id) h) ew
 
     -- A cashback with another one, by the test of its amount and by its sum.
     module _ (b : Bool) (eb : b ≡ ltZ (valueOf limit (s .cashback)) (valueOf limit (c .purse))) where
@@ -74,7 +73,7 @@ module _ (limit : Limit) (s c : PurseData) where
 
       -- Another amount, by its sum.
       pub cashback-other
-          : b ≡ false → (r : Sum) → r ≡ sumOf limit (valueOf limit (s .purse) +ℤ valueOf limit (c .purse)) → (w : PurseWrite) → w ≡ storedOf limit 0 r
+          : b ≡ false → (w : PurseWrite) → w ≡ storedOf limit 0 (sumOf limit (valueOf limit (s .purse) +ℤ valueOf limit (c .purse)))
           → w ≡ purseRule Cashback limit s c
       unfolding purseRule
-      cashback-other tb r er w ew = rw (ne-eqb (c .id) (s .id) h, sym eb ∙ tb, sym er) ew
+      cashback-other tb w ew = rw (ne-eqb (c .id) (s .id) h, sym eb ∙ tb) ew

@@ -9,7 +9,7 @@ use byte_parts::spans;
 use byte_parts::word;
 use service_code::limit::Limit;
 ghost use mathlib.Core.Path.{_≡_};
-ghost use Prim.Native.Nat.{_≤_};
+ghost use Prim.Native.Nat.{_+_, _≤_};
 ghost use lib.ListN.{length, drop};
 ghost use Rattle.byte_parts.specs.Part.{put};
 ghost use Rattle.byte_parts.specs.Sizes.{blockSize};
@@ -28,12 +28,20 @@ fn purse_data(block: &[u8]) -> PurseData
     }
 }
 
+// Gives a block `n` bytes of a command, from `at` on in both.
+fn take_over(block: &mut [u8], command: &[u8], at: usize, n: usize)
+    requires { ⌜ (at + n ≤ length (now block)) × (at + n ≤ length (now command)) ⌝ }
+    ensures { λ _. ⌜ now (block .exit) ≡ put (now (block .entry)) at n (drop at (now (command .entry))) ⌝ }
+{
+    spans::copy(block, at, command, at, n);
+}
+
 // Gives a block the execution id of a command.
 fn put_id(block: &mut [u8], command: &[u8])
     requires { ⌜ (blockSize ≤ length (now block)) × (blockSize ≤ length (now command)) ⌝ }
     ensures { λ _. ⌜ now (block .exit) ≡ put (now (block .entry)) 12 4 (drop 12 (now (command .entry))) ⌝ }
 {
-    spans::copy(block, 12, command, 12, 4);
+    take_over(block, command, 12, 4);
 }
 
 // Carries a purse write out on `block`, with the fields of `command`. Bytes 8 to 11 are the user's own: only a direct write touches them.

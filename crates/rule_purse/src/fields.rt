@@ -184,6 +184,13 @@ fn not_raised(limit: Limit, stored: PurseData, command: PurseData) -> PurseWrite
     }
 }
 
+// Takes an amount from a purse: it becomes the cashback.
+fn lowered(limit: Limit, stored: PurseData, amount: u32) -> PurseWrite
+    ensures { λ r. ⌜ r ≡ storedOf limit amount (sumOf limit (valueOf limit (stored .purse) -ℤ valueOf limit amount)) ⌝ }
+{
+    stored_of(limit, amount, less(limit, stored.purse, amount))
+}
+
 // Decrements: the amount leaves the purse and becomes the cashback. A command that was carried out already, as its execution id says,
 // changes nothing, ahead of any test of the amount: so a terminal may send it again.
 fn decrement(limit: Limit, stored: PurseData, command: PurseData) -> PurseWrite
@@ -192,11 +199,14 @@ fn decrement(limit: Limit, stored: PurseData, command: PurseData) -> PurseWrite
     if command.id == stored.id {
         return PurseWrite::Unchanged;
     }
-    stored_of(
-        limit,
-        command.purse,
-        less(limit, stored.purse, command.purse),
-    )
+    lowered(limit, stored, command.purse)
+}
+
+// Returns an amount to a purse: nothing is held any more.
+fn returned(limit: Limit, held: PurseData, amount: u32) -> PurseWrite
+    ensures { λ r. ⌜ r ≡ storedOf limit 0 (sumOf limit (valueOf limit (held .purse) +ℤ valueOf limit amount)) ⌝ }
+{
+    stored_of(limit, 0, more(limit, held.purse, amount))
 }
 
 // Gives back: an amount up to the cashback that is held returns to the purse, and nothing is held any more. A command that was carried
@@ -210,7 +220,7 @@ fn cashback(limit: Limit, held: PurseData, command: PurseData) -> PurseWrite
     if below(limit, held.cashback, command.purse) {
         return PurseWrite::Failed(Fault::CashbackExceeds);
     }
-    stored_of(limit, 0, more(limit, held.purse, command.purse))
+    returned(limit, held, command.purse)
 }
 
 // Decides what a write makes of a purse block, from the fields of the block and of the command.

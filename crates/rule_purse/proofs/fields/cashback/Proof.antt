@@ -16,4 +16,4 @@ returns-3 c = search cashback-other
 pub cashback-spec : {M : Type 1} → statement M
 cashback-spec =
     tie.close
-    (tie.spec returns (λ c κs. search needs) returns-2 (λ c κs. search needs) (λ c κs. search needs) returns-3)
+    (tie.spec returns (λ c κs. search needs) returns-2 (λ c κs. search needs) returns-3)

@@ -11,4 +11,4 @@ returns-2 : tie.Need-returns-2
 returns-2 c = search decrement-other
 
 pub decrement-spec : {M : Type 1} → statement M
-decrement-spec = tie.close (tie.spec returns (λ c κs. search needs) (λ c κs. search needs) returns-2)
+decrement-spec = tie.close (tie.spec returns (λ c κs. search needs) returns-2)
