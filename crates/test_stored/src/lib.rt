@@ -4,6 +4,7 @@ use text_numbers::codes::Code;
 use text_numbers::codes::read_hex16;
 ghost use mathlib.Core.Path.{_≡_};
 ghost use Prim.Native.Nat.{_+_, _*_, _%_, _^_, _≤_, _<_};
+ghost use lib.Dec.{ltb};
 ghost use lib.ListN.{length};
 
 // More lines than the stored files have.
@@ -54,12 +55,19 @@ fn byte_at(line: &[u8], i: usize) -> u16
     }
 }
 
+// Tells whether a buffer of `len` bytes has an index `n`.
+fn has_room(n: usize, len: usize) -> bool
+    ensures { λ r. ⌜ r ≡ ltb n len ⌝ }
+{
+    n < len
+}
+
 // Puts a byte at an index, if there is room; gives the next index.
 fn put(out: &mut [u8], n: usize, b: u8) -> usize
     requires { ⌜ n ≤ length (now out) ⌝ }
     ensures { λ r. ⌜ r ≤ length (now (out .entry)) ⌝ }
 {
-    if n < out.len() {
+    if has_room(n, out.len()) {
         out[n] = b;
         return n + 1;
     }
