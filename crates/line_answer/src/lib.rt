@@ -11,6 +11,7 @@ ghost use lib.ListN.{length};
 ghost use Rattle.text_numbers.specs.Hex.{hexText};
 ghost use Rattle.text_stream.specs.Stream.{Written};
 ghost use Rattle.text_print.specs.Print.{closed};
+ghost use Rattle.request_plan.specs.Request.{causeIn};
 ghost use Rattle.line_answer.specs.Answer.{whereText, statusFields, refusalFields, answerFields, causeText, answerText, refusedText};
 
 // Puts where an error is and a tab, and answers the place after them: `-` for a status flag 1 of 00; `*` for FF, which stands for every place from
@@ -90,6 +91,24 @@ fn put_cause(cause: u8, out: &mut [u8], at: usize) -> usize
     put_mark(b'0' + cause, b'\n', out, at)
 }
 
+// Puts the cause of a reply and the LF that ends its line, and answers the place after them.
+fn put_caused(reply: Reply, out: &mut [u8], at: usize) -> usize
+    requires { ⌜ at + 2 ≤ length (now out) ⌝ }
+    ensures { λ r. ⌜ Written (now (out .entry)) at (closed 10 (causeText (causeIn reply))) r (now (out .exit)) ⌝ }
+    ensures { λ r. ⌜ r ≤ at + 2 ⌝ }
+{
+    put_cause(reply.cause(), out, at)
+}
+
+// Puts what ends a refused line, no cause and LF, and answers the place after it.
+fn put_end(out: &mut [u8], at: usize) -> usize
+    requires { ⌜ at + 2 ≤ length (now out) ⌝ }
+    ensures { λ r. ⌜ Written (now (out .entry)) at (closed 10 (45 ∷ [])) r (now (out .exit)) ⌝ }
+    ensures { λ r. ⌜ r ≤ at + 2 ⌝ }
+{
+    put_mark(b'-', b'\n', out, at)
+}
+
 // Puts the line that answers a request into `out` from `at` on, and answers the place after it.
 pub fn put_answer(ordinal: u64, reply: Reply, read: &[u8], out: &mut [u8], at: usize) -> usize
     requires { ⌜ at + length (now read) + length (now read) + 64 ≤ length (now out) ⌝ }
@@ -98,7 +117,7 @@ pub fn put_answer(ordinal: u64, reply: Reply, read: &[u8], out: &mut [u8], at: u
 {
     let five = put_fields(ordinal, reply, read, out, at);
     out[five] = b'\t';
-    put_cause(reply.cause(), out, five + 1)
+    put_caused(reply, out, five + 1)
 }
 
 // Puts the line of a request that is refused with this number into `out` from `at` on, and answers the place after it.
@@ -109,5 +128,5 @@ pub fn put_refused(ordinal: u64, number: u8, out: &mut [u8], at: usize) -> usize
 {
     let tab = put_refusal(ordinal, number, out, at);
     out[tab] = b'\t';
-    put_mark(b'-', b'\n', out, tab + 1)
+    put_end(out, tab + 1)
 }

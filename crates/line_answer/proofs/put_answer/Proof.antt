@@ -1,37 +1,29 @@
 -- `line_answer::put_answer` meets its contract: the five fields, a tab, the cause and LF. Assumes nothing.
 use borrow.Author.Needs.{needs}
 use native.Mathlib.Omega.{arith}
-use mathlib.Core.Path.{_≡_}
 use lib.ListN.{length-set}
 use denote.Ref.{now}
 use Rattle.text_stream.proofs.Prints.{written-more, written-byte}
 use Rattle.request_plan.specs.Request.{causeIn}
-use Rattle.request_plan.proofs.Causes.{most-cause}
 use Rattle.text_print.specs.Print.{closed}
 use Rattle.line_answer.specs.Answer.{answerFields, causeText}
 use Rattle.line_answer.proofs.put_answer.Statement.{statement}
 use Rattle.line_answer.proofs.put_answer.Tie as tie
 
--- a cause is one digit
-put-cause-requires : tie.Need-put-cause-requires
-put-cause-requires c κs =
-    let k = c .before in
-    let a = k .before .before .before .before .before .before .before .args in
-    (rw (k .cause .ensures) (omega (arith, most-cause (a .reply))), simp length-set (omega arith))
+put-caused-requires : tie.Need-put-caused-requires
+put-caused-requires c κs = simp length-set (omega arith)
 
 same-length : tie.Need-same-length
-same-length c = omega (arith, simp length-set at (c .before .before .put-cause .kept .1 .0))
+same-length c = omega (arith, simp length-set at (c .before .before .put-caused .kept .1 .0))
 
 returns : tie.Need-returns
 returns c =
     let q = c .before .before in
-    let k = q .before .before in
-    let p = k .before .before .before in
+    let p = q .before .before .before .before in
     let a = p .before .before .before .before .args in
-    let e : k .cause .result ≡ causeIn (a .reply) = k .cause .ensures in
     let w = written-byte (answerFields (a .ordinal) (a .reply) (now (a .read))) 9 (p .put-fields .ensures .0) in (
-      written-more (closed 9 (answerFields (a .ordinal) (a .reply) (now (a .read)))) (closed 10 (causeText (causeIn (a .reply)))) w (rw (← e) (q .put-cause .ensures .0)),
-      omega (arith, p .put-fields .ensures .1, q .put-cause .ensures .1),
+      written-more (closed 9 (answerFields (a .ordinal) (a .reply) (now (a .read)))) (closed 10 (causeText (causeIn (a .reply)))) w (q .put-caused .ensures .0),
+      omega (arith, p .put-fields .ensures .1, q .put-caused .ensures .1),
     )
 
 pub put-answer-spec : {M : Type 1} → statement M
@@ -40,8 +32,7 @@ put-answer-spec =
     (tie.spec
     (λ c κs. search needs)
     (λ c. search needs)
-    (λ c κs. search needs)
     (λ c. search needs)
-    put-cause-requires
+    put-caused-requires
     same-length
     returns)

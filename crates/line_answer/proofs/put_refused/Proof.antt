@@ -9,11 +9,11 @@ use Rattle.line_answer.specs.Answer.{refusalFields}
 use Rattle.line_answer.proofs.put_refused.Statement.{statement}
 use Rattle.line_answer.proofs.put_refused.Tie as tie
 
-put-mark-requires : tie.Need-put-mark-requires
-put-mark-requires c κs = simp length-set (omega arith)
+put-end-requires : tie.Need-put-end-requires
+put-end-requires c κs = simp length-set (omega arith)
 
 same-length : tie.Need-same-length
-same-length c = omega (arith, simp length-set at (c .before .before .put-mark .kept .1 .1 .0))
+same-length c = omega (arith, simp length-set at (c .before .before .put-end .kept .0))
 
 returns : tie.Need-returns
 returns c =
@@ -21,8 +21,8 @@ returns c =
     let p = q .before .before .before .before in
     let a = p .before .before .before .args in
     let w = written-byte (refusalFields (a .ordinal) (a .number)) 9 (p .put-refusal .ensures .0) in (
-      written-more (closed 9 (refusalFields (a .ordinal) (a .number))) (closed 10 (45 ∷ [])) w (q .put-mark .ensures .0),
-      omega (arith, p .put-refusal .ensures .1, q .put-mark .ensures .1),
+      written-more (closed 9 (refusalFields (a .ordinal) (a .number))) (closed 10 (45 ∷ [])) w (q .put-end .ensures .0),
+      omega (arith, p .put-refusal .ensures .1, q .put-end .ensures .1),
     )
 
 pub put-refused-spec : {M : Type 1} → statement M
@@ -32,6 +32,6 @@ put-refused-spec =
     (λ c κs. search needs)
     (λ c. search needs)
     (λ c. search needs)
-    put-mark-requires
+    put-end-requires
     same-length
     returns)
