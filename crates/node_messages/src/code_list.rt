@@ -1,4 +1,5 @@
 // The code list message (`RequestCodeListResult` of the Rust): one packet of an area's children.
+use crate::message;
 use crate::message::Put;
 use crate::numbers;
 use answers::refusal::Answer;
@@ -78,7 +79,7 @@ pub fn put_code_list(list: CodeList, out: &mut [u8]) -> Put
     let services = services_left(list.services, areas);
     let size = 3 + 4 * areas + 2 * services;
     // refusal 5
-    if out.len() < size {
+    if message::is_short(out.len(), size) {
         return Put::Refused(Refusal::ShortOutput);
     }
     out[0] = flag(list.more);

@@ -1,4 +1,5 @@
 // The block information message (`RequestBlockInformationExResult` of the Rust): assigned and free blocks of each node asked.
+use crate::message;
 use crate::message::Put;
 use crate::numbers;
 use answers::refusal::Answer;
@@ -47,7 +48,7 @@ pub fn put_information(told: BlockInformation, out: &mut [u8]) -> Put
     let n = spans::least(told.count, 32);
     let size = 1 + 4 * n;
     // refusal 5
-    if out.len() < size {
+    if message::is_short(out.len(), size) {
         return Put::Refused(Refusal::ShortOutput);
     }
     out[0] = n as u8;
