@@ -1,65 +1,76 @@
--- Bytes that encode no card are refusal 8 to every call.
-use mathlib.Core.Path.{_≡_}
-use mathlib.Core.Bool.{false}
+-- Bytes that encode no card are refusal 8 to every call, and so is every card that is not sound.
+use mathlib.Core.Path.{_≡_, refl}
+use mathlib.Core.Bool.{Bool, true, false, cond}
 use mathlib.Core.List.{List}
 use Prim.Native.Nat.{ℕ}
+use lib.Dec.{eqb}
 use lib.IntN.{ℤ}
+use lib.ListN.{length}
 use Rattle.answers.specs.declared.refusal.Refusal.the-variants.{NotBuilt}
 use Rattle.answers.specs.declared.refusal.Answer.the-variants.{Refused}
-use Rattle.card_questions.specs.declared.listing.Listing.the-variants.{Refused as NotListed}
-use Rattle.answers.specs.declared.refusal.Told.the-variants.{Refused as NotTold}
-use Rattle.card_questions.specs.declared.keys.Checked.the-variants.{Refused as NotChecked}
-use Rattle.card_build.specs.Card.{refused}
+use Rattle.card_build.specs.declared.card.Card.{Card}
+use Rattle.card_build.specs.Card.{isSound}
 use Rattle.card_build.specs.Build.{areaAdded, serviceAdded, limitAdded}
 use Rattle.card_questions.specs.Directory.{directoryAnswer}
 use Rattle.card_questions.specs.Total.{totalAnswer}
 use Rattle.card_questions.specs.Keys.{versionAnswer, areaListAnswer, serviceListAnswer}
+use Rattle.card_lists.specs.Packet.{codeListOf, codeListPut}
+use Rattle.card_lists.specs.Information.{blocksOf, blocksPut}
 use Rattle.request_plan.specs.declared.Reply.the-variants.{Refused as NotServed}
 use Rattle.request_plan.specs.Request.{Request}
 use Rattle.request_plan.specs.Plan.{judgedWith, planOf}
 use Rattle.request_plan.specs.Serve.{answeredOnly, serve}
 use Rattle.request_block.specs.Block.{blockJudged}
+use Rattle.board_read.specs.Refresh.{boardRequest, refreshed}
 use Rattle.handset_bytes.specs.Card.{isCard, decodedOf}
+use Rattle.handset_words.specs.Outcome.{answerAs}
+use Rattle.handset_words.specs.Board.{refreshedAs, boardRoom, boardMade}
+use Rattle.handset_words.specs.Block.{unfitAfter, setAnswer}
+use Rattle.law_bytes.specs.Eight.{eight, EightToAll}
 use Rattle.law_bytes.proofs.Round.{unsound}
 
-module _ (s : List ℕ) (no : isCard s ≡ false) where
-  pub area-none : (depth code end version : ℕ) → areaAdded (decodedOf s) depth code end version ≡ refused (decodedOf s) NotBuilt
-  unfolding areaAdded
-  area-none depth code end version = rw (unsound s no)
-
-  pub service-none : (arenaLen depth code blocks version : ℕ) →
-      serviceAdded (decodedOf s) arenaLen depth code blocks version ≡ refused (decodedOf s) NotBuilt
-  unfolding serviceAdded
-  service-none arenaLen depth code blocks version = rw (unsound s no)
-
-  pub limit-none : (upper lower : ℤ) (generation : ℕ) → limitAdded (decodedOf s) upper lower generation ≡ refused (decodedOf s) NotBuilt
-  unfolding limitAdded
-  limit-none upper lower generation = rw (unsound s no)
-
-  pub directory-none : (room : ℕ) → directoryAnswer (decodedOf s) room ≡ NotListed NotBuilt
-  unfolding directoryAnswer
-  directory-none room = rw (unsound s no)
-
-  pub total-none : (code : ℕ) → totalAnswer (decodedOf s) code ≡ NotTold NotBuilt
-  unfolding totalAnswer
-  total-none code = rw (unsound s no)
-
-  pub version-none : (code : ℕ) → versionAnswer (decodedOf s) code ≡ NotTold NotBuilt
-  unfolding versionAnswer
-  version-none code = rw (unsound s no)
-
-  pub area-list-none : (areas : List ℕ) → areaListAnswer (decodedOf s) areas ≡ NotChecked NotBuilt
-  unfolding areaListAnswer
-  area-list-none areas = rw (unsound s no)
-
-  pub service-list-none : (services : List ℕ) → serviceListAnswer (decodedOf s) services ≡ NotChecked NotBuilt
-  unfolding serviceListAnswer
-  service-list-none services = rw (unsound s no)
-
-  pub block-none : (arenaLen code number : ℕ) → blockJudged (decodedOf s) arenaLen code number ≡ Refused NotBuilt
-  unfolding blockJudged
-  block-none arenaLen code number = rw (unsound s no)
-
-  pub request-none : (arena : List ℕ) (r : Request) → serve (decodedOf s) arena r ≡ answeredOnly arena (NotServed NotBuilt)
+module _ (c : Card) (no : isSound c ≡ false) where
+  -- a request reads nothing and leaves the arena
+  request : (arena : List ℕ) (r : Request) → serve c arena r ≡ answeredOnly arena (NotServed NotBuilt)
   unfolding serve planOf judgedWith
-  request-none arena r = rw (unsound s no)
+  request arena r = rw no
+
+  block : (arenaLen code number : ℕ) → blockJudged c arenaLen code number ≡ Refused NotBuilt
+  unfolding blockJudged
+  block arenaLen code number = rw no
+
+  -- whatever the length of the block that is to be set
+  block-set : (arenaLen code number : ℕ) (bytes : List ℕ) → answerAs (setAnswer c arenaLen code number bytes) ≡ eight
+  unfolding setAnswer
+  block-set arenaLen code number bytes = rw (block arenaLen code number) (by (eqb (length bytes) 16))
+    where
+      by : (t : Bool) → answerAs (cond t (Refused NotBuilt) (unfitAfter (Refused NotBuilt))) ≡ eight
+      by true = refl
+      by false = refl
+
+  board : (arena : List ℕ) (code : ℕ) (lanes : List ℕ) → refreshedAs (boardMade c arena code lanes) ≡ eight
+  unfolding refreshed
+  board arena code lanes = rw (request arena (boardRequest code (boardRoom (length lanes))))
+
+  pub unsound-eight : EightToAll c
+  unfolding areaAdded serviceAdded limitAdded directoryAnswer totalAnswer versionAnswer areaListAnswer serviceListAnswer codeListPut codeListOf blocksPut blocksOf
+  unsound-eight = record {
+    area = λ depth code end version. rw no;
+    service = λ arenaLen depth code blocks version. rw no;
+    limit = λ upper lower generation. rw no;
+    directory = λ room. rw no;
+    total = λ code. rw no;
+    version = λ code. rw no;
+    areas = λ codes. rw no;
+    services = λ codes. rw no;
+    read = λ arena o codes count list room. rw (request arena _);
+    write = λ arena o codes count list d room. rw (request arena _);
+    board = board;
+    packet = λ parent p room. rw no;
+    blocks = λ arenaLen codes room. rw no;
+    set = block-set;
+    stored = λ arenaLen code number. rw (block arenaLen code number);
+  }
+
+pub eight-to-all : (s : List ℕ) → isCard s ≡ false → EightToAll (decodedOf s)
+eight-to-all s e = unsound-eight (decodedOf s) (unsound s e)

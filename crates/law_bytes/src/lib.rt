@@ -1,1 +1,1 @@
-// What a card's bytes keep, proved in proofs/ over the definitions of `layout` and `building`: no code.
+// What a card's bytes keep, and refusal 8 to other bytes: definitions in specs/, laws in proofs/, no code.
