@@ -8,3 +8,5 @@ mod Told
 pub mod Answered
 pub mod Back
 pub mod Free
+-- Examples.
+pub mod Rows
