@@ -2,8 +2,8 @@
 -- make requests; so sent again they do no harm. Read specs/Calls.antt for the statements.
 use mathlib.Core.Path.{_≡_, refl, sym, ap, _∙_, subst}
 use mathlib.Core.Bool.{Bool, true, false, false≢true}
-use mathlib.Core.List.{List, []}
-use Prim.Native.Nat.{ℕ, _*_}
+use mathlib.Core.List.{List, [], _∷_, map}
+use Prim.Native.Nat.{ℕ, _*_, _≤_}
 use lib.ListN.{length, take}
 use Rattle.block_list.specs.declared.element.BlockListElement.{BlockListElement}
 use Rattle.card_build.specs.declared.card.Card.{Card}
@@ -15,21 +15,23 @@ use Rattle.request_plan.specs.Request.{Request}
 use Rattle.request_plan.specs.Plan.{Plan, stop, go, planOf, rowsIn}
 use Rattle.request_plan.specs.Serve.{committed, carried, planServed, serve}
 use Rattle.handset_bytes.specs.Card.{decodedOf}
-use Rattle.handset_words.specs.Reply.{replyAs}
 use Rattle.line_request.specs.declared.Ask.{Ask}
 use Rattle.line_request.specs.declared.Ask.the-variants.{Malformed, Read, Write}
 use Rattle.line_request.specs.Ask.{askOf}
 use Rattle.line_answer.specs.Answer.{answerText}
 use Rattle.line_serve.specs.Line.{askServed, lineServed}
 use Rattle.line_serve.specs.Text.{requestText}
-use Rattle.law_terminals.specs.Two.{Answer, answerOf, arenaAfter}
-use Rattle.law_terminals.specs.Runs.{Call, requestOf}
+use Rattle.law_terminals.specs.Orders.{after}
+use Rattle.law_terminals.specs.Two.{Answer, answerOf, arenaAfter, All}
+use Rattle.law_terminals.specs.Last.{arenaThen}
+use Rattle.law_terminals.specs.Runs.{Exchange, Ran, requestsOf, Call, requestOf}
+use Rattle.law_calls.specs.Library.{handsetRequest, libraryLeft}
 use Rattle.law_calls.specs.Lines.{LineCall, requestBy, lineRequest, lineLeft}
 use Rattle.law_calls.proofs.Own.{ownLeft, same-reply}
-use Rattle.law_calls.proofs.Library.{libraryLeft, zero-done, returned, decoded-long}
+use Rattle.law_calls.proofs.Library.{decoded-long, zero-asked, write-zero}
 use Rattle.law_calls.proofs.Lines.{told-done, done-told}
-use Rattle.law_resend.specs.Resend.{PursesOnce, RingsOnce, Harmless}
-use Rattle.law_resend.specs.Calls.{SentTwice, ResentBy, LineResent}
+use Rattle.law_resend.specs.Resend.{PursesOnce, RingsOnce, Idle, lending}
+use Rattle.law_resend.specs.Calls.{ResentBy, LineResent}
 use Rattle.law_resend.proofs.Resend.{resent}
 
 -- a write reads nothing
@@ -47,29 +49,45 @@ unread c a w t = by-plan (planOf c (length a) w)
 
 module _ (c : Card) (z : length (c .nodes) ≡ 64) where
   -- the second answer is the first
-  answered : (a : List ℕ) (w : Request) → w .write ≡ true → serve c a w .reply ≡ Done → PursesOnce w → RingsOnce w →
-      (answerOf c (arenaAfter c a w) w ≡ answerOf c a w) × (arenaAfter c (arenaAfter c a w) w ≡ arenaAfter c a w)
-  answered a w t e purses rings =
-      let h = resent c z a w t e purses rings in
+  pub answered : (a : List ℕ) (w : Request) (rs : List Request) (room : ℕ) → w .write ≡ true → serve c a w .reply ≡ Done → PursesOnce w → RingsOnce w →
+      Idle c (arenaAfter c a w) rs → 16 * c .used ≤ room → let b = arenaThen c a w rs in
+      (answerOf c b (lending room w) ≡ answerOf c a w) × (arenaAfter c b (lending room w) ≡ b) × (b ≡ arenaAfter c a w)
+  answered a w rs room t e purses rings idle enough =
+      let h = resent c z a w rs room t e purses rings idle enough in
       let p = h .accepted ∙ sym e in
-      let q = unread c (arenaAfter c a w) w t ∙ sym (unread c a w t) in
-      (λ i. record { reply = p i; read = q i }, h .unchanged)
+      let q = unread c (arenaThen c a w rs) (lending room w) t ∙ sym (unread c a w t) in
+      (λ i. record { reply = p i; read = q i }, h .unchanged, h .kept)
 
   module _ {K L : Type 0} (ask : K → Request) (leave : K → Answer → L) (Seen : L → Type 0)
       (seen-done : (k : K) (x : Answer) → Seen (leave k x) → x .reply ≡ Done)
       (done-seen : (k : K) (x : Answer) → ask k .write ≡ true → x .reply ≡ Done → Seen (leave k x)) where
+    -- a run of which its callers see that no write was accepted is idle
+    ran-idle : (xs : List (Exchange K L)) (a e : List ℕ) → Ran c ask leave a xs e → All (λ x. ask (x .call) .write ≡ true → Seen (x .left) → ⊥) xs →
+        Idle c a (requestsOf c ask leave xs) × (e ≡ after (answerOf c) (arenaAfter c) a (requestsOf c ask leave xs))
+    unfolding after
+    ran-idle [] a e r h = (tt, r)
+    ran-idle (x ∷ xs) a e (b, k, r) h =
+        let w = rw (k .1) at (ran-idle xs b e r (h .1)) in
+        ((λ t d. h .0 t (subst Seen (sym (k .0)) (done-seen (x .call) _ t d)), w .0), w .1)
+
     -- calls that make requests
     pub resent-by : ResentBy c ask leave Seen
-    resent-by a b e x y h =
+    resent-by a x xs m y e h =
         let w = ask (x .call) in
-        let d : serve c a w .reply ≡ Done = seen-done (x .call) _ (subst Seen (h .first .0) (h .accepted)) in
-        let f = answered a w (h .write) d (h .purses) (h .rings) in
-        let m : answerOf c b (ask (y .call)) ≡ answerOf c a w = rw (h .same, h .first .1) (f .0) in
-        let l : y .left ≡ leave (y .call) (answerOf c a w) = h .second .0 ∙ ap (leave (y .call)) m in (
-          l,
-          subst Seen (sym l) (done-seen (y .call) (answerOf c a w) (rw (h .same) (h .write)) d),
-          h .second .1 ∙ rw (h .same, h .first .1) (f .1),
-        )
+        let v = ask (y .call) in
+        let rs = requestsOf c ask leave xs in
+        let (b, k, r) = h .first in
+        let d : serve c a w .reply ≡ Done = seen-done (x .call) _ (subst Seen (k .0) (h .accepted)) in
+        let i : Idle c (arenaAfter c a w) rs × (m ≡ arenaThen c a w rs) = rw (k .1) at (ran-idle xs b m r (h .idle)) in
+        let f = answered a w rs (v .room) (h .write) d (h .purses) (h .rings) (i .0) (h .room) in
+        let n : answerOf c m v ≡ answerOf c a w = rw (h .same, i .1) (f .0) in
+        let l : y .left ≡ leave (y .call) (answerOf c a w) = h .second .0 ∙ ap (leave (y .call)) n in
+        record {
+          left = l;
+          accepted = subst Seen (sym l) (done-seen (y .call) (answerOf c a w) (ap (λ (q : Request). q .write) (h .same) ∙ h .write) d);
+          unchanged = h .second .1 ∙ rw (h .same, i .1) (f .1);
+          kept = i .1 ∙ f .2;
+        }
 
   -- the program's own `write`
   pub own-resent : ResentBy c requestOf (ownLeft c) (λ x. x .reply ≡ Done)
@@ -86,22 +104,23 @@ module _ (c : Card) (z : length (c .nodes) ≡ 64) where
   -- a `W` line: the arena, and what is printed
   pub line-resent : LineResent c
   unfolding lineServed requestText
-  line-resent a k t e purses rings = by-ask (askOf (k .line)) t e purses rings
+  line-resent a k ks room t e purses rings idle enough = by-ask (askOf (k .line)) t e purses rings idle
     where
-      by-ask : (x : Ask) → requestBy (length (k .work)) (k .line) x .write ≡ true → askServed c a (length (k .work)) (k .line) x .reply ≡ Done →
-          PursesOnce (requestBy (length (k .work)) (k .line) x) → RingsOnce (requestBy (length (k .work)) (k .line) x) →
-          let b = askServed c a (length (k .work)) (k .line) x .arena in
-          (askServed c b (length (k .work)) (k .line) x .arena ≡ b)
-          × ((o : ℕ) → answerText o (askServed c b (length (k .work)) (k .line) x .reply) (askServed c b (length (k .work)) (k .line) x .read)
+      by-ask : (x : Ask) → let w = requestBy (length (k .work)) (k .line) x in
+          w .write ≡ true → askServed c a (length (k .work)) (k .line) x .reply ≡ Done →
+          PursesOnce w → RingsOnce w → Idle c (arenaAfter c a w) (map lineRequest ks) →
+          let b = arenaThen c a w (map lineRequest ks) in
+          (askServed c b room (k .line) x .arena ≡ b)
+          × ((o : ℕ) → answerText o (askServed c b room (k .line) x .reply) (askServed c b room (k .line) x .read)
           ≡ answerText o (askServed c a (length (k .work)) (k .line) x .reply) (askServed c a (length (k .work)) (k .line) x .read))
-      by-ask Malformed w d p q = absurd (false≢true w)
-      by-ask (Read «open» count) w d p q = absurd (false≢true w)
-      by-ask (Write «open» count) w d p q =
-          let f = answered a (requestBy (length (k .work)) (k .line) (Write «open» count)) w d p q in
+      by-ask Malformed w d p q i = absurd (false≢true w)
+      by-ask (Read «open» count) w d p q i = absurd (false≢true w)
+      by-ask (Write «open» count) w d p q i =
+          let f = answered a (requestBy (length (k .work)) (k .line) (Write «open» count)) (map lineRequest ks) room w d p q i enough in
           (f .1, λ o. ap (λ (y : Answer). answerText o (y .reply) (y .read)) (f .0))
 
--- the library's `uluvoli_write`, on any bytes that stand for a card
-pub library-resent : (bytes : List ℕ) → ResentBy (decodedOf bytes) requestOf (libraryLeft (decodedOf bytes)) (λ x. x .reply ≡ 0)
+-- the library's `uluvoli_write`, on any bytes that stand for a card, with reads and boards between
+pub library-resent : (bytes : List ℕ) → ResentBy (decodedOf bytes) handsetRequest (libraryLeft (decodedOf bytes)) (λ x. x .reply ≡ 0)
 library-resent bytes =
-    resent-by (decodedOf bytes) (decoded-long bytes) requestOf (libraryLeft (decodedOf bytes)) (λ x. x .reply ≡ 0)
-    (λ k x e. zero-done (x .reply) (sym (returned bytes k x) ∙ e)) (λ k x w e. returned bytes k x ∙ ap replyAs e)
+    resent-by (decodedOf bytes) (decoded-long bytes) handsetRequest (libraryLeft (decodedOf bytes)) (λ x. x .reply ≡ 0)
+    (zero-asked bytes) (write-zero bytes)

@@ -1,12 +1,13 @@
--- The theorem is not empty, and both premises are needed: a write of every kind that does no harm when it is sent again, and writes that do,
+-- The theorem is not empty, and its premises are needed: a write of every kind that does no harm when it is sent again, and writes that do,
 -- computed. Assumes nothing.
 use Prim.Native.Nat.{ℕ, zero, suc, _*_, _≤_, _<_}
 use native.Mathlib.Omega.{arith}
-use mathlib.Core.Path.{_≡_, refl, ap}
-use mathlib.Core.Bool.{true, false}
+use mathlib.Core.Path.{_≡_, refl, sym, ap, _∙_}
+use mathlib.Core.Bool.{true, false, false≢true}
 use mathlib.Core.List.{List, [], _∷_, _++_}
 use lib.ListN.{getD, replicate}
 use Rattle.answers.specs.declared.status.Fault.the-variants.{PurseRaised, OutsideWord}
+use Rattle.answers.specs.declared.refusal.Refusal.the-variants.{ShortStaging}
 use Rattle.service_code.specs.declared.code.ServiceKind.the-variants.{Cyclic, Purse}
 use Rattle.service_code.specs.Code.{numberOf, attributesOf, tableOf, decodedOf, attributeOf, codeKindOf, requiresKey}
 use Rattle.block_list.specs.Element.{unpackAt, endsFrom, endsAfter, elementsFrom}
@@ -29,14 +30,15 @@ use Rattle.request_rules.specs.Rules.{cashbackIn, elementBy, endBy, onStore}
 use Rattle.request_runs.specs.Runs.{then, push, runsOf, scan, walk}
 use Rattle.request_runs.specs.Staged.{staged}
 use Rattle.request_plan.specs.declared.Reply.{Reply}
-use Rattle.request_plan.specs.declared.Reply.the-variants.{Done, Failed}
-use Rattle.request_plan.specs.Request.{Request, writeRequest}
-use Rattle.request_plan.specs.Plan.{writeJudged, judgedWith, planOf}
-use Rattle.request_plan.specs.Serve.{committed, carried, serve}
+use Rattle.request_plan.specs.declared.Reply.the-variants.{Refused, Done, Failed}
+use Rattle.request_plan.specs.Request.{Request, readRequest, writeRequest}
+use Rattle.request_plan.specs.Plan.{writeJudged, readJudged, judgedWith, planOf}
+use Rattle.request_plan.specs.Serve.{blocksRead, committed, carried, serve}
+use Rattle.law_terminals.specs.Orders.{after}
 use Rattle.law_terminals.specs.Two.{arenaAfter}
 use Rattle.law_terminals.specs.Last.{codeAt}
-use Rattle.law_resend.specs.Resend.{Names, PursesOnce, RingsOnce, Harmless}
-use Rattle.law_resend.proofs.Resend.{built-resent}
+use Rattle.law_resend.specs.Resend.{Names, PursesOnce, RingsOnce, Idle, lending, Harmless}
+use Rattle.law_resend.proofs.Resend.{idle-each, built-resent}
 
 -- lanes, a random store of one block, number 41h
 abbrev lanes : Card
@@ -142,13 +144,16 @@ computed = (
 )
 
 -- a request that leaves another byte the second time, or is not accepted, does harm
-harms : {r : Request} {one : Reply} {a b : List ℕ} (i : ℕ) → Twice r one Done a b → (getD b i 0 ≡ getD a i 0 → ⊥) → Harmless card arena r → ⊥
+harms : {r : Request} {one : Reply} {a b : List ℕ} (i : ℕ) → Twice r one Done a b → (getD b i 0 ≡ getD a i 0 → ⊥) →
+    Harmless card arena r [] (r .room) → ⊥
+unfolding after
 harms i x f h = f (ap (λ (l : List ℕ). getD l i 0) (rw (x .left, x .then-left) at (h .unchanged)))
 
 -- the purse paid twice more, the ring turned on, the lowered purse raised: none of these is harmless
 harmful
-    : (Harmless card arena twice → ⊥) × (Harmless card arena parted → ⊥) × (Harmless card arena turned → ⊥)
-    × (Harmless card arena lowering → ⊥) × (Harmless card arena toomuch → ⊥)
+    : (Harmless card arena twice [] 96 → ⊥) × (Harmless card arena parted [] 96 → ⊥) × (Harmless card arena turned [] 96 → ⊥)
+    × (Harmless card arena lowering [] 96 → ⊥) × (Harmless card arena toomuch [] 96 → ⊥)
+unfolding after
 harmful = (
   harms 16 (computed .1) (λ e. omega arith),
   harms 16 (computed .2) (λ e. omega arith),
@@ -218,6 +223,59 @@ every-purses n b i j l x y = omega (arith, l, every-purse n b i x, every-purse n
 every-rings : RingsOnce every
 every-rings n b d i k j l m x y = let p = every-ring n b i x in let q = every-ring n d j y in absurd (omega arith)
 
--- so the theorem speaks of it
-every-harmless : Harmless card arena every
-every-harmless = built-resent built arena every refl (computed .0 .first) every-purses every-rings
+-- What comes between: a read of the lane, a payment that fails, a write that is refused for its staging.
+abbrev look : Request
+look = readRequest true (0x1049 ∷ []) 1 (0x80 ∷ 0 ∷ []) 16
+
+abbrev overdrawn : Request
+overdrawn = writing (0x1095 ∷ []) 1 (0x80 ∷ 0 ∷ []) (pay 200 3)
+
+abbrev between : List Request
+between = look ∷ overdrawn ∷ lending 95 every ∷ []
+
+-- The lane, written by another.
+abbrev other : Request
+other = writing (0x1049 ∷ []) 1 (0x80 ∷ 0 ∷ []) (replicate 16 7)
+
+-- what the first one leaves
+abbrev left : List ℕ
+left = arenaOf 9 (purse 90 10 1) (purse 45 5 2) (ring 5 6 1)
+
+-- how they are answered there: none of those between is an accepted write, the other is, and staging of 95 bytes is too short
+replies
+    : (serve card left look .reply ≡ Done) × (serve card left overdrawn .reply ≡ Failed 0 OutsideWord)
+    × (serve card left (lending 95 every) .reply ≡ Refused ShortStaging)
+    × (serve card left other ≡ record { reply = Done; read = []; arena = arenaOf 7 (purse 90 10 1) (purse 45 5 2) (ring 5 6 1) })
+unfolding addService placedOf isDepth parentAt parentFrom openAt firstFrom serviceUnder outside sameKind joinedTo usable newStore mayJoin numberOf attributesOf tableOf decodedOf attributeOf codeKindOf requiresKey unpackAt endsFrom endsAfter elementsFrom part put sameBytes wordAt wordBytes signedOf wordOf cyclicOf valueOf insideOf outsideOf sumOf storedOf purseRule purseDataOf blockOf purseOf isRoot allRoots stepOf stepsFrom stepsOf soundOf rowOf modeAllowed attributeCheck serviceCheck rowCheck elementCheck checkedFrom then push runsOf scan walk back within cashbackIn elementBy endBy onStore staged writeJudged readJudged judgedWith planOf blocksRead committed carried serve
+replies = (refl, refl, refl, refl)
+
+idle : Idle card (arenaAfter card arena every) between
+idle = idle-each card (arenaAfter card arena every) between (rw (computed .0 .left) (
+  λ t d. false≢true t,
+  (
+    λ t d. let z : _≡_ {A = ℕ} 0 1 = let q = sym (replies .1) ∙ d in cc in omega arith,
+    (λ t d. let z : _≡_ {A = ℕ} 0 1 = let q = sym (replies .2) ∙ d in cc in omega arith, tt),
+  ),
+))
+
+-- after the other's write it is accepted and changes what that one wrote; with too little staging it is refused
+needed : (Harmless card arena every (other ∷ []) 96 → ⊥) × (Harmless card arena every [] 95 → ⊥)
+unfolding after
+needed = (
+  λ h.
+      let q : getD (serve card left other .arena) 0 0 ≡ getD left 0 0 = ap (λ (l : List ℕ). getD l 0 0) (rw (computed .0 .left) at (h .kept)) in
+      let z : _≡_ {A = ℕ} 7 9 = rw (replies .3) at q in
+      omega arith,
+  λ h. let z : _≡_ {A = ℕ} 0 1 = let q = sym (replies .2) ∙ (rw (computed .0 .left) at (h .accepted)) in cc in omega arith,
+)
+
+in-use : card .used ≡ 6
+unfolding addService placedOf isDepth parentAt parentFrom openAt firstFrom serviceUnder outside sameKind joinedTo usable newStore mayJoin numberOf attributesOf tableOf decodedOf attributeOf codeKindOf
+in-use = refl
+
+-- so the theorem speaks of it, at once and after those, with staging of any length that is enough
+every-harmless : Harmless card arena every [] 96 × Harmless card arena every between 4096
+every-harmless = (
+  built-resent built arena every [] 96 refl (computed .0 .first) every-purses every-rings tt (omega (arith, in-use)),
+  built-resent built arena every between 4096 refl (computed .0 .first) every-purses every-rings idle (omega (arith, in-use)),
+)

@@ -1,13 +1,15 @@
--- An accepted write sent again at once does no harm. Read specs/Resend.antt for the statement: `Resent c`. The last law says that it holds of
--- every card.
-use Prim.Native.Nat.{ℕ, _+_, _*_}
+-- An accepted write that is sent again does no harm, where no write between was accepted. Read specs/Resend.antt for the statement:
+-- `Resent c`. The last law says that it holds of every card.
+use Prim.Native.Nat.{ℕ, _+_, _*_, _≤_}
 use native.Mathlib.Omega.{arith}
 use native.Mathlib.Decide.{ℕ-discrete}
 use mathlib.Core.Path.{_≡_, refl, sym, ap, subst, _∙_}
-use mathlib.Core.Bool.{true, false≢true}
+use mathlib.Core.Bool.{Bool, true, false, false≢true}
 use mathlib.Core.List.{List, [], _∷_}
+use mathlib.Core.Logic.{⊎-elim}
 use lib.ListN.{length, getD, take}
 use lib.Seq.{take-all, length-take-le}
+use borrow.Author.Tests.{le-ltb}
 use Rattle.service_code.specs.declared.code.ServiceKind.{ServiceKind}
 use Rattle.service_code.specs.declared.code.ServiceKind.the-variants.{Random, Cyclic, Purse}
 use Rattle.service_code.specs.declared.code.ServiceAttribute.{ServiceAttribute}
@@ -19,7 +21,7 @@ use Rattle.block_list.specs.declared.element.BlockListElement.{BlockListElement
 use Rattle.byte_parts.specs.Part.{part, put}
 use Rattle.byte_parts.proofs.Part.{length-part, length-put, part-put, put-put}
 use Rattle.card_build.specs.declared.card.Card.{Card}
-use Rattle.card_build.specs.Card.{nodesOf}
+use Rattle.card_build.specs.Card.{nodesOf, isSound}
 use Rattle.card_laws.specs.Built.{Built}
 use Rattle.card_laws.proofs.Built.{sound-built}
 use Rattle.card_laws.proofs.Laid.{laid}
@@ -37,12 +39,14 @@ use Rattle.request_plan.specs.declared.Reply.the-variants.{Done}
 use Rattle.request_plan.specs.declared.Judged.{Judged}
 use Rattle.request_plan.specs.declared.Judged.the-variants.{Refused as NotFit, ShortData as NoData, Fit}
 use Rattle.request_plan.specs.Request.{Request}
-use Rattle.request_plan.specs.Plan.{go, planOf, judgedOf, judgedPlan, checkedPlan, rowsIn, elementsIn}
+use Rattle.request_plan.specs.Plan.{go, writeJudged, judgedWith, planOf, judgedOf, judgedPlan, checkedPlan, rowsIn, elementsIn}
 use Rattle.request_plan.specs.Serve.{Served, committed, carried, planServed, serve}
-use Rattle.request_plan.proofs.Accepted.{Accepted, accepted, nothing, good-at, counted, each-passed, stores-put}
+use Rattle.request_plan.proofs.Accepted.{Accepted, accepted, nothing, good-at, counted, each-passed, stores-put, done-or-left, read-leaves}
+use Rattle.law_terminals.specs.Orders.{after}
+use Rattle.law_terminals.specs.Two.{answerOf, arenaAfter, All}
 use Rattle.law_terminals.specs.Last.{elementAt}
 use Rattle.law_terminals.proofs.Owned.{ServiceRow, good-service, index-code, one-store, two-stores}
-use Rattle.law_resend.specs.Resend.{Names, PursesOnce, RingsOnce, Harmless, Resent}
+use Rattle.law_resend.specs.Resend.{Names, PursesOnce, RingsOnce, Idle, lending, Resent}
 use Rattle.request_runs.proofs.Steps.{Each, each-map, each-both, pairs-map, stepped}
 use Rattle.request_runs.proofs.WalkSteps.{Step, element, close, indexOf, elementOf, stepsOf, AllFrom, Before, Parted, Stands, steps-each, steps-ordered, flat-runs, runs-stand, runs-parted}
 use Rattle.request_runs.proofs.OwnRuns.{storeOf, Owns, own-steps}
@@ -255,8 +259,9 @@ module _ {c : Card} (b : Built c) (a : List ℕ) (w : Request) (t : w .write ≡
       let f : take size (put a 0 size s) ≡ s = part-put a 0 size s (omega (arith, it .fit .arena)) (omega (arith, l)) ∙ take-all size s (omega (arith, l)) in
       rw (p, t, f, h, put-put a 0 size s s (omega (arith, l)))
 
-  pub harmless : PursesOnce w → RingsOnce w → Harmless c a w
-  harmless purses rings =
+  -- sent again at once, it is accepted, and leaves the arena as it is
+  at-once : PursesOnce w → RingsOnce w → (serve c (arenaAfter c a w) w .reply ≡ Done) × (arenaAfter c (arenaAfter c a w) w ≡ arenaAfter c a w)
+  at-once purses rings =
       let s = stores-put c a w e t in
       let long : length (take size a) ≡ size = length-take-le size a (it .fit .arena) in
       let again = staged-again rows (w .«data») size Fine es fine owns (take size a) (s .0) long (s .1) (λ x g u h.
@@ -266,15 +271,65 @@ module _ {c : Card} (b : Built c) (a : List ℕ) (w : Request) (t : w .write ≡
       own u ∙ own-again x g purses rings (storeOf r (take size a)) u
       (length-part (take size a) (16 * r .start) (16 * r .blocks) (omega (arith, owns x g .fits, long))) (sym (own (storeOf r (take size a))) ∙ h)) in
       let z = served-again (s .0) (staged-long rows (w .«data») size Fine es fine owns (take size a) (s .0) long (s .1)) again in
-      record {
-        accepted = rw (s .2) (ap (λ (x : Served). x .reply) z);
-        unchanged = rw (s .2) (ap (λ (x : Served). x .arena) z);
-      }
+      (rw (s .2) (ap (λ (x : Served). x .reply) z), rw (s .2) (ap (λ (x : Served). x .arena) z))
+
+-- what is no accepted write leaves the arena
+idle-one : (c : Card) (a : List ℕ) (r : Request) → (r .write ≡ true → serve c a r .reply ≡ Done → ⊥) → arenaAfter c a r ≡ a
+idle-one c a r h = by-write (r .write) refl
+  where
+    by-write : (t : Bool) → r .write ≡ t → arenaAfter c a r ≡ a
+    by-write true e = ⊎-elim (λ d. absurd (h e d)) (λ q. q) (done-or-left c a r)
+    by-write false e = read-leaves c a r e
+
+-- so do requests of which no write is accepted
+pub idle-leaves : (c : Card) (a : List ℕ) (rs : List Request) → Idle c a rs → after (answerOf c) (arenaAfter c) a rs ≡ a
+unfolding after
+idle-leaves c a [] h = refl
+idle-leaves c a (r ∷ rs) h = idle-leaves c (arenaAfter c a r) rs (h .1) ∙ idle-one c a r (h .0)
+
+-- and it is enough to look at each of them on the first arena
+pub idle-each : (c : Card) (a : List ℕ) (rs : List Request) → All (λ r. r .write ≡ true → serve c a r .reply ≡ Done → ⊥) rs → Idle c a rs
+idle-each c a [] h = tt
+idle-each c a (r ∷ rs) h = (h .0, subst (λ (b : List ℕ). Idle c b rs) (sym (idle-one c a r (h .0))) (idle-each c a rs (h .1)))
+
+-- staging that is long enough is judged as any other
+enough-judged : (sound write : Bool) (list : List ℕ) (used count codes arena «data» room other : ℕ) → write ≡ true → 16 * used ≤ room → 16 * used ≤ other →
+    judgedWith sound write list (record { used = used; count = count; codes = codes; arena = arena; «data» = «data»; room = room })
+    ≡ judgedWith sound write list (record { used = used; count = count; codes = codes; arena = arena; «data» = «data»; room = other })
+unfolding judgedWith writeJudged
+enough-judged sound write list used count codes arena «data» room other t h g = rw (t, le-ltb room (16 * used) h, le-ltb other (16 * used) g)
+
+-- a write that was accepted comes to the same with any staging that is long enough
+lent-enough : (c : Card) (a : List ℕ) (w : Request) (room : ℕ) → w .write ≡ true → serve c a w .reply ≡ Done → 16 * c .used ≤ room →
+    serve c a (lending room w) ≡ serve c a w
+unfolding serve planOf
+lent-enough c a w room t e h =
+    ap (λ (j : Judged). planServed c a (lending room w) (judgedPlan c (lending room w) j))
+    (enough-judged (isSound c) (w .write) (w .list) (c .used) (w .count) (length (w .codes)) (length a) (length (w .«data»)) room (w .room) t h
+    (accepted c a w e .fit .staging t))
+    ∙ by-judged (judgedOf c (length a) w)
+  where
+    by-checked : (k : Checked) → planServed c a (lending room w) (checkedPlan (elementsIn w) k) ≡ planServed c a w (checkedPlan (elementsIn w) k)
+    by-checked AllPassed = refl
+    by-checked (FailedAt i f) = refl
+
+    by-judged : (j : Judged) → planServed c a (lending room w) (judgedPlan c (lending room w) j) ≡ planServed c a w (judgedPlan c w j)
+    by-judged (NotFit x) = refl
+    by-judged NoData = refl
+    by-judged Fit = by-checked (checkedFrom (rowsIn c w) (w .write) (w .«open») 0 (elementsIn w))
 
 -- on every card that accepted additions and limits produce
 pub built-resent : {c : Card} → Built c → Resent c
-built-resent b a w t e purses rings = harmless b a w t e purses rings
+built-resent {c} b a w rs room t e purses rings idle enough =
+    let kept = idle-leaves c (arenaAfter c a w) rs idle in
+    let once = at-once b a w t e purses rings in
+    let lent = lent-enough c (arenaAfter c a w) w room t (once .0) enough in
+    record {
+      accepted = ap (λ (x : List ℕ). serve c x (lending room w) .reply) kept ∙ ap (λ (x : Served). x .reply) lent ∙ once .0;
+      unchanged = ap (λ (x : List ℕ). serve c x (lending room w) .arena) kept ∙ ap (λ (x : Served). x .arena) lent ∙ once .1 ∙ sym kept;
+      kept = kept;
+    }
 
 -- so on every card, which has 64 records: one that accepts a write is built
 pub resent : (c : Card) → length (c .nodes) ≡ 64 → Resent c
-resent c z a w t e purses rings = built-resent (sound-built c z (accepted c a w e .fit .sound)) a w t e purses rings
+resent c z a w rs room t e = built-resent (sound-built c z (accepted c a w e .fit .sound)) a w rs room t e

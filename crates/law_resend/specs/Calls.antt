@@ -1,7 +1,7 @@
 -- The same of calls and of request lines, which make requests: the statements.
-use Prim.Native.Nat.{ℕ}
+use Prim.Native.Nat.{ℕ, _*_, _≤_}
 use mathlib.Core.Bool.{true}
-use mathlib.Core.List.{List}
+use mathlib.Core.List.{List, _∷_, map}
 use mathlib.Core.Path.{_≡_}
 use lib.ListN.{length}
 use Rattle.card_build.specs.declared.card.Card.{Card}
@@ -9,42 +9,57 @@ use Rattle.request_plan.specs.declared.Reply.the-variants.{Done as Accepted}
 use Rattle.request_plan.specs.Request.{Request}
 use Rattle.line_serve.specs.Line.{lineServed}
 use Rattle.line_serve.specs.Text.{requestText}
-use Rattle.law_terminals.specs.Two.{Answer, answerOf}
-use Rattle.law_terminals.specs.Runs.{Exchange, Leaves}
+use Rattle.law_terminals.specs.Two.{Answer, answerOf, arenaAfter, All}
+use Rattle.law_terminals.specs.Last.{arenaThen}
+use Rattle.law_terminals.specs.Runs.{Exchange, Leaves, Ran}
 use Rattle.law_calls.specs.Lines.{LineCall, lineRequest}
-use Rattle.law_resend.specs.Resend.{PursesOnce, RingsOnce}
+use Rattle.law_resend.specs.Resend.{PursesOnce, RingsOnce, Idle, lending}
 
 -- `ask` says what request a call makes, `leave` what an answer leaves its caller; `Done x`: by what it was left the caller sees that its
 -- request was accepted.
 module _ (c : Card) {K L : Type 0} (ask : K → Request) (leave : K → Answer → L) (Done : L → Type 0) where
-  -- A call on the arena a leaves the arena b, and a second one on b leaves e. Both make the same request, a write that was accepted, in which
-  -- no purse block is named twice and each cyclic number forms a single run.
-  pub record SentTwice (a b e : List ℕ) (x y : Exchange K L) : Type 0 where
-    pub first : Leaves c ask leave a (x .call) (x .left) b
-    pub second : Leaves c ask leave b (y .call) (y .left) e
-    pub same : ask (y .call) ≡ ask (x .call)
+  -- A call x, and calls after it, run from the arena a to the arena m; and the call y on m, which leaves e. x and y make the same request, a
+  -- write in which no purse block is named twice and each cyclic number forms a single run.
+  pub record SentTwice (a : List ℕ) (x : Exchange K L) (xs : List (Exchange K L)) (m : List ℕ) (y : Exchange K L) (e : List ℕ) : Type 0 where
+    pub first : Ran c ask leave a (x ∷ xs) m
+    pub second : Leaves c ask leave m (y .call) (y .left) e
+    -- but for the length of the staging, which is long enough
+    pub same : ask (y .call) ≡ lending (ask (y .call) .room) (ask (x .call))
+    pub room : 16 * c .used ≤ ask (y .call) .room
+    -- the first is accepted
     pub write : ask (x .call) .write ≡ true
     pub accepted : Done (x .left)
     pub purses : PursesOnce (ask (x .call))
     pub rings : RingsOnce (ask (x .call))
+    -- of the calls between no write is accepted
+    pub idle : All (λ z. ask (z .call) .write ≡ true → Done (z .left) → ⊥) xs
 
-  -- The second is left what the first one's answer leaves, its caller sees that it was accepted, and no stored byte is changed.
+  -- The second is left what the first one's answer leaves, and its caller sees that it was accepted.
+  pub record AsFirst (a : List ℕ) (x : Exchange K L) (m : List ℕ) (y : Exchange K L) (e : List ℕ) : Type 0 where
+    pub left : y .left ≡ leave (y .call) (answerOf c a (ask (x .call)))
+    pub accepted : Done (y .left)
+    -- no stored byte is changed, by it or by what came between
+    pub unchanged : e ≡ m
+    pub kept : m ≡ arenaAfter c a (ask (x .call))
+
   abbrev pub ResentBy : Type 0
   ResentBy =
-      (a b e : List ℕ) (x y : Exchange K L)
-      → SentTwice a b e x y
-      → (y .left ≡ leave (y .call) (answerOf c a (ask (x .call)))) × Done (y .left) × (e ≡ b)
+      (a : List ℕ) (x : Exchange K L) (xs : List (Exchange K L)) (m : List ℕ) (y : Exchange K L) (e : List ℕ)
+      → SentTwice a x xs m y e
+      → AsFirst a x m y e
 
--- A `W` line, with a buffer of so many bytes lent to it.
+-- A `W` line, with a buffer of so many bytes lent to it; lines between; and the same line with a buffer that is long enough.
 abbrev pub LineResent : Card → Type 0
 LineResent c =
-    (a : List ℕ) (k : LineCall)
+    (a : List ℕ) (k : LineCall) (ks : List LineCall) (room : ℕ)
     → lineRequest k .write ≡ true
     → lineServed c a (length (k .work)) (k .line) .reply ≡ Accepted
     → PursesOnce (lineRequest k)
     → RingsOnce (lineRequest k)
-    → let b = lineServed c a (length (k .work)) (k .line) .arena in
+    → Idle c (arenaAfter c a (lineRequest k)) (map lineRequest ks)
+    → 16 * c .used ≤ room
+    → let b = arenaThen c a (lineRequest k) (map lineRequest ks) in
     -- the second time no stored byte is changed
-    (lineServed c b (length (k .work)) (k .line) .arena ≡ b)
+    (lineServed c b room (k .line) .arena ≡ b)
     -- and the line that is printed is, but for the ordinal, that of the first time
-    × ((ordinal : ℕ) → requestText c b (length (k .work)) (k .line) ordinal ≡ requestText c a (length (k .work)) (k .line) ordinal)
+    × ((ordinal : ℕ) → requestText c b room (k .line) ordinal ≡ requestText c a (length (k .work)) (k .line) ordinal)

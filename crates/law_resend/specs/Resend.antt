@@ -1,7 +1,7 @@
--- The reply got lost: the statement. A write that was accepted is sent again at once.
-use Prim.Native.Nat.{ℕ, _<_}
+-- The reply got lost: the statement. A write that was accepted is sent again, with no other accepted write between.
+use Prim.Native.Nat.{ℕ, _*_, _≤_, _<_}
 use mathlib.Core.Bool.{true}
-use mathlib.Core.List.{List}
+use mathlib.Core.List.{List, [], _∷_}
 use mathlib.Core.Path.{_≡_}
 use lib.ListN.{length}
 use Rattle.service_code.specs.declared.code.ServiceKind.{ServiceKind}
@@ -14,7 +14,7 @@ use Rattle.request_plan.specs.Request.{Request}
 use Rattle.request_plan.specs.Plan.{elementsIn}
 use Rattle.request_plan.specs.Serve.{serve}
 use Rattle.law_terminals.specs.Two.{arenaAfter}
-use Rattle.law_terminals.specs.Last.{elementAt, codeAt}
+use Rattle.law_terminals.specs.Last.{elementAt, codeAt, arenaThen}
 
 -- element i of a request, of a service of that kind, names block b of the service number n
 pub record Names (kind : ServiceKind) (n b : ℕ) (r : Request) (i : ℕ) : Type 0 where
@@ -31,20 +31,43 @@ PursesOnce r = (n b i j : ℕ) → i < j → Names Purse n b r i → Names Purse
 abbrev pub RingsOnce : Request → Type 0
 RingsOnce r = (n b d i k j : ℕ) → i < k → k < j → Names Cyclic n b r i → Names Cyclic n d r j → numberOf (codeAt r k) ≡ n
 
--- what the same request comes to when it is sent again
-pub record Harmless (c : Card) (a : List ℕ) (w : Request) : Type 0 where
+-- From an arena on, no write of the list is accepted: each request is a read, as that of a board is, or a write that fails or is refused.
+abbrev pub Idle : Card → List ℕ → List Request → Type 0
+Idle c a [] = Unit {0}
+Idle c a (r ∷ rs) =
+    (r .write ≡ true → serve c a r .reply ≡ Done → ⊥)
+    × Idle c (arenaAfter c a r) rs
+
+-- the same request, with so many bytes lent to it
+abbrev pub lending : ℕ → Request → Request
+lending room r = record {
+  write = r .write;
+  «open» = r .«open»;
+  codes = r .codes;
+  count = r .count;
+  list = r .list;
+  «data» = r .«data»;
+  room = room;
+}
+
+-- what the same request comes to when it is sent again, with staging of so many bytes, after the requests that came between
+pub record Harmless (c : Card) (a : List ℕ) (w : Request) (rs : List Request) (room : ℕ) : Type 0 where
   -- it is accepted
-  pub accepted : serve c (arenaAfter c a w) w .reply ≡ Done
-  -- and changes no stored byte
-  pub unchanged : arenaAfter c (arenaAfter c a w) w ≡ arenaAfter c a w
+  pub accepted : serve c (arenaThen c a w rs) (lending room w) .reply ≡ Done
+  -- it changes no stored byte
+  pub unchanged : arenaAfter c (arenaThen c a w rs) (lending room w) ≡ arenaThen c a w rs
+  -- nor did what came between: the arena is as the first one left it
+  pub kept : arenaThen c a w rs ≡ arenaAfter c a w
 
 -- At the card c, whatever bytes the arena holds: an accepted write in which no purse block is named twice, by whichever service, and each
--- cyclic number forms a single run does no harm when it is sent again at once.
+-- cyclic number forms a single run does no harm when it is sent again, if no write between was accepted and its staging is long enough.
 abbrev pub Resent : Card → Type 0
 Resent c =
-    (a : List ℕ) (w : Request)
+    (a : List ℕ) (w : Request) (rs : List Request) (room : ℕ)
     → w .write ≡ true
     → serve c a w .reply ≡ Done
     → PursesOnce w
     → RingsOnce w
-    → Harmless c a w
+    → Idle c (arenaAfter c a w) rs
+    → 16 * c .used ≤ room
+    → Harmless c a w rs room
