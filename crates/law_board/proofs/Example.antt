@@ -40,9 +40,9 @@ use Rattle.board_line.specs.Line.{boardLine, boardCode, boardLineText}
 use Rattle.replay_state.specs.declared.Phase.the-variants.{Requests}
 use Rattle.replay_state.specs.Phases.{oneMore}
 use Rattle.replay_line.specs.Replay.{Held, held, kindOf, lineHeld, lineText}
-use Rattle.law_board.specs.Lines.{Without, none, kept, dropped, heldAfter, NoPart}
+use Rattle.law_lines.specs.Lines.{Without, none, kept, dropped, heldAfter, NoPart}
 use Rattle.law_board.specs.Redraw.{requestIn, Prints}
-use Rattle.law_board.proofs.Lines.{no-earlier-part}
+use Rattle.law_lines.proofs.Lines.{no-earlier-part}
 use Rattle.law_board.proofs.Redraw.{line-shows}
 
 -- lanes, a random store of eight blocks, number 41h, with the tower's read-only service
@@ -148,4 +148,4 @@ without = (dropped refresh refl (kept redraw (kept look (dropped refresh refl no
 
 -- so by the law they leave the card and the arena the same, and the next refresh shows the same
 unmoved : NoPart (heldAfter start (refresh ∷ redraw ∷ look ∷ refresh ∷ [])) (heldAfter start (redraw ∷ look ∷ []))
-unmoved = no-earlier-part start _ _ tt (without .0)
+unmoved = no-earlier-part start _ _ tt tt (without .0)

@@ -5,13 +5,16 @@ use native.Mathlib.Nat.{add-zero, zero-add}
 use mathlib.Core.Path.{_≡_, refl, sym, ap, subst, _∙_}
 use mathlib.Core.Bool.{Bool, true, false, cond}
 use mathlib.Core.List.{List, [], _∷_, _++_}
-use lib.Dec.{ltb}
+use lib.Dec.{ltb, eqb}
 use lib.ListN.{length, take, replicate, length-append, length-replicate}
 use lib.Seq.{take-at, take-all, length-take-le, drop-append-add}
-use borrow.Author.Tests.{ltb-true, ltb-false}
+use borrow.Author.Tests.{ltb-true, ltb-false, eq-eqb}
 use Rattle.byte_parts.specs.Part.{part, put, padded}
 use Rattle.byte_parts.proofs.Part.{part-part, part-put}
+use Rattle.answers.specs.declared.refusal.Answer.{Answer as Setting}
+use Rattle.answers.specs.declared.refusal.Answer.the-variants as settings
 use Rattle.card_build.specs.declared.card.Card.{Card}
+use Rattle.request_block.specs.Block.{blockJudged, arenaSet}
 use Rattle.request_plan.specs.declared.Reply.{Reply}
 use Rattle.request_plan.specs.declared.Reply.the-variants as replies
 use Rattle.board_lanes.specs.declared.refusal.BoardRefusal.{BoardRefusal}
@@ -20,19 +23,22 @@ use Rattle.board_lanes.specs.declared.lanes.Judged.{Judged}
 use Rattle.board_lanes.specs.declared.lanes.Judged.the-variants as judged
 use Rattle.board_lanes.specs.Board.{blockAt, boardNumber, Lane, empty, filled, laneOf, lanesFrom, lanesOf, lanes, judgedOf, boardOf}
 use Rattle.board_lanes.specs.Records.{laneRecord, lanesRecords}
-use Rattle.board_read.specs.Refresh.{eightBlocks, boardServed, refreshedBy, refreshedAfter, refreshed, blocksAfter}
-use Rattle.board_read.proofs.Refreshing.{by-blocks, read-room, board-bytes}
+use Rattle.board_read.specs.Refresh.{boardServed, refreshedBy, refreshedAfter, refreshed}
+use Rattle.board_read.proofs.Refreshing.{by-blocks, read-room}
+use Rattle.handset_words.specs.Outcome.{answerAs}
 use Rattle.handset_words.specs.Reply.{replyAs}
+use Rattle.handset_words.specs.Block.{unfitAfter, setAnswer, setAfter}
 use Rattle.handset_words.specs.Board.{refreshedAs, boardRoom, boardMade, recordsAfter}
 use Rattle.handset_words.proofs.Left.{board-left}
-use Rattle.law_terminals.specs.Two.{Answer, answerOf, outputOf, arenaAfter}
+use Rattle.law_terminals.specs.Two.{Answer, All}
 use Rattle.law_terminals.specs.Runs.{Exchange, Call, reads, writes, requestOf, Left, leftBy}
-use Rattle.law_terminals.proofs.Runs.{tower-runs}
 use Rattle.law_calls.proofs.Library.{zero-done}
-use Rattle.law_board.specs.Shown.{eightOf}
-use Rattle.law_board.specs.Library.{BoardCall, LibraryShows}
-use Rattle.law_board.proofs.Shown.{eight-read}
-use Rattle.law_board.proofs.Redraw.{names-block}
+use Rattle.law_blocks.specs.Deed.{requested, blockSet, DeedNames, DeedBrings}
+use Rattle.law_blocks.proofs.Holding.{BlockHolds, deed-holds, deed-leaves}
+use Rattle.law_blocks.proofs.Lane.{holds-shows}
+use Rattle.law_lines.specs.Shown.{eightOf}
+use Rattle.law_lines.proofs.Shown.{eight-read}
+use Rattle.law_board.specs.Library.{BoardCall, LibraryCall, requests, boards, sets, callLeft, callArena, callDeed, CallsRan, LibraryShows}
 
 -- no refusal of the board returns 0
 numbered : (x : BoardRefusal) → 65536 * boardNumber x ≡ 0 → ⊥
@@ -156,42 +162,56 @@ module _ (c : Card) where
   returned (reads «open» codes count list out) x = refl
   returned (writes «open» codes count list «data» staging) x = refl
 
-  -- the read that a board makes, as a call
-  abbrev reading : ℕ → Call
-  reading code = reads false (code ∷ []) 8 eightBlocks (replicate 128 0)
+-- a set block that returns 0 was found
+zero-found : (x : Setting) → answerAs x ≡ 0 → x ≡ settings.Done
+zero-found settings.Done e = refl
+zero-found (settings.Refused r) e = absurd (let z = zero-done (replies.Refused r) e in let y : _≡_ {A = ℕ} 0 1 = cc in omega arith)
 
-  abbrev asked : List ℕ → ℕ → Exchange Call (Left ℕ)
-  asked m code = record { call = reading code; left = leftBy replyAs c (reading code) (answerOf c m (requestOf (reading code))) }
+-- and a block of another length returns no 0
+unfit-found : (x : Setting) → answerAs (unfitAfter x) ≡ 0 → ⊥
+unfit-found settings.Done e = omega arith
+unfit-found (settings.Refused r) e = let z = zero-found (settings.Refused r) e in let y : _≡_ {A = ℕ} 0 1 = cc in omega arith
 
-  -- a block of what it is left
-  buffer-block : (m : List ℕ) (code : ℕ) (x : Answer) (k : ℕ) (d : List ℕ) → asked m code .left ≡ leftBy replyAs c (reading code) x →
-      part (outputOf x (replicate 128 0)) (16 * k) 16 ≡ d → blockAt (blocksAfter c m code (replicate 128 0)) k ≡ d
-  unfolding blocksAfter
-  buffer-block m code x k d e h = ap (λ (v : Left ℕ). part (v .buffer) (16 * k) 16) e ∙ h
+module _ (c : Card) (z : length (c .nodes) ≡ 64) {n k : ℕ} {d : List ℕ} (a : List ℕ) where
+  -- a call that returned 0 leaves what it brings
+  call-holds : (x : LibraryCall) → callLeft c a x .reply ≡ 0 → DeedBrings n k d (callDeed x) → BlockHolds c n k d (callArena c a x)
+  unfolding setAnswer setAfter
+  call-holds (requests q) e m = deed-holds c z a (requested (requestOf q)) (zero-done _ (sym (returned c q _) ∙ e)) m
+  call-holds (boards code old) e m = absurd m
+  call-holds (sets code number bytes) e m =
+      let l : eqb (length bytes) 16 ≡ true = eq-eqb (length bytes) 16 (m .3) in
+      rw l (deed-holds c z a (blockSet code number bytes) (zero-found (blockJudged c (length a) code number) (rw l at e)) m)
 
--- on every card, which has 64 records, a board has what was written last
+  -- one that does not name the block, or returned no 0, leaves what it holds
+  call-leaves : BlockHolds c n k d a → (x : LibraryCall) → (callLeft c a x .reply ≡ 0 → DeedNames n k (callDeed x) → ⊥) →
+      BlockHolds c n k d (callArena c a x)
+  unfolding setAnswer setAfter
+  call-leaves h (requests q) f = deed-leaves c z a h (requested (requestOf q)) (λ e m. f (returned c q _ ∙ ap replyAs e) m)
+  call-leaves h (boards code old) f = h
+  call-leaves h (sets code number bytes) f = by-test (eqb (length bytes) 16) refl
+    where
+      by-test : (t : Bool) → eqb (length bytes) 16 ≡ t → BlockHolds c n k d (cond t (arenaSet c a code number bytes) a)
+      by-test true e = deed-leaves c z a h (blockSet code number bytes) (λ q m. f (rw (e, q)) m)
+      by-test false e = h
+
+-- so do calls
+calls-leave : (c : Card) → length (c .nodes) ≡ 64 → {n k : ℕ} {d : List ℕ} (xs : List (Exchange LibraryCall (Left ℕ))) (a m : List ℕ) →
+    BlockHolds c n k d a → CallsRan c a xs m → All (λ x. x .left .reply ≡ 0 → DeedNames n k (callDeed (x .call)) → ⊥) xs → BlockHolds c n k d m
+calls-leave c z [] a m h r q = rw r h
+calls-leave c z (x ∷ xs) a m h (b, left, r) q =
+    let g = call-leaves c z a h (x .call) (λ e. q .0 (ap (λ (y : Left ℕ). y .reply) (left .0) ∙ e)) in
+    calls-leave c z xs b m (rw (left .1) g) r (q .1)
+
+-- on every card, which has 64 records, a board has what was brought last
 pub library-shows : (c : Card) → length (c .nodes) ≡ 64 → LibraryShows c
 library-shows c z n k d a w xs m code old h l f e =
-    let q = asked c m code in
+    let (b, left, r) = h .ran in
+    let first = call-holds c z a (w .call) (sym (ap (λ (y : Left ℕ). y .reply) (left .0)) ∙ h .done) (h .brings) in
+    let next : BlockHolds c n k d b = rw (left .1) first in
+    let then = calls-leave c z xs b m next r (h .quiet) in
     let y = done-eight c z m code old e in
-    let t = tower-runs c requestOf (leftBy replyAs c) z (λ x. x .reply ≡ 0)
-    (λ k x r. zero-done (x .reply) (sym (returned c k x) ∙ r)) (λ k x v r. returned c k x ∙ ap replyAs r)
-    n k d a w xs m q (arenaAfter c m (requestOf (q .call))) (record {
-      ran = h .ran;
-      asked = (refl, refl);
-      write = h .write;
-      written = h .written;
-      brings = h .brings;
-      quiet = h .quiet;
-      read = refl;
-      answered = ap replyAs y;
-    }) in
-    let (x, left, gives) = t in
-    let zeros : List ℕ = replicate 128 0 in
-    let made = by-blocks c m code 128 y ∙ ap refreshedBy (ap judgedOf (eight-read c m code y) ∙ sound c z m code old e) in
-    let lent : blocksAfter c m code zeros ≡ eightOf c m code = board-bytes c m code zeros z refl made ∙ eight-read c m code y in
     let block : blockAt (eightOf c m code) k ≡ d =
-    ap (λ (s : List ℕ). blockAt s k) (sym lent) ∙ buffer-block c m code x k d left (gives k (names-block code n k l f) .1 zeros refl) in
+    ap (λ (s : List ℕ). blockAt s k) (sym (eight-read c m code y)) ∙ holds-shows c z then code l f y .block in
     ap (λ (s : List ℕ). part s (16 * k) 16) (has-records c z m code old e)
     ∙ put-record old (eightOf c m code) k l (wide c z m code old e .1)
     ∙ ap (λ (b : List ℕ). laneRecord (laneOf b)) block

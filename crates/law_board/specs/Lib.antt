@@ -1,4 +1,2 @@
-pub mod Shown
-pub mod Lines
 pub mod Redraw
 pub mod Library

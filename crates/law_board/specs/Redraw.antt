@@ -1,39 +1,23 @@
--- A refresh shows what was written last, with the tower's theorem: the statement.
+-- An `L` line of a replay shows what was written last: the statement.
 use Prim.Native.Nat.{ℕ, _<_}
 use mathlib.Core.Bool.{true, cond}
 use mathlib.Core.List.{List, [], _∷_, map}
 use mathlib.Core.Path.{_≡_}
-use lib.ListN.{getD}
 use Rattle.service_code.specs.Code.{numberOf}
-use Rattle.card_build.specs.declared.card.Card.{Card}
 use Rattle.text_numbers.specs.declared.codes.Code.{Code}
 use Rattle.text_numbers.specs.declared.codes.Code.the-variants.{Is, Bad}
 use Rattle.request_plan.specs.Request.{Request, readRequest}
 use Rattle.line_request.specs.Ask.{askOf}
-use Rattle.law_terminals.specs.Last.{arenaThen, Redrawn}
-use Rattle.board_lanes.specs.Board.{blockAt, Lane, empty, laneOf, lanes, boardOf}
+use Rattle.law_terminals.specs.Last.{Redrawn}
+use Rattle.board_lanes.specs.Board.{boardOf}
 use Rattle.board_read.specs.Refresh.{boardRequest, boardServed}
 use Rattle.board_line.specs.Line.{boardLine, boardCode}
 use Rattle.replay_state.specs.Phases.{oneMore}
 use Rattle.replay_line.specs.Replay.{Held, lentBytes, lineText}
 use Rattle.law_calls.specs.Lines.{requestBy}
-use Rattle.law_board.specs.Shown.{boardText}
-use Rattle.law_board.specs.Lines.{Taken, heldAfter}
-
--- A refresh with a code shows the bytes d in lane k + 1: they are block k of what it reads, and where that is a board, its lane there is
--- the one that they make.
-pub record Shows (c : Card) (a : List ℕ) (code k : ℕ) (d : List ℕ) : Type 0 where
-  pub block : blockAt (boardServed c a code 128 .read) k ≡ d
-  pub lane : (ls : List Lane) → boardOf (boardServed c a code 128 .read) ≡ lanes ls → getD ls k empty ≡ laneOf d
-
--- At the card c: after an accepted write whose last element for block k of the random store of number n brings the bytes d, and requests
--- of which no accepted write names that block, a refresh with any code of the number that the card answers 00 00 shows d in lane k + 1.
-abbrev pub BoardShows : Card → Type 0
-BoardShows c =
-    (n k : ℕ) (d a : List ℕ) (w : Request) (rs : List Request) (code : ℕ)
-    → k < 8 → numberOf code ≡ n
-    → Redrawn c n k d a w rs (boardRequest code 128)
-    → Shows c (arenaThen c a w rs) code k d
+use Rattle.law_blocks.specs.Lane.{Shows}
+use Rattle.law_lines.specs.Shown.{boardText}
+use Rattle.law_lines.specs.Lines.{Taken, heldAfter}
 
 -- the request that a line makes: the read of a refresh, or that of a request line; a malformed `L` line counts as a read of nothing
 abbrev pub refreshBy : Code → Request
@@ -50,7 +34,8 @@ pub record Prints (s : Held) (line : List ℕ) (code k : ℕ) (d : List ℕ) : T
       : lineText s line
       ≡ boardText (oneMore (s .replay .asked)) (boardOf (boardServed (s .replay .card) (s .arena) code 128 .read))
 
--- The same of the lines of a replay: a `W` line, lines after it, reads, writes and refreshes mixed, and an `L` line.
+-- A `W` line that is taken for a request, whatever lines after it, of which no accepted write names the block, and an `L` line that the card
+-- answers 00 00: it shows in lane k + 1 what the `W` line brought.
 abbrev pub LineShows : Held → Type 0
 LineShows s =
     (n k : ℕ) (d w : List ℕ) (ls : List (List ℕ)) (line : List ℕ) (code : ℕ)

@@ -36,7 +36,7 @@ module _ {c : Card} (b : Built c) {own n : ℕ} {v : Row} (o : ServiceRow (nodes
   block a = part a (16 * v .start + 16 * k) 16
 
   -- one of them
-  one-kept : (a : List ℕ) (r : Request) → (r .write ≡ true → serve c a r .reply ≡ Done → (i : ℕ) → NamesBlock n k r i → ⊥) →
+  pub one-kept : (a : List ℕ) (r : Request) → (r .write ≡ true → serve c a r .reply ≡ Done → (i : ℕ) → NamesBlock n k r i → ⊥) →
       block (arenaAfter c a r) ≡ block a
   one-kept a r f = by-write (r .write) refl
     where

@@ -3,10 +3,10 @@
 mod Generic
 pub mod Owned
 mod Folds
-mod Named
+pub mod Named
 pub mod Stored
 pub mod Written
-mod Given
+pub mod Given
 pub mod Orders
 pub mod Two
 pub mod Runs

@@ -22,8 +22,8 @@ use Rattle.replay_state.specs.Phases.{oneMore}
 use Rattle.replay_line.specs.declared.Kind.{Kind}
 use Rattle.replay_line.specs.declared.Kind.the-variants as kinds
 use Rattle.replay_line.specs.Replay.{Held, lentBytes, kindOf, requestHeld, boardHeld, heldBy, textBy, workBy, bytesBy, lineHeld, lineText, workHeld, bytesHeld}
-use Rattle.law_board.specs.Lines.{Taken, LinePrints, LeavesAll, Without, none, kept, dropped, heldAfter, SameBoard, NoEarlierPart}
-use Rattle.law_board.proofs.Shown.{prints-board}
+use Rattle.law_lines.specs.Lines.{Taken, LinePrints, LeavesAll, Without, none, kept, dropped, heldAfter, SameBoard, NoEarlierPart}
+use Rattle.law_lines.proofs.Shown.{prints-board}
 
 -- an `L` line is taken for a refresh
 board-kind : (p : Phase) (line : List ℕ) → Taken p [] → boardLine line ≡ true → kindOf p line ≡ kinds.Board
@@ -37,7 +37,7 @@ board-kind Ended line q b = absurd q
 request-kind : (p : Phase) (line : List ℕ) → Taken p (line ∷ []) → boardLine line ≡ false → kindOf p line ≡ kinds.Request
 unfolding kindOf
 request-kind First line q b = absurd q
-request-kind Image line q b = let r : requestLine line ≡ true = by-test (requestLine line) (rw b at (q .0)) in rw (b, r)
+request-kind Image line q b = let r : requestLine line ≡ true = by-test (requestLine line) (rw b at q) in rw (b, r)
   where
     by-test : (t : Bool) → t || false ≡ true → t ≡ true
     by-test true h = refl
@@ -60,7 +60,7 @@ leaves-all s line q b =
 -- of more lines the first is taken too
 pub taken-first : (p : Phase) (line : List ℕ) (ls : List (List ℕ)) → Taken p (line ∷ ls) → Taken p (line ∷ [])
 taken-first First line ls q = q
-taken-first Image line ls q = (q .0, tt)
+taken-first Image line ls q = q
 taken-first Requests line ls q = tt
 taken-first Ended line ls q = q
 
@@ -181,19 +181,10 @@ same-board s t line k b = record {
         prints t line (k .second) b
         ∙ sym (ap₂ (λ (x : Card) (y : List ℕ). boardLineText x y line (oneMore (t .replay .asked))) (k .same .card) (k .same .arena))
 
--- of lines that are taken, those that stay are
-taken-without : (p : Phase) {ls ms : List (List ℕ)} → Without ls ms → Taken p ls → Taken p ms
-taken-without First w q = q
-taken-without Image none q = tt
-taken-without Image (kept line w) q = (q .0, taken-without Image w (q .1))
-taken-without Image (dropped line b w) q = taken-without Image w (q .1)
-taken-without Requests w q = tt
-taken-without Ended w q = q
-
 -- no earlier refresh has a part in a later one
 pub no-earlier-part : NoEarlierPart
-no-earlier-part s ls ms p w =
-    let k = alike w s s (record { card = refl; arena = refl }) p (taken-without (s .replay .phase) w p) in
+no-earlier-part s ls ms p q w =
+    let k = alike w s s (record { card = refl; arena = refl }) p q in
     record {
       card = k .same .card;
       arena = k .same .arena;

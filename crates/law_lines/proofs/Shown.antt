@@ -32,7 +32,7 @@ use Rattle.board_lanes.specs.declared.lanes.Judged.the-variants as judged
 use Rattle.board_lanes.specs.Board.{judgedOf, boardOf, boardBy}
 use Rattle.board_read.specs.Refresh.{eightBlocks, boardRequest, boardServed, refreshedBy, refreshedAfter, refreshed}
 use Rattle.board_line.specs.Line.{refreshedText, boardLineText}
-use Rattle.law_board.specs.Shown.{storeOf, eightOf, boardText, shownText, PrintsBoard, Eight, ReadsStore}
+use Rattle.law_lines.specs.Shown.{storeOf, eightOf, boardText, shownText, PrintsBoard, Eight, ReadsStore}
 
 -- a front, and a front of the rest
 take-more : (n m : ℕ) (s : List ℕ) → take n s ++ take m (drop n s) ≡ take (n + m) s

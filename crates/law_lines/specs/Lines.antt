@@ -13,18 +13,18 @@ use Rattle.replay_state.specs.declared.Phase.{Phase}
 use Rattle.replay_state.specs.declared.Phase.the-variants.{First, Image, Requests, Ended}
 use Rattle.replay_state.specs.Phases.{oneMore}
 use Rattle.replay_line.specs.Replay.{Held, lineHeld, lineText, workHeld, bytesHeld}
-use Rattle.law_terminals.specs.Two.{All}
-use Rattle.law_board.specs.Shown.{eightOf, shownText}
+use Rattle.law_lines.specs.Shown.{eightOf, shownText}
 
 -- a line that is a request by its first field: `R`, `W` or `L`
 abbrev pub asks : List ℕ → Bool
 asks line = requestLine line || boardLine line
 
--- Where a replay takes these lines for requests: after the first request whatever they say, after the image where each is one by its
--- first field.
+-- Where a replay takes these lines for requests: after the first request whatever they say; after the image where the first of them is
+-- one by its first field, since every line after it is one then.
 abbrev pub Taken : Phase → List (List ℕ) → Type 0
 Taken First ls = ⊥
-Taken Image ls = All (λ line. asks line ≡ true) ls
+Taken Image [] = Unit {0}
+Taken Image (line ∷ ls) = asks line ≡ true
 Taken Requests ls = Unit {0}
 Taken Ended ls = ⊥
 
@@ -70,13 +70,15 @@ pub record SameBoard (s t : Held) (line : List ℕ) : Type 0 where
       : (code : ℕ) → boardCode line ≡ Is code → refreshed (s .replay .card) (s .arena) code 128 ≡ Board
       → lineText s line ≡ lineText t line
 
--- Lines taken for requests, and the same without any `L` lines: card and arena are equal after them, and so is the next board.
+-- Two states that lines left: card and arena are equal, and so is the next board.
 pub record NoPart (s t : Held) : Type 0 where
   pub card : s .replay .card ≡ t .replay .card
   pub arena : s .arena ≡ t .arena
   pub next : (line : List ℕ) → boardLine line ≡ true → SameBoard s t line
 
+-- Lines, and the same lines without any of the `L` lines, both taken for requests: an `L` line ends the image, so where it is the first
+-- request of all, the line that comes first without it is one too.
 abbrev pub NoEarlierPart : Type 0
 NoEarlierPart =
-    (s : Held) (ls ms : List (List ℕ)) → Taken (s .replay .phase) ls → Without ls ms
+    (s : Held) (ls ms : List (List ℕ)) → Taken (s .replay .phase) ls → Taken (s .replay .phase) ms → Without ls ms
     → NoPart (heldAfter s ls) (heldAfter s ms)

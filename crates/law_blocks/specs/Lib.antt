@@ -1,0 +1,2 @@
+pub mod Deed
+pub mod Lane
