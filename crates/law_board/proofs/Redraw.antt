@@ -43,7 +43,7 @@ module _ (c : Card) (a line : List ℕ) where
   request-arena (Write «open» count) = refl
 
 -- a line leaves the card, and the arena that its request leaves
-line-leaves : (s : Held) (line : List ℕ) → Taken (s .replay .phase) (line ∷ []) →
+pub line-leaves : (s : Held) (line : List ℕ) → Taken (s .replay .phase) (line ∷ []) →
     (lineHeld s line .replay .card ≡ s .replay .card) × (lineHeld s line .arena ≡ arenaAfter (s .replay .card) (s .arena) (requestIn line))
 unfolding requestIn lineServed
 line-leaves s line q = by-line (boardLine line) refl
@@ -54,7 +54,7 @@ line-leaves s line q = by-line (boardLine line) refl
     by-line false b = rw (after-request s line q b, b) (refl, request-arena (s .replay .card) (s .arena) line (askOf line))
 
 -- so do lines
-lines-leave : (ls : List (List ℕ)) (s : Held) → Taken (s .replay .phase) ls →
+pub lines-leave : (ls : List (List ℕ)) (s : Held) → Taken (s .replay .phase) ls →
     (heldAfter s ls .replay .card ≡ s .replay .card)
     × (heldAfter s ls .arena ≡ after (answerOf (s .replay .card)) (arenaAfter (s .replay .card)) (s .arena) (map requestIn ls))
     × Taken (heldAfter s ls .replay .phase) []

@@ -92,7 +92,7 @@ zero-done ShortData e = absurd (omega arith)
 zero-done (Failed i f) e = absurd (omega arith)
 
 -- a board goes by the answer to its read
-made-is : (x : Served) (y : Reply) → refreshedAfter (record { reply = x .reply; read = x .read; arena = [] }) y ≡ refreshedAfter x y
+pub made-is : (x : Served) (y : Reply) → refreshedAfter (record { reply = x .reply; read = x .read; arena = [] }) y ≡ refreshedAfter x y
 made-is x (Refused r) = refl
 made-is x Done = refl
 made-is x ShortData = refl

@@ -34,7 +34,7 @@ board-kind Requests line q b = rw b
 board-kind Ended line q b = absurd q
 
 -- any other for a request
-request-kind : (p : Phase) (line : List ℕ) → Taken p (line ∷ []) → boardLine line ≡ false → kindOf p line ≡ kinds.Request
+pub request-kind : (p : Phase) (line : List ℕ) → Taken p (line ∷ []) → boardLine line ≡ false → kindOf p line ≡ kinds.Request
 unfolding kindOf
 request-kind First line q b = absurd q
 request-kind Image line q b = let r : requestLine line ≡ true = by-test (requestLine line) (rw b at q) in rw (b, r)

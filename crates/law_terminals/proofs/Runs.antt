@@ -58,7 +58,7 @@ any-map f g F [] h = h
 any-map f g F (x ∷ xs) (inl h) = inl h
 any-map f g F (x ∷ xs) (inr h) = inr (any-map f g F xs h)
 
-after-append : {S R A : Type 0} (answer : S → R → A) (next : S → R → S) (s : S) (rs qs : List R) →
+pub after-append : {S R A : Type 0} (answer : S → R → A) (next : S → R → S) (s : S) (rs qs : List R) →
     after answer next s (rs ++ qs) ≡ after answer next (after answer next s rs) qs
 unfolding after
 after-append answer next s [] qs = refl
