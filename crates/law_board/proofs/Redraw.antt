@@ -8,7 +8,6 @@ use lib.ListN.{length}
 use Rattle.card_build.specs.declared.card.Card.{Card}
 use Rattle.text_numbers.specs.declared.codes.Code.{Code}
 use Rattle.text_numbers.specs.declared.codes.Code.the-variants.{Is, Bad}
-use Rattle.request_plan.specs.declared.Reply.the-variants.{Done}
 use Rattle.request_plan.proofs.Accepted.{read-leaves}
 use Rattle.line_request.specs.declared.Ask.{Ask}
 use Rattle.line_request.specs.declared.Ask.the-variants.{Malformed, Read, Write}
@@ -17,16 +16,13 @@ use Rattle.line_serve.specs.Line.{askServed, lineServed}
 use Rattle.law_terminals.specs.Orders.{after}
 use Rattle.law_terminals.specs.Two.{answerOf, arenaAfter}
 use Rattle.law_terminals.specs.Last.{arenaThen}
-use Rattle.board_lanes.specs.Board.{boardOf}
-use Rattle.board_read.specs.Refresh.{boardServed}
 use Rattle.board_line.specs.Line.{boardLine, boardCode}
 use Rattle.replay_state.specs.Phases.{oneMore}
 use Rattle.replay_line.specs.Replay.{Held, lentBytes, lineHeld}
 use Rattle.law_calls.specs.Lines.{requestBy}
-use Rattle.law_lines.specs.Shown.{eightOf, boardText, shownText}
 use Rattle.law_lines.specs.Lines.{Taken, heldAfter}
 use Rattle.law_blocks.proofs.Lane.{board-shows}
-use Rattle.law_lines.proofs.Shown.{eight-read}
+use Rattle.law_lines.proofs.Shown.{done-text}
 use Rattle.law_lines.proofs.Lines.{taken-first, taken-none, taken-requests, after-board, after-request, after-phase, line-prints}
 use Rattle.law_board.specs.Redraw.{refreshBy, requestIn, LineShows}
 
@@ -66,11 +62,6 @@ lines-leave (line ∷ ls) s q =
     let y = lines-leave ls (lineHeld s line) (taken-requests (after-phase s line q′) ls) in
     let z = ap₂ (λ (c : Card) (a : List ℕ). after (answerOf c) (arenaAfter c) a (map requestIn ls)) (x .0) (x .1) in
     (y .0 ∙ x .0, y .1 ∙ z, y .2)
-
--- what is printed where the card answers 00 00
-done-text : (c : Card) (a : List ℕ) (ordinal code : ℕ) → boardServed c a code 128 .reply ≡ Done →
-    shownText ordinal (boardServed c a code 128 .reply) (boardOf (eightOf c a code)) ≡ boardText ordinal (boardOf (boardServed c a code 128 .read))
-done-text c a ordinal code d = rw d (ap (λ (x : List ℕ). boardText ordinal (boardOf x)) (sym (eight-read c a code d)))
 
 -- the lines of a replay whose card has 64 records: an `L` line shows what was written last
 pub line-shows : (s : Held) → length (s .replay .card .nodes) ≡ 64 → LineShows s

@@ -124,6 +124,11 @@ prints-board c a line ordinal code k = rw k (by-reply (boardServed c a code 128 
     by-reply replies.ShortData q = refl
     by-reply (replies.Failed i f) q = refl
 
+-- what is printed where the card answers 00 00
+pub done-text : (c : Card) (a : List ℕ) (ordinal code : ℕ) → boardServed c a code 128 .reply ≡ replies.Done →
+    shownText ordinal (boardServed c a code 128 .reply) (boardOf (eightOf c a code)) ≡ boardText ordinal (boardOf (boardServed c a code 128 .read))
+done-text c a ordinal code d = rw d (ap (λ (x : List ℕ). boardText ordinal (boardOf x)) (sym (eight-read c a code d)))
+
 -- on every card, which has 64 records, what was read are the first eight blocks of the store of the code's first service
 pub reads-store : (c : Card) → length (c .nodes) ≡ 64 → ReadsStore c
 reads-store c z a code e = store-is c a code e z
