@@ -18,10 +18,11 @@ use Rattle.replay_state.specs.Phases.{oneMore}
 use Rattle.replay_line.specs.Replay.{Held, held}
 use Rattle.card_build.specs.declared.card.Card.{Card}
 use Rattle.handset_bytes.specs.Card.{decodedOf}
-use Rattle.law_terminals.specs.Runs.{Call, requestOf, Left, Leaves}
+use Rattle.law_terminals.specs.Runs.{Call, Left, Leaves}
 use Rattle.law_calls.specs.Promise.{Promises}
+use Rattle.law_calls.specs.Library.{request, handsetRequest, libraryLeft}
 use Rattle.law_calls.proofs.Kept.{of-two, of-four}
-use Rattle.law_calls.proofs.Library.{decoded-long, libraryLeft}
+use Rattle.law_calls.proofs.Library.{decoded-long}
 use Rattle.law_lines.specs.Lines.{Taken}
 use Rattle.law_board.specs.Library.{BoardCall, requests, boards, sets, CallLeaves}
 use Rattle.law_lines.proofs.Lines.{leaves-all, prints}
@@ -31,7 +32,8 @@ use Rattle.handset.proofs.board.uluvoli_board as board
 use Rattle.handset.proofs.blocks.uluvoli_set_block as setting
 
 -- a read and a write are calls, as law_calls/proofs/Library has them
-pub request-is-call : (c : Card) (a : List ℕ) (k : Call) (x : Left ℕ) (b : List ℕ) → Leaves c requestOf (libraryLeft c) a k x b → CallLeaves c a (requests k) x b
+pub request-is-call : (c : Card) (a : List ℕ) (k : Call) (x : Left ℕ) (b : List ℕ) →
+    Leaves c handsetRequest (libraryLeft c) a (request k) x b → CallLeaves c a (requests k) x b
 request-is-call c a k x b h = h
 
 module _ {M : Type 1} (𝓤 : URA M) (H : Heap 𝓤) (A : Atoms 𝓤) (mem : Memory → SProp 𝓤) (run : Routine → Fun 𝓤) where

@@ -16,8 +16,8 @@ use Rattle.law_terminals.specs.Two.{answerOf, arenaAfter, Any, Names}
 use Rattle.law_terminals.specs.Last.{arenaThen}
 use Rattle.law_terminals.proofs.Two.{two-askers}
 use Rattle.law_terminals.proofs.Runs.{after-append}
-use Rattle.law_board.specs.Lines.{Taken, heldAfter}
-use Rattle.law_board.proofs.Lines.{taken-first, taken-requests, after-phase}
+use Rattle.law_lines.specs.Lines.{Taken, heldAfter}
+use Rattle.law_lines.proofs.Lines.{taken-first, taken-requests, after-phase}
 use Rattle.law_board.specs.Redraw.{requestIn}
 use Rattle.law_board.proofs.Redraw.{lines-leave, line-leaves}
 use Rattle.law_resend.proofs.Calls.{answered}

@@ -28,7 +28,7 @@ use Rattle.line_build.specs.Image.{carried, imageStep}
 use Rattle.replay_line.specs.declared.Kind.{Kind}
 use Rattle.replay_line.specs.declared.Kind.the-variants as kinds
 use Rattle.replay_line.specs.Replay.{Held, kindOf, heldBy, lineHeld, atStart}
-use Rattle.law_board.specs.Lines.{heldAfter}
+use Rattle.law_lines.specs.Lines.{heldAfter}
 
 module _ (c : Card) where
   -- an area leaves as many records as there were

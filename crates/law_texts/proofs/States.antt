@@ -31,8 +31,8 @@ use Rattle.law_terminals.proofs.Two.{leftOf, arenaOf}
 use Rattle.law_calls.specs.Lines.{requestBy, toldBy}
 use Rattle.law_calls.specs.Library.{madeBy}
 use Rattle.law_calls.proofs.Library.{made-is}
-use Rattle.law_board.specs.Lines.{Taken}
-use Rattle.law_board.proofs.Lines.{taken-first, taken-none, taken-requests, request-kind, prints, after-board, after-request, after-phase}
+use Rattle.law_lines.specs.Lines.{Taken}
+use Rattle.law_lines.proofs.Lines.{taken-first, taken-none, taken-requests, request-kind, prints, after-board, after-request, after-phase}
 use Rattle.law_board.specs.Redraw.{refreshBy, requestIn}
 use Rattle.law_board.proofs.Redraw.{line-leaves}
 use Rattle.law_texts.specs.Lines.{asking, textAs}
@@ -170,8 +170,8 @@ pub taken-all : (p : Phase) (zs : List (Marked (List ℕ))) → Taken p (only on
 unfolding only all
 taken-all First zs p q = p
 taken-all Image [] p q = tt
-taken-all Image (by one line ∷ zs) p q = (p .0, taken-all Image zs (p .1) q)
-taken-all Image (by two line ∷ zs) p q = (q .0, taken-all Image zs p (q .1))
+taken-all Image (by one line ∷ zs) p q = p
+taken-all Image (by two line ∷ zs) p q = q
 taken-all Requests zs p q = tt
 taken-all Ended zs p q = p
 
@@ -179,7 +179,7 @@ taken-all Ended zs p q = p
 pub taken-append : (p : Phase) (ls ms : List (List ℕ)) → Taken p ls → Taken p ms → Taken p (ls ++ ms)
 taken-append First ls ms p q = p
 taken-append Image [] ms p q = q
-taken-append Image (line ∷ ls) ms p q = (p .0, taken-append Image ls ms (p .1) q)
+taken-append Image (line ∷ ls) ms p q = p
 taken-append Requests ls ms p q = tt
 taken-append Ended ls ms p q = p
 

@@ -10,8 +10,8 @@ use Rattle.replay_state.specs.Phases.{finishText}
 use Rattle.replay_line.specs.Replay.{Held, lineHeld, lineText, endText, replayMachine, atStart, replayOf}
 use Rattle.law_terminals.specs.Orders.{Terminal, one, two, Marked, by, only, all, after, answers, told}
 use Rattle.law_terminals.specs.Two.{All}
-use Rattle.law_board.specs.Lines.{Taken, heldAfter}
-use Rattle.law_board.proofs.Lines.{taken-none, taken-requests}
+use Rattle.law_lines.specs.Lines.{Taken, heldAfter}
+use Rattle.law_lines.proofs.Lines.{taken-none, taken-requests}
 use Rattle.law_texts.specs.Texts.{textOf, OneLine, stateAfter, TwoTexts, TextResent}
 use Rattle.law_texts.proofs.States.{taken-all}
 use Rattle.law_texts.proofs.Records.{state-long}

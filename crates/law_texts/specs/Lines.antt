@@ -9,7 +9,7 @@ use Rattle.request_plan.specs.Serve.{serve}
 use Rattle.replay_line.specs.Replay.{Held, held, lineHeld, lineText}
 use Rattle.law_terminals.specs.Orders.{Marked, one, two, only, Undisturbed}
 use Rattle.law_terminals.specs.Two.{arenaAfter, NoneShared}
-use Rattle.law_board.specs.Lines.{Taken, heldAfter}
+use Rattle.law_lines.specs.Lines.{Taken, heldAfter}
 use Rattle.law_board.specs.Redraw.{requestIn}
 use Rattle.law_resend.specs.Resend.{PursesOnce, RingsOnce, Idle}
 

@@ -6,7 +6,7 @@ use Rattle.text_stream.specs.Stream.{joined}
 use Rattle.replay_line.specs.Replay.{Held, atStart, lineHeld, lineText, replayOf}
 use Rattle.law_terminals.specs.Orders.{Marked, one, two, only, all, answers, told, Undisturbed}
 use Rattle.law_terminals.specs.Two.{All, NoneShared}
-use Rattle.law_board.specs.Lines.{Taken, heldAfter}
+use Rattle.law_lines.specs.Lines.{Taken, heldAfter}
 use Rattle.law_board.specs.Redraw.{requestIn}
 use Rattle.law_texts.specs.Lines.{textAs, Resending, PrintsAgain}
 
