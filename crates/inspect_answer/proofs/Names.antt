@@ -20,9 +20,10 @@ use Rattle.text_numbers.specs.Codes.{codesField}
 use Rattle.line_fields.specs.Fields.{codeAt, numberAt, withCode, withNumber, named, form}
 use Rattle.inspect_ask.specs.declared.Asked.{Asked}
 use Rattle.inspect_ask.specs.declared.Asked.the-variants as asks
+use Rattle.inspect_ask.specs.declared.Single.the-variants as singles
 use Rattle.inspect_ask.specs.declared.Question.{Question}
 use Rattle.inspect_ask.specs.declared.Question.the-variants.{Unknown, Of, Room, Arena}
-use Rattle.inspect_ask.specs.Question.{listName, infoName, readlistName, readinfoName, totalName, verName, dirName, areasName, svcsName, blockName, usedName, attrName, roomName, arenaName, listLine, blockLine, totalLine, versionLine, attributeLine, codesLine, bytesLine, roomLine, arenaLine, lentAsked, storedAsked, listsAsked, cardAsked, bytesAsked, messageAsked, questionOf}
+use Rattle.inspect_ask.specs.Question.{listName, infoName, readlistName, readinfoName, totalName, verName, dirName, areasName, svcsName, blockName, usedName, attrName, roomName, arenaName, listLine, blockLine, codeLine, codesLine, bytesLine, roomLine, arenaLine, lentAsked, storedAsked, listsAsked, cardAsked, bytesAsked, messageAsked, questionOf}
 use Rattle.inspect_ask.proofs.Asking.{asked-short}
 use Rattle.inspect_answer.specs.Answer.{fieldZero, nameOf}
 
@@ -68,11 +69,11 @@ module _ (fs : List (List ℕ)) where
       (by arenaName 2 (arenaLine fs) Unknown (λ e. on-number (numberAt fs 1 65536) Arena (λ n. tt)) tt)
 
   on-stored : Named first (storedAsked fs)
-  unfolding storedAsked blockLine attributeLine
+  unfolding storedAsked blockLine codeLine
   on-stored =
       by blockName 3 (blockLine fs) _ (λ e. on-code (codeAt fs 1) _ (λ n. on-number (numberAt fs 2 4294967295) _ (λ m. e)))
       (by usedName 1 (Of asks.Used) _ (λ e. e)
-      (by attrName 2 (attributeLine fs) (lentAsked fs) (λ e. on-code (codeAt fs 1) _ (λ n. e)) on-lent))
+      (by attrName 2 (codeLine singles.Attribute fs) (lentAsked fs) (λ e. on-code (codeAt fs 1) _ (λ n. e)) on-lent))
 
   on-lists : Named first (listsAsked fs)
   unfolding listsAsked codesLine
@@ -81,10 +82,10 @@ module _ (fs : List (List ℕ)) where
       (by svcsName 2 (codesLine asks.Services fs) (storedAsked fs) (λ e. tested (codesField (getD fs 1 [])) asks.Services e) on-stored)
 
   on-card : Named first (cardAsked fs)
-  unfolding cardAsked totalLine versionLine
+  unfolding cardAsked codeLine
   on-card =
-      by totalName 2 (totalLine fs) _ (λ e. on-code (codeAt fs 1) _ (λ n. e))
-      (by verName 2 (versionLine fs) _ (λ e. on-code (codeAt fs 1) _ (λ n. e))
+      by totalName 2 (codeLine singles.Total fs) _ (λ e. on-code (codeAt fs 1) _ (λ n. e))
+      (by verName 2 (codeLine singles.Version fs) _ (λ e. on-code (codeAt fs 1) _ (λ n. e))
       (by dirName 1 (Of asks.Directory) (listsAsked fs) (λ e. e) on-lists))
 
   on-bytes : Named first (bytesAsked fs)

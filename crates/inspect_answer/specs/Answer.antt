@@ -1,5 +1,6 @@
 -- The line that answers a question: its name and the fields of its answer.
 use Prim.Native.Nat.{ℕ, _/_, min}
+use mathlib.Core.Bool.{true, false}
 use mathlib.Core.List.{List, [], _∷_, _++_}
 use lib.ListN.{length, take, getD}
 use Rattle.text_fields.specs.Field.{split}
@@ -14,8 +15,8 @@ use Rattle.inspect_ask.specs.declared.Asked.{Asked}
 use Rattle.inspect_ask.specs.declared.Asked.the-variants as asks
 use Rattle.inspect_ask.specs.Question.{listName, infoName, readlistName, readinfoName, totalName, verName, dirName, areasName, svcsName, blockName, usedName, attrName, mostRoom}
 use Rattle.inspect_fields.specs.Attribute.{attributeFields}
-use Rattle.inspect_fields.specs.Fields.{fieldOne, readListFields, readInfoFields}
-use Rattle.inspect_answer.specs.Fields.{listFields, infoFields, totalFields, versionFields, directoryFields, checkedFields, blockFields, usedFields}
+use Rattle.inspect_fields.specs.Fields.{fieldOne, readFields}
+use Rattle.inspect_answer.specs.Fields.{listFields, infoFields, toldFields, directoryFields, checkedFields, blockFields, usedFields}
 
 -- a line's first field, which is the name of what it asks
 abbrev pub fieldZero : List ℕ → List ℕ
@@ -39,10 +40,10 @@ nameOf (asks.Attribute code) = attrName
 abbrev pub fieldsOf : Card → List ℕ → ℕ → List ℕ → Asked → List ℕ
 fieldsOf c a room line (asks.List parent p) = listFields c parent p room
 fieldsOf c a room line asks.Info = infoFields c (length a) (codesOf (fieldOne line)) room
-fieldsOf c a room line asks.ReadList = readListFields (unhex (fieldOne line))
-fieldsOf c a room line asks.ReadInfo = readInfoFields (unhex (fieldOne line))
-fieldsOf c a room line (asks.Total code) = totalFields (totalAnswer c code)
-fieldsOf c a room line (asks.Version code) = versionFields (versionAnswer c code)
+fieldsOf c a room line asks.ReadList = readFields true (unhex (fieldOne line))
+fieldsOf c a room line asks.ReadInfo = readFields false (unhex (fieldOne line))
+fieldsOf c a room line (asks.Total code) = toldFields false (totalAnswer c code)
+fieldsOf c a room line (asks.Version code) = toldFields true (versionAnswer c code)
 fieldsOf c a room line asks.Directory = directoryFields c (room / 2)
 fieldsOf c a room line asks.Areas = checkedFields (areaListAnswer c (codesOf (fieldOne line)))
 fieldsOf c a room line asks.Services = checkedFields (serviceListAnswer c (codesOf (fieldOne line)))

@@ -17,7 +17,8 @@ use Rattle.card_questions.specs.declared.keys.Checked.{Checked}
 use Rattle.card_questions.specs.declared.keys.Checked.the-variants as checks
 use Rattle.card_questions.specs.declared.listing.Listing.{Listing}
 use Rattle.card_questions.specs.declared.listing.Listing.the-variants as listings
-use Rattle.card_questions.specs.Keys.{areaListAnswer, serviceListAnswer}
+use Rattle.card_questions.specs.Total.{totalAnswer}
+use Rattle.card_questions.specs.Keys.{versionAnswer, areaListAnswer, serviceListAnswer}
 use Rattle.card_questions.specs.Directory.{directoryOf, directoryAnswer}
 use Rattle.card_lists.specs.Packet.{codeListOf, codeListPut}
 use Rattle.card_lists.specs.Information.{blocksOf, blocksPut}
@@ -40,14 +41,19 @@ listFields c parent p room = putFields (codeListBytes (codeListOf c parent p .li
 unfoldable pub infoFields : Card → ℕ → List ℕ → ℕ → List ℕ
 infoFields c arenaLen asked room = putFields (informationBytes (blocksOf c arenaLen asked .told)) (blocksPut c arenaLen asked room)
 
--- `total`: a decimal; `ver`: four digits
-abbrev pub totalFields : Told → List ℕ
-totalFields (tolds.Number n) = closed 10 (decText n)
-totalFields (tolds.Refused refusal) = refusalFields refusal
+-- `ver`, `total`: the key version, or the total, of a code
+abbrev pub toldAnswer : Bool → Card → ℕ → Told
+toldAnswer true c code = versionAnswer c code
+toldAnswer false c code = totalAnswer c code
 
-abbrev pub versionFields : Told → List ℕ
-versionFields (tolds.Number n) = closed 10 (fourDigits (n ∷ []))
-versionFields (tolds.Refused refusal) = refusalFields refusal
+-- a version has four digits, a total is a decimal
+abbrev pub countText : Bool → ℕ → List ℕ
+countText true n = fourDigits (n ∷ [])
+countText false n = decText n
+
+abbrev pub toldFields : Bool → Told → List ℕ
+toldFields version (tolds.Number n) = closed 10 (countText version n)
+toldFields version (tolds.Refused refusal) = refusalFields refusal
 
 -- `dir`: pairs, where an output of so many numbers has room for one of each node
 abbrev pub listingFields : List ℕ → Listing → List ℕ

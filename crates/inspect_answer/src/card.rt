@@ -18,34 +18,41 @@ ghost use Prim.Native.Nat.{_+_, _*_, _/_, _≤_};
 ghost use lib.ListN.{length};
 ghost use Rattle.text_numbers.specs.Codes.{codesField, codesOf};
 ghost use Rattle.text_stream.specs.Stream.{Written};
-ghost use Rattle.card_questions.specs.Total.{totalAnswer};
-ghost use Rattle.card_questions.specs.Keys.{versionAnswer};
-ghost use Rattle.inspect_answer.specs.Fields.{totalFields, versionFields, directoryFields, listAnswer, checkedFields, blockFields, usedFields};
+ghost use Rattle.text_print.specs.Print.{closed};
+ghost use Rattle.inspect_answer.specs.Fields.{toldAnswer, countText, toldFields, directoryFields, listAnswer, checkedFields, blockFields, usedFields};
 ghost use Rattle.inspect_fields.specs.Fields.{mostFields, fieldOne};
 
-// Puts the answer to `total` into `out` from `at` on, and answers the place after it.
-pub(crate) fn put_total(card: Card, code: u16, out: &mut [u8], at: usize) -> usize
-    requires { ⌜ at + mostFields ≤ length (now out) ⌝ }
-    ensures { λ r. ⌜ Written (now (out .entry)) at (totalFields (totalAnswer card code)) r (now (out .exit)) ⌝ }
-    ensures { λ r. ⌜ r ≤ at + mostFields ⌝ }
+// What is told of a code: its key version, or its total.
+fn told_of(card: Card, version: bool, code: u16) -> Told
+    ensures { λ r. ⌜ r ≡ toldAnswer version card code ⌝ }
 {
-    match totals::block_count_for_node(card, code) {
-        Told::Number(blocks) => put_number(blocks as u64, b'\n', out, at),
-        Told::Refused(refusal) => put_refusal(refusal, out, at),
+    if version {
+        return keys::node_key_version(card, code);
     }
+    totals::block_count_for_node(card, code)
 }
 
-// Puts the answer to `ver` into `out` from `at` on, and answers the place after it.
-pub(crate) fn put_version(card: Card, code: u16, out: &mut [u8], at: usize) -> usize
+// Puts a key version, or a total, into `out` from `at` on, and answers the place after it.
+fn put_counted(version: bool, n: u16, out: &mut [u8], at: usize) -> usize
     requires { ⌜ at + mostFields ≤ length (now out) ⌝ }
-    ensures { λ r. ⌜ Written (now (out .entry)) at (versionFields (versionAnswer card code)) r (now (out .exit)) ⌝ }
+    ensures { λ r. ⌜ Written (now (out .entry)) at (closed 10 (countText version n)) r (now (out .exit)) ⌝ }
     ensures { λ r. ⌜ r ≤ at + mostFields ⌝ }
 {
-    match keys::node_key_version(card, code) {
-        Told::Number(version) => {
-            let one = [version];
-            put_numbers(&one, b'\n', out, at)
-        }
+    if version {
+        let one = [n];
+        return put_numbers(&one, b'\n', out, at);
+    }
+    put_number(n as u64, b'\n', out, at)
+}
+
+// Puts the answer to `ver`, or to `total`, into `out` from `at` on, and answers the place after it.
+pub(crate) fn put_told(card: Card, version: bool, code: u16, out: &mut [u8], at: usize) -> usize
+    requires { ⌜ at + mostFields ≤ length (now out) ⌝ }
+    ensures { λ r. ⌜ Written (now (out .entry)) at (toldFields version (toldAnswer version card code)) r (now (out .exit)) ⌝ }
+    ensures { λ r. ⌜ r ≤ at + mostFields ⌝ }
+{
+    match told_of(card, version, code) {
+        Told::Number(n) => put_counted(version, n, out, at),
         Told::Refused(refusal) => put_refusal(refusal, out, at),
     }
 }

@@ -15,9 +15,10 @@ use Rattle.line_fields.specs.Fields.{codeAt, numberAt, form}
 use Rattle.line_fields.proofs.Said.{either, on-code, on-number}
 use Rattle.inspect_ask.specs.declared.Asked.{Asked}
 use Rattle.inspect_ask.specs.declared.Asked.the-variants as asks
+use Rattle.inspect_ask.specs.declared.Single.the-variants as singles
 use Rattle.inspect_ask.specs.declared.Question.{Question}
 use Rattle.inspect_ask.specs.declared.Question.the-variants.{Unknown, Of, Room, Arena}
-use Rattle.inspect_ask.specs.Question.{listName, infoName, readlistName, readinfoName, totalName, verName, dirName, areasName, svcsName, blockName, usedName, attrName, roomName, arenaName, listLine, blockLine, totalLine, versionLine, attributeLine, codesLine, bytesLine, roomLine, arenaLine, lentAsked, storedAsked, listsAsked, cardAsked, bytesAsked, messageAsked, questionOf}
+use Rattle.inspect_ask.specs.Question.{listName, infoName, readlistName, readinfoName, totalName, verName, dirName, areasName, svcsName, blockName, usedName, attrName, roomName, arenaName, listLine, blockLine, codeLine, codesLine, bytesLine, roomLine, arenaLine, lentAsked, storedAsked, listsAsked, cardAsked, bytesAsked, messageAsked, questionOf}
 
 -- whether field 1 is codes, and whether it is bytes
 abbrev pub Wants : Bool → Bool → Asked → Type 0
@@ -71,11 +72,11 @@ module _ (fs : List (List ℕ)) where
       (either Its (form arenaName 2 fs) (arenaLine fs) Unknown (on-number Its Unknown tt (numberAt fs 1 65536) Arena (λ n. tt)) tt)
 
   on-stored : Its (storedAsked fs)
-  unfolding storedAsked blockLine attributeLine
+  unfolding storedAsked blockLine codeLine
   on-stored =
       either Its (form blockName 3 fs) (blockLine fs) _ (on-code Its Unknown tt (codeAt fs 1) _ (λ n. on-number Its Unknown tt (numberAt fs 2 4294967295) _ (λ m. tt)))
       (either Its (form usedName 1 fs) (Of asks.Used) _ tt
-      (either Its (form attrName 2 fs) (attributeLine fs) (lentAsked fs) (on-code Its Unknown tt (codeAt fs 1) _ (λ n. tt)) on-lent))
+      (either Its (form attrName 2 fs) (codeLine singles.Attribute fs) (lentAsked fs) (on-code Its Unknown tt (codeAt fs 1) _ (λ n. tt)) on-lent))
 
   on-lists : Its (listsAsked fs)
   unfolding listsAsked
@@ -84,10 +85,10 @@ module _ (fs : List (List ℕ)) where
       (either Its (form svcsName 2 fs) (codesLine asks.Services fs) (storedAsked fs) (on-codes asks.Services (λ e. e)) on-stored)
 
   on-card : Its (cardAsked fs)
-  unfolding cardAsked totalLine versionLine
+  unfolding cardAsked codeLine
   on-card =
-      either Its (form totalName 2 fs) (totalLine fs) _ (on-code Its Unknown tt (codeAt fs 1) _ (λ n. tt))
-      (either Its (form verName 2 fs) (versionLine fs) _ (on-code Its Unknown tt (codeAt fs 1) _ (λ n. tt))
+      either Its (form totalName 2 fs) (codeLine singles.Total fs) _ (on-code Its Unknown tt (codeAt fs 1) _ (λ n. tt))
+      (either Its (form verName 2 fs) (codeLine singles.Version fs) _ (on-code Its Unknown tt (codeAt fs 1) _ (λ n. tt))
       (either Its (form dirName 1 fs) (Of asks.Directory) (listsAsked fs) tt on-lists))
 
   on-read : Its (bytesAsked fs)

@@ -10,6 +10,8 @@ use Rattle.text_numbers.specs.Codes.{codesField}
 use Rattle.line_fields.specs.Fields.{codeAt, numberAt, withCode, withNumber, form}
 use Rattle.inspect_ask.specs.declared.Asked.{Asked}
 use Rattle.inspect_ask.specs.declared.Asked.the-variants as asks
+use Rattle.inspect_ask.specs.declared.Single.{Single}
+use Rattle.inspect_ask.specs.declared.Single.the-variants as singles
 use Rattle.inspect_ask.specs.declared.Question.{Question}
 use Rattle.inspect_ask.specs.declared.Question.the-variants.{Unknown, Of, Room, Arena}
 
@@ -78,14 +80,13 @@ blockLine fs =
     Of (asks.Block code number)))
 
 -- `total`, `ver`, `attr` code
-unfoldable pub totalLine : List (List ℕ) → Question
-totalLine fs = withCode Unknown (codeAt fs 1) (λ code. Of (asks.Total code))
+abbrev pub singleOf : Single → ℕ → Asked
+singleOf singles.Total code = asks.Total code
+singleOf singles.Version code = asks.Version code
+singleOf singles.Attribute code = asks.Attribute code
 
-unfoldable pub versionLine : List (List ℕ) → Question
-versionLine fs = withCode Unknown (codeAt fs 1) (λ code. Of (asks.Version code))
-
-unfoldable pub attributeLine : List (List ℕ) → Question
-attributeLine fs = withCode Unknown (codeAt fs 1) (λ code. Of (asks.Attribute code))
+unfoldable pub codeLine : Single → List (List ℕ) → Question
+codeLine single fs = withCode Unknown (codeAt fs 1) (λ code. Of (singleOf single code))
 
 -- codes joined, or bytes in hex, in field 1
 unfoldable pub codesLine : Asked → List (List ℕ) → Question
@@ -111,7 +112,7 @@ unfoldable pub storedAsked : List (List ℕ) → Question
 storedAsked fs =
     cond (form blockName 3 fs) (blockLine fs)
     (cond (form usedName 1 fs) (Of asks.Used)
-    (cond (form attrName 2 fs) (attributeLine fs) (lentAsked fs)))
+    (cond (form attrName 2 fs) (codeLine singles.Attribute fs) (lentAsked fs)))
 
 unfoldable pub listsAsked : List (List ℕ) → Question
 listsAsked fs =
@@ -120,8 +121,8 @@ listsAsked fs =
 
 unfoldable pub cardAsked : List (List ℕ) → Question
 cardAsked fs =
-    cond (form totalName 2 fs) (totalLine fs)
-    (cond (form verName 2 fs) (versionLine fs)
+    cond (form totalName 2 fs) (codeLine singles.Total fs)
+    (cond (form verName 2 fs) (codeLine singles.Version fs)
     (cond (form dirName 1 fs) (Of asks.Directory) (listsAsked fs)))
 
 unfoldable pub bytesAsked : List (List ℕ) → Question

@@ -10,7 +10,7 @@ use text_numbers::codes::Code;
 use text_numbers::decimals::Number;
 ghost use mathlib.Core.Path.{_≡_};
 ghost use Rattle.text_fields.specs.Field.{split, endsOf};
-ghost use Rattle.inspect_ask.specs.Question.{listLine, blockLine, totalLine, versionLine, attributeLine, codesLine, bytesLine, roomLine, arenaLine, lentAsked, storedAsked, listsAsked, cardAsked, bytesAsked, messageAsked, questionOf};
+ghost use Rattle.inspect_ask.specs.Question.{listLine, blockLine, singleOf, codeLine, codesLine, bytesLine, roomLine, arenaLine, lentAsked, storedAsked, listsAsked, cardAsked, bytesAsked, messageAsked, questionOf};
 
 // What is asked of a card. Codes and bytes of a question stand in the line's field 1.
 pub enum Asked {
@@ -26,6 +26,13 @@ pub enum Asked {
     Block { code: u16, number: u32 },
     Used,
     Attribute(u16),
+}
+
+// What is asked of one code.
+pub enum Single {
+    Total,
+    Version,
+    Attribute,
 }
 
 // What a line asks: something of the card, that other lengths be lent from here on, or nothing that is known.
@@ -64,37 +71,26 @@ fn block_line(line: &[u8], ends: Ends) -> Question
     Question::Of(Asked::Block { code, number })
 }
 
-// Reads a line `total`: code.
-fn total_line(line: &[u8], ends: Ends) -> Question
-    requires { ⌜ ends ≡ endsOf 9 (now line) ⌝ }
-    ensures { λ r. ⌜ r ≡ totalLine (split 9 (now (line .entry))) ⌝ }
+// What is asked of this code.
+fn asked_of(single: Single, code: u16) -> Asked
+    ensures { λ r. ⌜ r ≡ singleOf single code ⌝ }
 {
-    let Code::Is(code) = code_at(line, ends, 1) else {
-        return Question::Unknown;
-    };
-    Question::Of(Asked::Total(code))
+    match single {
+        Single::Total => Asked::Total(code),
+        Single::Version => Asked::Version(code),
+        Single::Attribute => Asked::Attribute(code),
+    }
 }
 
-// Reads a line `ver`: code.
-fn version_line(line: &[u8], ends: Ends) -> Question
+// Reads a line that asks of one code.
+fn code_line(line: &[u8], ends: Ends, single: Single) -> Question
     requires { ⌜ ends ≡ endsOf 9 (now line) ⌝ }
-    ensures { λ r. ⌜ r ≡ versionLine (split 9 (now (line .entry))) ⌝ }
+    ensures { λ r. ⌜ r ≡ codeLine single (split 9 (now (line .entry))) ⌝ }
 {
     let Code::Is(code) = code_at(line, ends, 1) else {
         return Question::Unknown;
     };
-    Question::Of(Asked::Version(code))
-}
-
-// Reads a line `attr`: code.
-fn attribute_line(line: &[u8], ends: Ends) -> Question
-    requires { ⌜ ends ≡ endsOf 9 (now line) ⌝ }
-    ensures { λ r. ⌜ r ≡ attributeLine (split 9 (now (line .entry))) ⌝ }
-{
-    let Code::Is(code) = code_at(line, ends, 1) else {
-        return Question::Unknown;
-    };
-    Question::Of(Asked::Attribute(code))
+    Question::Of(asked_of(single, code))
 }
 
 // Reads a line that asks of codes.
@@ -167,7 +163,7 @@ fn stored_asked(line: &[u8], ends: Ends) -> Question
         return Question::Of(Asked::Used);
     }
     if is_form(line, ends, b"attr", 2) {
-        return attribute_line(line, ends);
+        return code_line(line, ends, Single::Attribute);
     }
     lent_asked(line, ends)
 }
@@ -192,10 +188,10 @@ fn card_asked(line: &[u8], ends: Ends) -> Question
     ensures { λ r. ⌜ r ≡ cardAsked (split 9 (now (line .entry))) ⌝ }
 {
     if is_form(line, ends, b"total", 2) {
-        return total_line(line, ends);
+        return code_line(line, ends, Single::Total);
     }
     if is_form(line, ends, b"ver", 2) {
-        return version_line(line, ends);
+        return code_line(line, ends, Single::Version);
     }
     if is_form(line, ends, b"dir", 1) {
         return Question::Of(Asked::Directory);

@@ -52,3 +52,8 @@ informedFields m (answers.Refused refusal) = refusalFields refusal
 
 unfoldable pub readInfoFields : List ℕ → List ℕ
 readInfoFields s = informedFields (readInformation s .told) (readInformation s .answer)
+
+-- the answer to `readlist`, or to `readinfo`
+abbrev pub readFields : Bool → List ℕ → List ℕ
+readFields true s = readListFields s
+readFields false s = readInfoFields s

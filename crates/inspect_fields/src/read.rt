@@ -16,7 +16,7 @@ ghost use lib.ListN.{length};
 ghost use Rattle.text_numbers.specs.Hex.{hexField, unhex};
 ghost use Rattle.text_stream.specs.Stream.{Written};
 ghost use Rattle.text_print.specs.Print.{closed};
-ghost use Rattle.inspect_fields.specs.Fields.{mostFields, fieldOne, flagText, codeListFields, informationFields, readListFields, readInfoFields};
+ghost use Rattle.inspect_fields.specs.Fields.{mostFields, fieldOne, flagText, codeListFields, informationFields, readListFields, readInfoFields, readFields};
 
 // Puts a flag and a tab into `out` from `at` on, and answers the place after them.
 fn put_flag(more: bool, out: &mut [u8], at: usize) -> usize
@@ -45,15 +45,13 @@ fn put_code_list(list: CodeList, out: &mut [u8], at: usize) -> usize
     put_numbers(&codes[0..services], b'\n', out, after)
 }
 
-// Puts the answer to `readlist` into `out` from `at` on, and answers the place after it.
-pub fn put_read_list(line: &[u8], out: &mut [u8], at: usize) -> usize
-    requires { ⌜ (hexField (fieldOne (now line)) ≡ true) × (length (now line) ≤ 32768) × (at + mostFields ≤ length (now out)) ⌝ }
-    ensures { λ r. ⌜ Written (now (out .entry)) at (readListFields (unhex (fieldOne (now (line .entry))))) r (now (out .exit)) ⌝ }
+// Puts what bytes read as a code list, or the refusal, into `out` from `at` on, and answers the place after it.
+fn put_listed(bytes: &[u8], out: &mut [u8], at: usize) -> usize
+    requires { ⌜ at + mostFields ≤ length (now out) ⌝ }
+    ensures { λ r. ⌜ Written (now (out .entry)) at (readListFields (now (bytes .entry))) r (now (out .exit)) ⌝ }
     ensures { λ r. ⌜ r ≤ at + mostFields ⌝ }
 {
-    let mut bytes = [0u8; 16384];
-    let n = read_bytes(line, &mut bytes);
-    let listed = code_list::read_code_list(&bytes[0..n]);
+    let listed = code_list::read_code_list(bytes);
     let answer = listed.answer;
     match answer {
         Answer::Done => put_code_list(listed.list, out, at),
@@ -74,18 +72,30 @@ fn put_information(told: BlockInformation, out: &mut [u8], at: usize) -> usize
     put_numbers(&free[0..n], b'\n', out, next)
 }
 
-// Puts the answer to `readinfo` into `out` from `at` on, and answers the place after it.
-pub fn put_read_info(line: &[u8], out: &mut [u8], at: usize) -> usize
-    requires { ⌜ (hexField (fieldOne (now line)) ≡ true) × (length (now line) ≤ 32768) × (at + mostFields ≤ length (now out)) ⌝ }
-    ensures { λ r. ⌜ Written (now (out .entry)) at (readInfoFields (unhex (fieldOne (now (line .entry))))) r (now (out .exit)) ⌝ }
+// Puts what bytes read as block information, or the refusal, into `out` from `at` on, and answers the place after it.
+fn put_informed(bytes: &[u8], out: &mut [u8], at: usize) -> usize
+    requires { ⌜ at + mostFields ≤ length (now out) ⌝ }
+    ensures { λ r. ⌜ Written (now (out .entry)) at (readInfoFields (now (bytes .entry))) r (now (out .exit)) ⌝ }
     ensures { λ r. ⌜ r ≤ at + mostFields ⌝ }
 {
-    let mut bytes = [0u8; 16384];
-    let n = read_bytes(line, &mut bytes);
-    let informed = information::read_information(&bytes[0..n]);
+    let informed = information::read_information(bytes);
     let answer = informed.answer;
     match answer {
         Answer::Done => put_information(informed.told, out, at),
         Answer::Refused(refusal) => put_refusal(refusal, out, at),
     }
+}
+
+// Puts the answer to `readlist`, or to `readinfo`, into `out` from `at` on, and answers the place after it.
+pub fn put_read(list: bool, line: &[u8], out: &mut [u8], at: usize) -> usize
+    requires { ⌜ (hexField (fieldOne (now line)) ≡ true) × (length (now line) ≤ 32768) × (at + mostFields ≤ length (now out)) ⌝ }
+    ensures { λ r. ⌜ Written (now (out .entry)) at (readFields list (unhex (fieldOne (now (line .entry))))) r (now (out .exit)) ⌝ }
+    ensures { λ r. ⌜ r ≤ at + mostFields ⌝ }
+{
+    let mut bytes = [0u8; 16384];
+    let n = read_bytes(line, &mut bytes);
+    if list {
+        return put_listed(&bytes[0..n], out, at);
+    }
+    put_informed(&bytes[0..n], out, at)
 }

@@ -13,8 +13,7 @@ use Rattle.inspect_ask.proofs.question_of as inspect_ask·question-of
 use Rattle.inspect_fields.proofs.line.read_codes as inspect_fields·read-codes
 use Rattle.inspect_fields.proofs.line.read_bytes as inspect_fields·read-bytes
 use Rattle.inspect_fields.proofs.put.put_refusal as inspect_fields·put-refusal
-use Rattle.inspect_fields.proofs.read.put_read_list as inspect_fields·put-read-list
-use Rattle.inspect_fields.proofs.read.put_read_info as inspect_fields·put-read-info
+use Rattle.inspect_fields.proofs.read.put_read as inspect_fields·put-read
 use Rattle.inspect_fields.proofs.attribute.put_attribute as inspect_fields·put-attribute
 use Rattle.inspect_answer.proofs.put_answer as inspect_answer·put-answer
 use Rattle.inspect_answer.proofs.put_unknown as inspect_answer·put-unknown
@@ -34,11 +33,8 @@ module _ {M : Type 1} (𝓤 : URA M) (H : Heap 𝓤) (A : Atoms 𝓤) (mem : Mem
   pub inspect_fields·put-refusal-once : OneAnswer 𝓤 inspect_fields·put-refusal.ended (inspect_fields·put-refusal.clauses 𝓤 H A mem run)
   inspect_fields·put-refusal-once κs a g r r′ ws ws′ = of-two 𝓤 (λ p p′ q q′. (once (p .place) (q .place), λ i. (tt, (once (p .bytes) (q .bytes) i, (tt, tt)))))
 
-  pub inspect_fields·put-read-list-once : OneAnswer 𝓤 inspect_fields·put-read-list.ended (inspect_fields·put-read-list.clauses 𝓤 H A mem run)
-  inspect_fields·put-read-list-once κs a g r r′ ws ws′ = of-two 𝓤 (λ p p′ q q′. (once (p .place) (q .place), λ i. (tt, (once (p .bytes) (q .bytes) i, (tt, tt)))))
-
-  pub inspect_fields·put-read-info-once : OneAnswer 𝓤 inspect_fields·put-read-info.ended (inspect_fields·put-read-info.clauses 𝓤 H A mem run)
-  inspect_fields·put-read-info-once κs a g r r′ ws ws′ = of-two 𝓤 (λ p p′ q q′. (once (p .place) (q .place), λ i. (tt, (once (p .bytes) (q .bytes) i, (tt, tt)))))
+  pub inspect_fields·put-read-once : OneAnswer 𝓤 inspect_fields·put-read.ended (inspect_fields·put-read.clauses 𝓤 H A mem run)
+  inspect_fields·put-read-once κs a g r r′ ws ws′ = of-two 𝓤 (λ p p′ q q′. (once (p .place) (q .place), λ i. (tt, (tt, (once (p .bytes) (q .bytes) i, (tt, tt))))))
 
   pub inspect_fields·put-attribute-once : OneAnswer 𝓤 inspect_fields·put-attribute.ended (inspect_fields·put-attribute.clauses 𝓤 H A mem run)
   inspect_fields·put-attribute-once κs a g r r′ ws ws′ = of-two 𝓤 (λ p p′ q q′. (once (p .place) (q .place), λ i. (tt, (once (p .bytes) (q .bytes) i, (tt, tt)))))

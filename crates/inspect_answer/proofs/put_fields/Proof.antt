@@ -17,16 +17,16 @@ put-info-requires c κs =
     let e = s .pre .0 ∙ ap Of (g .enum-told .given .1) in
     ((asked-wants l asks.Info e, asked-short l asks.Info e), (s .pre .1, s .pre .2))
 
-put-read-list-requires : tie.Need-put-read-list-requires
-put-read-list-requires c κs =
+put-read-requires : tie.Need-put-read-requires
+put-read-requires c κs =
     let g = c .before in
     let s = g .before .before .before .before .before in
     let l = now (s .args .line) in
     let e = s .pre .0 ∙ ap Of (g .enum-told2 .given .1) in
     (asked-wants l asks.ReadList e, asked-short l asks.ReadList e, s .pre .2)
 
-put-read-info-requires : tie.Need-put-read-info-requires
-put-read-info-requires c κs =
+put-read-requires-2 : tie.Need-put-read-requires-2
+put-read-requires-2 c κs =
     let g = c .before in
     let s = g .before .before .before .before .before in
     let l = now (s .args .line) in
@@ -62,22 +62,22 @@ returns-2 c =
 returns-3 : tie.Need-returns-3
 returns-3 c =
     let p = c .before .before in
-    rw (p .before .before .enum-told2 .given .1) (p .put-read-list .ensures)
+    rw (p .before .before .enum-told2 .given .1) (p .put-read .ensures)
 
 returns-4 : tie.Need-returns-4
 returns-4 c =
     let p = c .before .before in
-    rw (p .before .before .enum-told3 .given .1) (p .put-read-info .ensures)
+    rw (p .before .before .enum-told3 .given .1) (p .put-read2 .ensures)
 
 returns-5 : tie.Need-returns-5
 returns-5 c =
     let p = c .before .before in
-    rw (p .before .before .before .asked2 .given .1) (p .put-total .ensures)
+    rw (p .before .before .before .asked2 .given .1) (p .put-told .ensures)
 
 returns-6 : tie.Need-returns-6
 returns-6 c =
     let p = c .before .before in
-    rw (p .before .before .before .asked3 .given .1) (p .put-version .ensures)
+    rw (p .before .before .before .asked3 .given .1) (p .put-told2 .ensures)
 
 returns-7 : tie.Need-returns-7
 returns-7 c =
@@ -118,9 +118,9 @@ put-fields-spec =
     (λ c. search needs)
     put-info-requires
     (λ c. search needs)
-    put-read-list-requires
+    put-read-requires
     (λ c. search needs)
-    put-read-info-requires
+    put-read-requires-2
     (λ c. search needs)
     (λ c κs. search needs)
     (λ c. search needs)
