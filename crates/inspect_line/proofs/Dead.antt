@@ -5,7 +5,8 @@ use Prim.Native.Nat.{ℕ}
 use Rattle.text_stream.specs.Stream.{Dead}
 use Rattle.replay_state.specs.declared.Phase.the-variants.{Ended}
 use Rattle.replay_state.specs.Phases.{finishText}
-use Rattle.inspect_line.specs.Inspect.{Seen, sortOf, lineSeen, lineSaid, inspectMachine}
+use Rattle.inspect_sort.specs.Sort.{sortOf}
+use Rattle.inspect_line.specs.Inspect.{Seen, lineSeen, lineSaid, inspectMachine}
 
 ended-line : (s : Seen) (l : List ℕ) → s .inspect .replay .phase ≡ Ended → lineSeen s l ≡ s
 unfolding lineSeen sortOf

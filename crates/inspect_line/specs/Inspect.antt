@@ -1,28 +1,20 @@
 -- Inspection: from the bytes of a text to the bytes printed, by way of the state between two lines.
 use Prim.Native.Nat.{ℕ}
-use mathlib.Core.Bool.{true, false, cond}
 use mathlib.Core.List.{List, []}
 use lib.ListN.{replicate}
-use Rattle.text_fields.specs.Field.{split}
 use Rattle.card_build.specs.declared.card.Card.{Card}
 use Rattle.text_stream.specs.Stream.{Machine, saysOf}
-use Rattle.line_image.specs.Line.{imageNamed}
-use Rattle.line_request.specs.Ask.{requestLine}
-use Rattle.board_line.specs.Line.{boardLine}
-use Rattle.replay_state.specs.declared.Phase.{Phase}
-use Rattle.replay_state.specs.declared.Phase.the-variants.{First, Image, Requests, Ended}
 use Rattle.replay_state.specs.declared.Replay.{Replay}
 use Rattle.replay_state.specs.Phases.{startOf, oneMore, finishText}
-use Rattle.replay_line.specs.declared.Kind.{Kind}
-use Rattle.replay_line.specs.declared.Kind.the-variants as kinds
 use Rattle.replay_line.specs.Replay.{Held, held, heldBy, textBy, workBy, bytesBy, lentBytes}
 use Rattle.inspect_ask.specs.declared.Question.{Question}
 use Rattle.inspect_ask.specs.declared.Question.the-variants as questions
-use Rattle.inspect_ask.specs.Question.{mostRoom, mostArena, questionOf}
+use Rattle.inspect_ask.specs.Question.{mostRoom, mostArena}
 use Rattle.inspect_answer.specs.Answer.{answerText, unknownText}
 use Rattle.inspect_line.specs.declared.Inspect.{Inspect}
-use Rattle.inspect_line.specs.declared.Sort.{Sort}
-use Rattle.inspect_line.specs.declared.Sort.the-variants as sorts
+use Rattle.inspect_sort.specs.declared.Sort.{Sort}
+use Rattle.inspect_sort.specs.declared.Sort.the-variants as sorts
+use Rattle.inspect_sort.specs.Sort.{sortOf}
 
 -- the state between two lines
 pub record Seen : Type 0 where
@@ -35,20 +27,6 @@ seen p arena = record { inspect = p; arena = arena }
 -- at first the whole output and the whole arena are lent
 abbrev pub beginsWith : Inspect
 beginsWith = record { replay = startOf; room = mostRoom; lent = mostArena }
-
--- the first field decides: an image line, a request, a refresh of the board, or a question
-unfoldable pub laterSort : List ℕ → Sort
-laterSort line =
-    cond (imageNamed (split 9 line)) (sorts.Replayed (kinds.Image false))
-    (cond (requestLine line) (sorts.Replayed kinds.Request)
-    (cond (boardLine line) (sorts.Replayed kinds.Board) (sorts.Asked (questionOf line))))
-
--- line 1 is an image line, whatever it says; a refused image line has ended the run, and what comes after it is nothing
-unfoldable pub sortOf : Phase → List ℕ → Sort
-sortOf First line = sorts.Replayed (kinds.Image true)
-sortOf Image line = laterSort line
-sortOf Requests line = laterSort line
-sortOf Ended line = sorts.Nothing
 
 -- the line number counts every line
 abbrev pub numbered : ℕ → Replay → Replay

@@ -1,8 +1,9 @@
 // Inspection, line by line: an image, requests as in replay, and questions, mixed after line 1.
 use card_build::card::Card;
 use inspect_ask::Question;
-use replay_line::Kind;
-use replay_state::Phase;
+use inspect_sort::Sort;
+use inspect_sort::sort_of;
+use replay_kind::Kind;
 use replay_state::Replay;
 ghost use mathlib.Core.Path.{_≡_};
 ghost use Prim.Native.Nat.{ℕ, _+_, _≤_};
@@ -12,7 +13,7 @@ ghost use Rattle.line_serve.specs.Text.{mostSpelled, mostPrinted};
 ghost use Rattle.replay_state.specs.Phases.{oneMore};
 ghost use Rattle.replay_line.specs.Replay.{lentBytes, held, heldBy, textBy, workBy, bytesBy};
 ghost use Rattle.inspect_ask.specs.Question.{questionOf};
-ghost use Rattle.inspect_line.specs.Inspect.{seen, beginsWith, laterSort, sortOf, numbered, replayedSeen, questionSeen, roomAfter, lentAfter, questionText, sortWork, sortBytes, lineSeen, lineSaid, workSeen, bytesSeen};
+ghost use Rattle.inspect_line.specs.Inspect.{seen, beginsWith, numbered, replayedSeen, questionSeen, roomAfter, lentAfter, questionText, sortWork, sortBytes, lineSeen, lineSaid, workSeen, bytesSeen};
 
 // An inspection between two lines: a replay, whose line number counts every line, and the lengths of the output and of the arena that are
 // lent to a question.
@@ -20,13 +21,6 @@ pub struct Inspect {
     pub replay: Replay,
     pub room: usize,
     pub lent: usize,
-}
-
-// What a line is taken for: a line of a replay, a question, or nothing, after the end of the run.
-pub enum Sort {
-    Replayed(Kind),
-    Asked(Question),
-    Nothing,
 }
 
 // An inspection after a line, and the place after what the line printed.
@@ -81,35 +75,6 @@ fn lent_after(question: Question, lent: usize) -> usize
         Question::Of(_) => lent,
         Question::Room(_) => lent,
         Question::Arena(n) => n as usize,
-    }
-}
-
-// What a line after line 1 is taken for, by its first field.
-fn later_sort(line: &[u8]) -> Sort
-    ensures { λ r. ⌜ r ≡ laterSort (now (line .entry)) ⌝ }
-{
-    if line_image::line::is_image(line) {
-        return Sort::Replayed(Kind::Image(false));
-    }
-    if line_request::is_request(line) {
-        return Sort::Replayed(Kind::Request);
-    }
-    if board_line::is_board(line) {
-        return Sort::Replayed(Kind::Board);
-    }
-    Sort::Asked(inspect_ask::question_of(line))
-}
-
-// What a line is taken for where an inspection is.
-fn sort_of(phase: Phase, line: &[u8]) -> Sort
-    ensures { λ r. ⌜ r ≡ sortOf phase (now (line .entry)) ⌝ }
-{
-    let later = later_sort(line);
-    match phase {
-        Phase::First => Sort::Replayed(Kind::Image(true)),
-        Phase::Image => later,
-        Phase::Requests => later,
-        Phase::Ended => Sort::Nothing,
     }
 }
 

@@ -39,7 +39,8 @@ use Rattle.board_read.specs.Refresh.{boardRequest, refreshed}
 use Rattle.board_line.specs.Line.{boardLine, boardCode, boardLineText}
 use Rattle.replay_state.specs.declared.Phase.the-variants.{Requests}
 use Rattle.replay_state.specs.Phases.{oneMore}
-use Rattle.replay_line.specs.Replay.{Held, held, kindOf, lineHeld, lineText}
+use Rattle.replay_kind.specs.Kind.{imageKind, requestKind, kindOf}
+use Rattle.replay_line.specs.Replay.{Held, held, lineHeld, lineText}
 use Rattle.law_lines.specs.Lines.{Without, none, kept, dropped, heldAfter, NoPart}
 use Rattle.law_board.specs.Redraw.{requestIn, Prints}
 use Rattle.law_lines.proofs.Lines.{no-earlier-part}
@@ -111,7 +112,7 @@ abbrev IsRedrawn : Type 0
 IsRedrawn = Redrawn card 0x41 2 thames arena (requestIn redraw) (map requestIn (look ∷ refresh ∷ [])) (boardRequest 0x104b 128)
 
 computed : Printed × Lighter × IsRedrawn
-unfolding addService placedOf isDepth parentAt parentFrom openAt firstFrom serviceUnder outside sameKind joinedTo usable newStore mayJoin numberOf attributesOf tableOf decodedOf attributeOf codeKindOf requiresKey unpackAt endsFrom endsAfter elementsFrom part put isRoot allRoots stepOf stepsFrom stepsOf soundOf rowOf modeAllowed attributeCheck serviceCheck rowCheck elementCheck checkedFrom then push runsOf scan walk back within elementBy endBy onStore staged writeJudged readJudged judgedWith planOf blocksRead committed carried serve split hex16 codesField codesOf plain upTo decimal digitsOf decText among digitOf digits spelt grouped hexField pairs unhex isLetter isEither requestLine shaped isWrite askOf lineServed after isEmpty areCrew blockJudged laneJudged lanesJudged sameRace ofRace oneRace racesJudged judgedOf crewLength laneOf lanesFrom lanesText refreshed boardLine boardCode boardLineText kindOf lineHeld lineText oneMore heldAfter requestIn
+unfolding addService placedOf isDepth parentAt parentFrom openAt firstFrom serviceUnder outside sameKind joinedTo usable newStore mayJoin numberOf attributesOf tableOf decodedOf attributeOf codeKindOf requiresKey unpackAt endsFrom endsAfter elementsFrom part put isRoot allRoots stepOf stepsFrom stepsOf soundOf rowOf modeAllowed attributeCheck serviceCheck rowCheck elementCheck checkedFrom then push runsOf scan walk back within elementBy endBy onStore staged writeJudged readJudged judgedWith planOf blocksRead committed carried serve split hex16 codesField codesOf plain upTo decimal digitsOf decText among digitOf digits spelt grouped hexField pairs unhex isLetter isEither requestLine shaped isWrite askOf lineServed after isEmpty areCrew blockJudged laneJudged lanesJudged sameRace ofRace oneRace racesJudged judgedOf crewLength laneOf lanesFrom lanesText refreshed boardLine boardCode boardLineText imageKind requestKind kindOf lineHeld lineText oneMore heldAfter requestIn
 computed = (
   (refl, refl, refl),
   (refl, refl),

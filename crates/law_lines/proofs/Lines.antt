@@ -19,15 +19,16 @@ use Rattle.board_line.specs.Line.{boardLine, boardCode, boardLineText}
 use Rattle.replay_state.specs.declared.Phase.{Phase}
 use Rattle.replay_state.specs.declared.Phase.the-variants.{First, Image, Requests, Ended}
 use Rattle.replay_state.specs.Phases.{oneMore}
-use Rattle.replay_line.specs.declared.Kind.{Kind}
-use Rattle.replay_line.specs.declared.Kind.the-variants as kinds
-use Rattle.replay_line.specs.Replay.{Held, lentBytes, kindOf, requestHeld, boardHeld, heldBy, textBy, workBy, bytesBy, lineHeld, lineText, workHeld, bytesHeld}
+use Rattle.replay_kind.specs.declared.Kind.{Kind}
+use Rattle.replay_kind.specs.declared.Kind.the-variants as kinds
+use Rattle.replay_kind.specs.Kind.{imageKind, requestKind, kindOf}
+use Rattle.replay_line.specs.Replay.{Held, lentBytes, requestHeld, boardHeld, heldBy, textBy, workBy, bytesBy, lineHeld, lineText, workHeld, bytesHeld}
 use Rattle.law_lines.specs.Lines.{Taken, LinePrints, LeavesAll, Without, none, kept, dropped, heldAfter, SameBoard, NoEarlierPart}
 use Rattle.law_lines.proofs.Shown.{prints-board}
 
 -- an `L` line is taken for a refresh
 board-kind : (p : Phase) (line : List ℕ) → Taken p [] → boardLine line ≡ true → kindOf p line ≡ kinds.Board
-unfolding kindOf
+unfolding kindOf imageKind requestKind
 board-kind First line q b = absurd q
 board-kind Image line q b = rw b
 board-kind Requests line q b = rw b
@@ -35,7 +36,7 @@ board-kind Ended line q b = absurd q
 
 -- any other for a request
 pub request-kind : (p : Phase) (line : List ℕ) → Taken p (line ∷ []) → boardLine line ≡ false → kindOf p line ≡ kinds.Request
-unfolding kindOf
+unfolding kindOf imageKind requestKind
 request-kind First line q b = absurd q
 request-kind Image line q b = let r : requestLine line ≡ true = by-test (requestLine line) (rw b at q) in rw (b, r)
   where

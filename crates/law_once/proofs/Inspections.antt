@@ -17,6 +17,7 @@ use Rattle.inspect_fields.proofs.read.put_read as inspect_fields·put-read
 use Rattle.inspect_fields.proofs.attribute.put_attribute as inspect_fields·put-attribute
 use Rattle.inspect_answer.proofs.put_answer as inspect_answer·put-answer
 use Rattle.inspect_answer.proofs.put_unknown as inspect_answer·put-unknown
+use Rattle.inspect_sort.proofs.sort_of as inspect_sort·sort-of
 use Rattle.inspect_line.proofs.start as inspect_line·start
 use Rattle.inspect_line.proofs.line as inspect_line·line
 
@@ -45,6 +46,9 @@ module _ {M : Type 1} (𝓤 : URA M) (H : Heap 𝓤) (A : Atoms 𝓤) (mem : Mem
 
   pub inspect_answer·put-unknown-once : OneAnswer 𝓤 inspect_answer·put-unknown.ended (inspect_answer·put-unknown.clauses 𝓤 H A mem run)
   inspect_answer·put-unknown-once κs a g r r′ ws ws′ = of-one 𝓤 (λ p q. (once (p .0 .place) (q .0 .place), λ i. (tt, (once (p .0 .bytes) (q .0 .bytes) i, (tt, tt)))))
+
+  pub inspect_sort·sort-of-once : OneAnswer 𝓤 inspect_sort·sort-of.ended (inspect_sort·sort-of.clauses 𝓤 H A mem run)
+  inspect_sort·sort-of-once κs a g r r′ ws ws′ = result 𝓤 refl
 
   pub inspect_line·start-once : OneAnswer 𝓤 inspect_line·start.ended (inspect_line·start.clauses 𝓤 H A mem run)
   inspect_line·start-once κs a g r r′ ws ws′ = result 𝓤 refl

@@ -37,6 +37,7 @@ use Rattle.line_serve.proofs.request_line as line_serve·request-line
 use Rattle.replay_state.proofs.start as replay_state·start
 use Rattle.replay_state.proofs.put_refusal as replay_state·put-refusal
 use Rattle.replay_state.proofs.finish as replay_state·finish
+use Rattle.replay_kind.proofs.kind_of as replay_kind·kind-of
 use Rattle.replay_line.proofs.one_more as replay_line·one-more
 use Rattle.replay_line.proofs.take as replay_line·take
 use Rattle.replay_line.proofs.line as replay_line·line
@@ -128,6 +129,9 @@ module _ {M : Type 1} (𝓤 : URA M) (H : Heap 𝓤) (A : Atoms 𝓤) (mem : Mem
 
   pub replay_state·finish-once : OneAnswer 𝓤 replay_state·finish.ended (replay_state·finish.clauses 𝓤 H A mem run)
   replay_state·finish-once κs a g r r′ ws ws′ = of-two 𝓤 (λ p p′ q q′. (once (p .place) (q .place), λ i. (tt, (once (p .bytes) (q .bytes) i, (tt, tt)))))
+
+  pub replay_kind·kind-of-once : OneAnswer 𝓤 replay_kind·kind-of.ended (replay_kind·kind-of.clauses 𝓤 H A mem run)
+  replay_kind·kind-of-once κs a g r r′ ws ws′ = result 𝓤 refl
 
   pub replay_line·one-more-once : OneAnswer 𝓤 replay_line·one-more.ended (replay_line·one-more.clauses 𝓤 H A mem run)
   replay_line·one-more-once κs a g r r′ ws ws′ = result 𝓤 refl

@@ -6,7 +6,8 @@ use Rattle.text_stream.specs.Stream.{Dead}
 use Rattle.replay_state.specs.declared.Phase.{Phase}
 use Rattle.replay_state.specs.declared.Phase.the-variants.{Ended}
 use Rattle.replay_state.specs.Phases.{finishText}
-use Rattle.replay_line.specs.Replay.{Held, kindOf, heldBy, textBy, lineHeld, lineText, replayMachine}
+use Rattle.replay_kind.specs.Kind.{kindOf}
+use Rattle.replay_line.specs.Replay.{Held, heldBy, textBy, lineHeld, lineText, replayMachine}
 
 ended-line : (s : Held) (l : List ℕ) → s .replay .phase ≡ Ended → lineHeld s l ≡ s
 unfolding lineHeld kindOf

@@ -18,8 +18,8 @@ use Rattle.board_line.specs.Line.{boardLineText}
 use Rattle.replay_state.specs.declared.Phase.the-variants.{Image, Requests, Ended}
 use Rattle.replay_state.specs.declared.Replay.{Replay}
 use Rattle.replay_state.specs.Phases.{oneMore, refusalText}
-use Rattle.replay_line.specs.declared.Kind.{Kind}
-use Rattle.replay_line.specs.declared.Kind.the-variants as kinds
+use Rattle.replay_kind.specs.declared.Kind.{Kind}
+use Rattle.replay_kind.specs.declared.Kind.the-variants as kinds
 use Rattle.replay_line.specs.Replay.{lentBytes, Held, held, imageHeld, imageText, requestHeld, boardHeld, heldBy, textBy, workBy, bytesBy}
 
 module _ (p : Replay) (t : Imaged) {added : Added} {arena : List ℕ} {n : ℕ} (e : added ≡ t .added) (a : arena ≡ t .arena) (l : n ≡ oneMore (p .lines)) where

@@ -1,22 +1,21 @@
 -- Replay: from the bytes of a text to the bytes printed, by way of the state between two lines.
 use Prim.Native.Nat.{ℕ}
-use mathlib.Core.Bool.{Bool, true, false, cond}
 use mathlib.Core.List.{List, []}
-use lib.ListN.{length, replicate}
+use lib.ListN.{replicate}
 use Rattle.answers.specs.declared.refusal.Answer.{Answer}
 use Rattle.answers.specs.declared.refusal.Answer.the-variants as answers
 use Rattle.text_stream.specs.Stream.{Machine, saysOf}
 use Rattle.line_build.specs.Image.{Imaged, imageStep}
-use Rattle.line_request.specs.Ask.{requestLine}
 use Rattle.line_serve.specs.Line.{lineServed, workAfter, bytesAfter}
 use Rattle.line_serve.specs.Text.{requestText}
-use Rattle.board_line.specs.Line.{boardLine, boardLineText}
+use Rattle.board_line.specs.Line.{boardLineText}
 use Rattle.replay_state.specs.declared.Phase.{Phase}
-use Rattle.replay_state.specs.declared.Phase.the-variants.{First, Image, Requests, Ended}
+use Rattle.replay_state.specs.declared.Phase.the-variants.{Image, Requests, Ended}
 use Rattle.replay_state.specs.declared.Replay.{Replay}
 use Rattle.replay_state.specs.Phases.{startOf, oneMore, refusalText, finishText}
-use Rattle.replay_line.specs.declared.Kind.{Kind}
-use Rattle.replay_line.specs.declared.Kind.the-variants as kinds
+use Rattle.replay_kind.specs.declared.Kind.{Kind}
+use Rattle.replay_kind.specs.declared.Kind.the-variants as kinds
+use Rattle.replay_kind.specs.Kind.{kindOf}
 
 -- the bytes lent: an arena, and as many for the output of a read and the staging of a write
 abbrev pub lentBytes : ℕ
@@ -29,14 +28,6 @@ pub record Held : Type 0 where
 
 abbrev pub held : Replay → List ℕ → Held
 held p arena = record { replay = p; arena = arena }
-
--- line 1 is an image line, whatever it says; so is each later line up to the first request or refresh of the board; from there on every
--- line is a refresh or a request; a refused image line has ended the run, and what comes after it is nothing
-unfoldable pub kindOf : Phase → List ℕ → Kind
-kindOf First line = kinds.Image true
-kindOf Image line = cond (boardLine line) kinds.Board (cond (requestLine line) kinds.Request (kinds.Image false))
-kindOf Requests line = cond (boardLine line) kinds.Board kinds.Request
-kindOf Ended line = kinds.Nothing
 
 -- an image line builds the card; a refused one ends the run
 abbrev pub phaseBy : Answer → Phase

@@ -1,5 +1,6 @@
 // Replay, line by line: an image, then requests and their answers.
 use answers::refusal::Answer;
+use replay_kind::Kind;
 use replay_state::Phase;
 use replay_state::Replay;
 use replay_state::put_refusal;
@@ -12,16 +13,7 @@ ghost use Rattle.line_serve.specs.Line.{workAfter, bytesAfter};
 ghost use Rattle.line_serve.specs.Text.{mostSpelled, mostPrinted, requestText};
 ghost use Rattle.board_line.specs.Line.{boardLineText};
 ghost use Rattle.replay_state.specs.Phases.{oneMore};
-ghost use Rattle.replay_line.specs.Replay.{lentBytes, held, kindOf, imageHeld, imageText, requestHeld, boardHeld, heldBy, textBy, workBy, bytesBy, lineHeld, lineText, workHeld, bytesHeld};
-
-// What a line is taken for: an image line, the first or a later one; a request; a refresh of the lane board; or nothing, after the end of
-// the run.
-pub enum Kind {
-    Image(bool),
-    Request,
-    Board,
-    Nothing,
-}
+ghost use Rattle.replay_line.specs.Replay.{lentBytes, held, imageHeld, imageText, requestHeld, boardHeld, heldBy, textBy, workBy, bytesBy, lineHeld, lineText, workHeld, bytesHeld};
 
 // A replay after a line, and the place after what the line printed.
 pub struct Taken {
@@ -127,27 +119,6 @@ fn refresh_line(replay: Replay, arena: &[u8], line: &[u8], out: &mut [u8], at: u
     }
 }
 
-// What a line is taken for where a replay is, by its first field.
-fn kind_of(phase: Phase, line: &[u8]) -> Kind
-    ensures { λ r. ⌜ r ≡ kindOf phase (now (line .entry)) ⌝ }
-{
-    let board = board_line::is_board(line);
-    match phase {
-        Phase::First => Kind::Image(true),
-        Phase::Image => {
-            if board {
-                return Kind::Board;
-            }
-            if line_request::is_request(line) {
-                return Kind::Request;
-            }
-            Kind::Image(false)
-        }
-        Phase::Requests => if board { Kind::Board } else { Kind::Request },
-        Phase::Ended => Kind::Nothing,
-    }
-}
-
 // Takes one line of a replay for what it is said to be, and puts what it prints into `out` from `at` on.
 pub fn take(
     replay: Replay,
@@ -190,6 +161,6 @@ pub fn line(
     ensures { λ _. ⌜ now (bytes .exit) ≡ bytesHeld (held replay (now (arena .entry))) (now (bytes .entry)) (now (line .entry)) ⌝ }
 {
     let phase = replay.phase;
-    let kind = kind_of(phase, line);
+    let kind = replay_kind::kind_of(phase, line);
     take(replay, kind, arena, work, bytes, line, out, at)
 }

@@ -4,9 +4,10 @@ use native.Mathlib.Omega.{arith}
 use mathlib.Core.Path.{_≡_, refl, sym, _∙_}
 use denote.Ref.{now}
 use Rattle.text_stream.proofs.Prints.{written-none}
-use Rattle.inspect_line.specs.declared.Sort.{Sort}
-use Rattle.inspect_line.specs.Inspect.{sortOf, lineSeen, lineSaid, workSeen, bytesSeen}
-use Rattle.inspect_line.proofs.Looks.{asked-of}
+use Rattle.inspect_sort.specs.declared.Sort.{Sort}
+use Rattle.inspect_sort.specs.Sort.{sortOf}
+use Rattle.inspect_sort.proofs.Asked.{asked-of}
+use Rattle.inspect_line.specs.Inspect.{lineSeen, lineSaid, workSeen, bytesSeen}
 use Rattle.inspect_line.proofs.line.Statement.{statement}
 use Rattle.inspect_line.proofs.line.Tie as tie
 

@@ -1,8 +1,8 @@
--- `inspect_line::sort_of` meets its contract, by the phase. Assumes nothing.
+-- `inspect_sort::sort_of` meets its contract, by where the inspection is. Assumes nothing.
 use borrow.Author.Needs.{needs}
-use Rattle.inspect_line.specs.Inspect.{sortOf}
-use Rattle.inspect_line.proofs.sort_of.Statement.{statement}
-use Rattle.inspect_line.proofs.sort_of.Tie as tie
+use Rattle.inspect_sort.specs.Sort.{sortOf}
+use Rattle.inspect_sort.proofs.sort_of.Statement.{statement}
+use Rattle.inspect_sort.proofs.sort_of.Tie as tie
 
 returns : tie.Need-returns
 unfolding sortOf
