@@ -16,11 +16,12 @@ use Rattle.board_line.specs.Line.{boardLine}
 use Rattle.replay_state.specs.declared.Phase.{Phase}
 use Rattle.replay_state.specs.declared.Phase.the-variants.{First, Image, Requests, Ended}
 use Rattle.replay_state.specs.Phases.{oneMore}
-use Rattle.replay_line.specs.declared.Kind.the-variants as kinds
-use Rattle.inspect_line.specs.declared.Sort.{Sort}
-use Rattle.inspect_line.specs.declared.Sort.the-variants as sorts
+use Rattle.replay_kind.specs.declared.Kind.the-variants as kinds
+use Rattle.inspect_sort.specs.declared.Sort.{Sort}
+use Rattle.inspect_sort.specs.declared.Sort.the-variants as sorts
 use Rattle.inspect_ask.specs.Question.{questionOf}
-use Rattle.inspect_line.specs.Inspect.{Seen, laterSort, sortOf, saidBy, seenBy, sortWork, sortBytes, lineSeen, lineSaid, workSeen, bytesSeen}
+use Rattle.inspect_sort.specs.Sort.{laterSort, sortOf}
+use Rattle.inspect_line.specs.Inspect.{Seen, saidBy, seenBy, sortWork, sortBytes, lineSeen, lineSaid, workSeen, bytesSeen}
 use Rattle.law_lines.proofs.Shown.{prints-board}
 use Rattle.law_lines.proofs.Lines.{is-board}
 use Rattle.law_inspect.specs.Looks.{GoesOn, InspectPrints, LooksOnly, InspectLeaves}

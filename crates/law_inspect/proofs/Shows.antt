@@ -23,12 +23,13 @@ use Rattle.board_line.specs.Line.{boardLine}
 use Rattle.replay_state.specs.declared.Phase.{Phase}
 use Rattle.replay_state.specs.declared.Phase.the-variants.{Ended}
 use Rattle.replay_state.specs.Phases.{oneMore}
-use Rattle.replay_line.specs.declared.Kind.the-variants as kinds
+use Rattle.replay_kind.specs.declared.Kind.the-variants as kinds
 use Rattle.replay_line.specs.Replay.{lentBytes, phaseBy}
 use Rattle.inspect_ask.specs.Question.{questionOf}
-use Rattle.inspect_line.specs.declared.Sort.{Sort}
-use Rattle.inspect_line.specs.declared.Sort.the-variants as sorts
-use Rattle.inspect_line.specs.Inspect.{Seen, laterSort, sortOf, seenBy, lineSeen}
+use Rattle.inspect_sort.specs.declared.Sort.{Sort}
+use Rattle.inspect_sort.specs.declared.Sort.the-variants as sorts
+use Rattle.inspect_sort.specs.Sort.{laterSort, sortOf}
+use Rattle.inspect_line.specs.Inspect.{Seen, seenBy, lineSeen}
 use Rattle.inspect_line.proofs.Dead.{inspect-dead}
 use Rattle.law_lines.proofs.Shown.{done-text}
 use Rattle.law_board.proofs.Redraw.{request-arena}

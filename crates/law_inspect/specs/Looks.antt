@@ -20,12 +20,13 @@ use Rattle.board_line.specs.Line.{boardCode}
 use Rattle.replay_state.specs.declared.Phase.{Phase}
 use Rattle.replay_state.specs.declared.Phase.the-variants.{First, Image, Requests, Ended}
 use Rattle.replay_state.specs.Phases.{oneMore}
-use Rattle.replay_line.specs.declared.Kind.{Kind}
-use Rattle.replay_line.specs.declared.Kind.the-variants as kinds
+use Rattle.replay_kind.specs.declared.Kind.{Kind}
+use Rattle.replay_kind.specs.declared.Kind.the-variants as kinds
 use Rattle.replay_line.specs.Replay.{lentBytes}
-use Rattle.inspect_line.specs.declared.Sort.{Sort}
-use Rattle.inspect_line.specs.declared.Sort.the-variants as sorts
-use Rattle.inspect_line.specs.Inspect.{Seen, sortOf, lineSeen, lineSaid, workSeen, bytesSeen}
+use Rattle.inspect_sort.specs.declared.Sort.{Sort}
+use Rattle.inspect_sort.specs.declared.Sort.the-variants as sorts
+use Rattle.inspect_sort.specs.Sort.{sortOf}
+use Rattle.inspect_line.specs.Inspect.{Seen, lineSeen, lineSaid, workSeen, bytesSeen}
 use Rattle.law_calls.specs.Lines.{requestBy}
 use Rattle.law_lines.specs.Shown.{eightOf, boardText, shownText}
 use Rattle.law_blocks.specs.Deed.{Deed, requested, blockSet, neither, DeedDone, DeedNames, DeedBrings}

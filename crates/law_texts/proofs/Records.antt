@@ -25,9 +25,10 @@ use Rattle.line_image.specs.declared.line.Line.{Line}
 use Rattle.line_image.specs.declared.line.Line.the-variants as lines
 use Rattle.line_image.specs.Line.{imageLine}
 use Rattle.line_build.specs.Image.{carried, imageStep}
-use Rattle.replay_line.specs.declared.Kind.{Kind}
-use Rattle.replay_line.specs.declared.Kind.the-variants as kinds
-use Rattle.replay_line.specs.Replay.{Held, kindOf, heldBy, lineHeld, atStart}
+use Rattle.replay_kind.specs.declared.Kind.{Kind}
+use Rattle.replay_kind.specs.declared.Kind.the-variants as kinds
+use Rattle.replay_kind.specs.Kind.{kindOf}
+use Rattle.replay_line.specs.Replay.{Held, heldBy, lineHeld, atStart}
 use Rattle.law_lines.specs.Lines.{heldAfter}
 
 module _ (c : Card) where

@@ -23,7 +23,7 @@ use Rattle.replay_state.specs.declared.Phase.{Phase}
 use Rattle.replay_state.specs.declared.Phase.the-variants.{First, Image, Requests, Ended}
 use Rattle.replay_state.specs.declared.Replay.{Replay}
 use Rattle.replay_state.specs.Phases.{oneMore}
-use Rattle.replay_line.specs.declared.Kind.{Kind}
+use Rattle.replay_kind.specs.declared.Kind.{Kind}
 use Rattle.replay_line.specs.Replay.{Held, held, lentBytes, textBy, lineHeld, lineText}
 use Rattle.law_terminals.specs.Orders.{Terminal, one, two, Marked, by, only, all, after, answers, told}
 use Rattle.law_terminals.specs.Two.{Answer, answerOf, arenaAfter}
