@@ -9,10 +9,15 @@ use request_plan::Reply;
 use text_numbers::codes;
 use text_numbers::codes::Code;
 ghost use mathlib.Core.Path.{_≡_};
+ghost use mathlib.Core.Bool.{_&&_};
+ghost use mathlib.Core.List.{[]};
 ghost use Prim.Native.Nat.{_+_, _≤_};
+ghost use lib.Dec.{eqb};
 ghost use lib.ListN.{length};
+ghost use Rattle.text_fields.specs.Field.{split};
 ghost use Rattle.text_numbers.specs.declared.codes.Code.the-variants.{Is};
 ghost use Rattle.text_stream.specs.Stream.{Written};
+ghost use Rattle.line_answer.specs.Answer.{answerText};
 ghost use Rattle.board_line.specs.Text.{mostBoard};
 ghost use Rattle.board_line.specs.Line.{boardLine, boardCode, refreshedText, codeText, boardLineText};
 
@@ -23,6 +28,16 @@ pub fn is_board(line: &[u8]) -> bool
     line_request::is_letter(line, 0, b'L')
 }
 
+// Tells whether a line is a refresh of two fields.
+fn is_refresh(line: &[u8]) -> bool
+    ensures { λ r. ⌜ r ≡ boardLine (now (line .entry)) && eqb (length (split 9 (now (line .entry)))) 2 ⌝ }
+{
+    if !is_board(line) {
+        return false;
+    }
+    text_fields::field_count(line, b'\t') == 2
+}
+
 // Reads the code that a refresh asks: `L` and the code, in a line no longer than the longest size.
 fn code_of(line: &[u8]) -> Code
     ensures { λ r. ⌜ r ≡ boardCode (now (line .entry)) ⌝ }
@@ -30,13 +45,19 @@ fn code_of(line: &[u8]) -> Code
     if LONGEST_LINE < line.len() {
         return Code::Bad;
     }
-    if !is_board(line) {
-        return Code::Bad;
-    }
-    if text_fields::field_count(line, b'\t') != 2 {
+    if !is_refresh(line) {
         return Code::Bad;
     }
     codes::read_hex16(text_fields::field(line, 1, b'\t'))
+}
+
+// Puts a reply without data into `out` from `at` on, and answers the place after it.
+fn put_reply(reply: Reply, bytes: &[u8], ordinal: u64, out: &mut [u8], at: usize) -> usize
+    requires { ⌜ at + mostBoard ≤ length (now out) ⌝ }
+    ensures { λ r. ⌜ Written (now (out .entry)) at (answerText ordinal reply []) r (now (out .exit)) ⌝ }
+    ensures { λ r. ⌜ r ≤ at + mostBoard ⌝ }
+{
+    line_answer::put_answer(ordinal, reply, &bytes[0..0], out, at)
 }
 
 // Puts what a refresh came to into `out` from `at` on, and answers the place after it: eight lines of the blocks, or one with the ordinal.
@@ -56,7 +77,7 @@ fn put_refreshed(
         Refreshed::NoBoard(refusal) => {
             line_answer::put_refused(ordinal, refusal.number(), out, at)
         }
-        Refreshed::Card(reply) => line_answer::put_answer(ordinal, reply, &bytes[0..0], out, at),
+        Refreshed::Card(reply) => put_reply(reply, bytes, ordinal, out, at),
     }
 }
 
@@ -95,7 +116,7 @@ pub fn board_line(
         Code::Is(code) => put_refresh(card, arena, code, ordinal, out, at),
         Code::Bad => {
             let reply = Reply::Refused(Refusal::MalformedRequest);
-            line_answer::put_answer(ordinal, reply, &line[0..0], out, at)
+            put_reply(reply, line, ordinal, out, at)
         }
     }
 }

@@ -1,6 +1,5 @@
 -- `board_line::board_line` meets its contract, by the code that the line asks. Assumes nothing.
 use borrow.Author.Needs.{needs}
-use native.Mathlib.Omega.{arith}
 use mathlib.Core.Path.{_≡_, sym, _∙_}
 use denote.Ref.{now}
 use Rattle.text_numbers.specs.declared.codes.Code.{Code}
@@ -23,8 +22,8 @@ returns-2 : tie.Need-returns-2
 unfolding boardLineText
 returns-2 c =
     let p = c .before .before in
-    let t = p .before .before .before in
-    rw (asked (t .before .before) (t .enum-told .given .1)) (p .put-answer .ensures .0, omega (arith, p .put-answer .ensures .1))
+    let t = p .before .before in
+    rw (asked (t .before .before) (t .enum-told .given .1)) (p .put-reply .ensures)
 
 pub board-line-spec : {M : Type 1} → statement M
 board-line-spec =
@@ -33,9 +32,6 @@ board-line-spec =
     (λ c κs. search needs)
     (λ c. search needs)
     (λ c κs. search needs)
-    (λ c. search needs)
-    (λ c. search needs)
-    (λ c. search needs)
     (λ c. search needs)
     (λ c κs. search needs)
     (λ c. search needs)

@@ -19,7 +19,7 @@ returns-2 c =
 returns-3 : tie.Need-returns-3
 returns-3 c =
     let p = c .before .before in
-    rw (p .before .before .before .before .refreshed2 .given .1) (p .put-answer .ensures .0, omega (arith, p .put-answer .ensures .1))
+    rw (p .before .before .before .refreshed2 .given .1) (p .put-reply .ensures)
 
 pub put-refreshed-spec : {M : Type 1} → statement M
 put-refreshed-spec =
@@ -30,9 +30,6 @@ put-refreshed-spec =
     (λ c. search needs)
     (λ c κs. search needs)
     (λ c κs. search needs)
-    (λ c. search needs)
-    (λ c. search needs)
-    (λ c. search needs)
     (λ c. search needs)
     (λ c κs. search needs)
     (λ c. search needs)
