@@ -14,3 +14,5 @@ pub mod TotalsWorded
 pub mod ChildLaws
 -- Which new stores there is room for, and which counts agree.
 pub mod Room
+-- A service's refusals in their order.
+pub mod ServiceWorded

@@ -4,3 +4,5 @@ pub mod Under
 pub mod Worded
 pub mod TotalsWorded
 pub mod Children
+-- A service's refusals in their order.
+pub mod ServiceWorded
