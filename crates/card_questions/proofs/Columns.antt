@@ -21,11 +21,14 @@ use Rattle.card_laws.proofs.UnderLaws.{le-or-lt, spans, deeper, ends}
 use Rattle.card_questions.proofs.ListingWorded.{pairs}
 use Rattle.card_laws.proofs.TotalsWorded.{sums}
 
--- a column of some nodes is that part of the column
+-- a column of some nodes, whatever it has of each, is that part of the column
+pub cells-take : (f : Node → ℕ) (n : ℕ) (ns : List Node) → take n (map f ns) ≡ map f (take n ns)
+cells-take f zero ns = refl
+cells-take f (suc n) [] = refl
+cells-take f (suc n) (x ∷ ns) = ap (λ (l : List ℕ). f x ∷ l) (cells-take f n ns)
+
 pub column-take : (c : Column) (n : ℕ) (ns : List Node) → take n (map (cellOf c) ns) ≡ map (cellOf c) (take n ns)
-column-take c zero ns = refl
-column-take c (suc n) [] = refl
-column-take c (suc n) (x ∷ ns) = ap (λ (l : List ℕ). cellOf c x ∷ l) (column-take c n ns)
+column-take c = cells-take (cellOf c)
 
 -- and is as long as there are nodes in it
 pub column-length : (c : Column) (ns : List Node) (n : ℕ) {cells : List ℕ} → cells ≡ map (cellOf c) ns → n ≤ length ns → length (take (n - 0) cells) ≡ n
@@ -37,10 +40,13 @@ column-drop c (suc n) [] = refl
 column-drop c (suc n) (x ∷ ns) = column-drop c n ns
 
 -- what a column has at i is what it has of the node there
+pub cells-read : (f : Node → ℕ) (ns : List Node) (i : ℕ) (z : Node) → i < length ns → getD (map f ns) i 0 ≡ f (getD ns i z)
+cells-read f [] i z h = absurd (omega arith)
+cells-read f (n ∷ ns) zero z h = refl
+cells-read f (n ∷ ns) (suc i) z h = cells-read f ns i z (omega arith)
+
 pub column-read : (c : Column) (ns : List Node) (i : ℕ) (z : Node) → i < length ns → getD (map (cellOf c) ns) i 0 ≡ cellOf c (getD ns i z)
-column-read c [] i z h = absurd (omega arith)
-column-read c (n ∷ ns) zero z h = refl
-column-read c (n ∷ ns) (suc i) z h = column-read c ns i z (omega arith)
+column-read c = cells-read (cellOf c)
 
 -- as many nodes lie under an area by their depths as by their records
 span-column : (d : ℕ) (ns : List Node) → spanBelow d (map (cellOf Depth) ns) ≡ spanUnder d ns

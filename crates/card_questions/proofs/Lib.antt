@@ -3,6 +3,7 @@ pub mod BuiltCards
 mod TableLaws
 mod Filled
 mod Columns
+mod TagLaws
 mod Answered
 mod Found
 mod Version

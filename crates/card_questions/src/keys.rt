@@ -1,7 +1,9 @@
 // Key versions, and the two lists that a mutual authentication names.
+use crate::tags;
 use answers::refusal::Refusal;
 use answers::refusal::Told;
 use card_build::card::Card;
+use card_nodes::count;
 use card_nodes::find;
 use card_nodes::find::Found;
 use card_nodes::node::Node;
@@ -9,6 +11,7 @@ use service_code::code::ServiceCode;
 ghost use mathlib.Core.Path.{_≡_};
 ghost use mathlib.Core.Bool.{cond};
 ghost use lib.ListN.{take};
+ghost use Rattle.card_questions.specs.Tags.{OfTags};
 ghost use Rattle.card_questions.specs.declared.keys.ListNode.the-variants.{Keyed, KeyFree};
 ghost use Rattle.card_questions.specs.Keys.{versionOf, isFound, areaOrSystem, areaListOf, listNodeOf, serviceListOf, checkedBy, versionAnswer, areaListAnswer, serviceListAnswer};
 
@@ -52,34 +55,43 @@ fn key_version(nodes: [Node; 64], count: usize, system: u16, code: u16) -> u16
     0xffff
 }
 
-// Whether `code` is an area's, or FFFF for the system.
-fn area_or_system(nodes: [Node; 64], count: usize, code: u16) -> bool
-    ensures { λ r. ⌜ r ≡ areaOrSystem (take count nodes) code ⌝ }
+// Whether `code` is an area's among nodes of these tags, or FFFF for the system.
+fn area_or_system(tags: &[u32], code: u16) -> bool
+    ensures { λ r. ⌜ OfTags (now (tags .entry)) (λ ns. r ≡ areaOrSystem ns code) ⌝ }
 {
     if code == 0xffff {
         return true;
     }
-    is_found(find::find_area(nodes, count, code))
+    is_found(tags::area_at(tags, code))
 }
 
-// Whether an area list is well formed: first an existing area, each later one an area or FFFF.
-fn area_list(nodes: [Node; 64], count: usize, areas: &[u16]) -> bool
-    ensures { λ r. ⌜ r ≡ areaListOf (take count nodes) (now (areas .entry)) ⌝ }
+// Whether an area list is well formed among nodes of these tags: first an existing area, each later one an area or FFFF.
+fn areas_tagged(tags: &[u32], areas: &[u16]) -> bool
+    ensures { λ r. ⌜ OfTags (now (tags .entry)) (λ ns. r ≡ areaListOf ns (now (areas .entry))) ⌝ }
 {
     if areas.len() == 0 {
         return false;
     }
-    if !is_found(find::find_area(nodes, count, areas[0])) {
+    if !is_found(tags::area_at(tags, areas[0])) {
         return false;
     }
     let mut i = 1;
     while i < areas.len() {
-        if !area_or_system(nodes, count, areas[i]) {
+        if !area_or_system(tags, areas[i]) {
             return false;
         }
         i += 1;
     }
     true
+}
+
+// Whether an area list is well formed among `count` nodes.
+fn area_list(nodes: [Node; 64], count: usize, areas: &[u16]) -> bool
+    ensures { λ r. ⌜ r ≡ areaListOf (take count nodes) (now (areas .entry)) ⌝ }
+{
+    let n = count::taken(count);
+    let tags = tags::tags_of(nodes);
+    areas_tagged(&tags[0..n], areas)
 }
 
 // A node that a service list names: keyed or key-free.
@@ -93,32 +105,34 @@ fn listed(keyed: bool) -> ListNode
     }
 }
 
-// What `code` in a service list names. The system and areas are keyed whatever their low bit is, a service by its code's.
-fn list_node(nodes: [Node; 64], count: usize, code: u16) -> ListNode
-    ensures { λ r. ⌜ r ≡ listNodeOf (take count nodes) code ⌝ }
+// What `code` in a service list names among nodes of these tags. The system and areas are keyed whatever their low bit is, a service by its
+// code's.
+fn list_node(tags: &[u32], code: u16) -> ListNode
+    ensures { λ r. ⌜ OfTags (now (tags .entry)) (λ ns. r ≡ listNodeOf ns code) ⌝ }
 {
     if code == 0xffff {
         return ListNode::Keyed;
     }
     let keyed = ServiceCode(code).requires_key();
-    if is_found(find::find_service(nodes, count, code)) {
+    if is_found(tags::service_at(tags, code)) {
         return listed(keyed);
     }
-    if is_found(find::find_area(nodes, count, code)) {
+    if is_found(tags::area_at(tags, code)) {
         return listed(true);
     }
     ListNode::Unknown
 }
 
-// Whether a service list is well formed: each resolves, no keyed entry follows a key-free one, at least one is keyed.
-fn service_list(nodes: [Node; 64], count: usize, services: &[u16]) -> bool
-    ensures { λ r. ⌜ r ≡ serviceListOf (take count nodes) (now (services .entry)) ⌝ }
+// Whether a service list is well formed among nodes of these tags: each resolves, no keyed entry follows a key-free one, at least one is
+// keyed.
+fn services_tagged(tags: &[u32], services: &[u16]) -> bool
+    ensures { λ r. ⌜ OfTags (now (tags .entry)) (λ ns. r ≡ serviceListOf ns (now (services .entry))) ⌝ }
 {
     let mut has_keyed = false;
     let mut seen_free = false;
     let mut i = 0;
     while i < services.len() {
-        match list_node(nodes, count, services[i]) {
+        match list_node(tags, services[i]) {
             ListNode::Keyed => {
                 if seen_free {
                     return false;
@@ -135,6 +149,15 @@ fn service_list(nodes: [Node; 64], count: usize, services: &[u16]) -> bool
         i += 1;
     }
     has_keyed
+}
+
+// Whether a service list is well formed among `count` nodes.
+fn service_list(nodes: [Node; 64], count: usize, services: &[u16]) -> bool
+    ensures { λ r. ⌜ r ≡ serviceListOf (take count nodes) (now (services .entry)) ⌝ }
+{
+    let n = count::taken(count);
+    let tags = tags::tags_of(nodes);
+    services_tagged(&tags[0..n], services)
 }
 
 // The key version of the node of `code`, or refusal 8.

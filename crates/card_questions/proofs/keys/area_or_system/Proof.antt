@@ -3,6 +3,7 @@ use mathlib.Core.Path.{_∙_, ap}
 use borrow.Author.Needs.{needs}
 use Rattle.byte_parts.proofs.Tests.{tests}
 use Rattle.card_questions.specs.Keys.{isFound, areaOrSystem}
+use Rattle.card_questions.proofs.TagLaws.{tags-area}
 use Rattle.card_questions.proofs.keys.area_or_system.Statement.{statement}
 use Rattle.card_questions.proofs.keys.area_or_system.Tie as tie
 
@@ -11,7 +12,7 @@ unfolding areaOrSystem
 area-or-system-spec =
     tie.close
     (tie.spec
-    (λ c. search tests)
+    (λ c ns e. search tests)
     (λ c κs. search needs)
     (λ c κs. search needs)
-    (λ c. c .is-found .ensures ∙ ap isFound (c .before .find-area .ensures) ∙ search tests))
+    (λ c ns e. c .is-found .ensures ∙ ap isFound (c .before .area-at .ensures ∙ tags-area ns e _) ∙ search tests))
