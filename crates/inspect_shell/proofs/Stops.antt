@@ -2,7 +2,7 @@
 use mathlib.Core.Path.{_≡_}
 use mathlib.Core.Bool.{true}
 use Rattle.text_stream.specs.Stream.{Dead}
-use Rattle.replay_shell.proofs.Stops.{ended-of}
+use Rattle.replay_state.proofs.Stops.{ended-of}
 use Rattle.inspect_line.specs.Inspect.{Seen, inspectMachine}
 use Rattle.inspect_line.proofs.Dead.{inspect-dead}
 use Rattle.inspect_shell.specs.Stop.{stops}

@@ -1,8 +1,8 @@
 -- When inspection stops reading.
 use mathlib.Core.Bool.{Bool}
-use Rattle.replay_shell.specs.Stop.{stopsIn}
+use Rattle.replay_state.specs.Phases.{stopsIn}
 use Rattle.inspect_line.specs.Inspect.{Seen}
 
--- a refused image line ends the run, as it ends a replay
+-- RULES 11.11: a refused image line ends the run, as it ends a replay
 abbrev pub stops : Seen → Bool
 stops s = stopsIn (s .inspect .replay .phase)

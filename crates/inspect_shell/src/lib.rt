@@ -1,4 +1,4 @@
-// Inspection over a text: its answer to an event, its write, and its loop.
+// Inspection over a text: its answer to an event, its write, its loop, and what it lends.
 use byte_parts::sizes::MOST_PRINTED;
 use inspect_line::Inspect;
 use text_pull::Flow;
@@ -18,7 +18,7 @@ struct Moved {
     flow: Flow,
 }
 
-// Answers an event: a whole line, or the end of the text.
+// Answers an event: a whole line, the end of the text, or nothing.
 fn answer(
     inspect: Inspect,
     flow: Flow,
@@ -31,28 +31,24 @@ fn answer(
     requires { ⌜ (length (now work) ≡ lentBytes) × (mostSpelled ≤ length (now bytes)) × (flow .len ≤ length (now line)) × (flow .made + mostPrinted ≤ length (now out)) ⌝ }
     ensures { λ r. ⌜ Answered inspectMachine stops mostPrinted flow (seen inspect (now (arena .entry))) (now (line .entry)) (now (out .entry)) (r .flow) (seen (r .inspect) (now (arena .exit))) (now (out .exit)) ⌝ }
 {
-    let made = text_pull::made(flow);
     if text_pull::is_line(flow) {
+        let made = text_pull::made(flow);
         let len = text_pull::kept(flow);
         let taken = inspect_line::line(inspect, arena, work, bytes, &line[0..len], out, made);
         let after = taken.inspect;
         let replay = after.replay;
         let phase = replay.phase;
-        let stops = replay_shell::stops_in(phase);
+        let stops = replay_state::stops_in(phase);
         return Moved {
             inspect: after,
             flow: text_pull::took(flow, taken.at, stops),
         };
     }
-    if text_pull::is_end(flow) {
-        let replay = inspect.replay;
-        let last = replay_state::finish(replay, out, made);
-        return Moved {
-            inspect,
-            flow: text_pull::closed(flow, last),
-        };
+    let replay = inspect.replay;
+    Moved {
+        inspect,
+        flow: replay_state::close(replay, flow, out),
     }
-    Moved { inspect, flow }
 }
 
 // Writes what was printed, where it is due: it is what a text of the length read prints next.
@@ -91,6 +87,27 @@ fn run(
     moved.flow
 }
 
+// Lends what a text is read into, kept in and printed to.
+fn lend(fd: i32, inspect: Inspect, arena: &mut [u8], work: &mut [u8], bytes: &mut [u8]) -> Flow
+    requires { ⌜ (now arena ≡ replicate lentBytes 0) × (inspect ≡ beginsWith) ⌝ }
+    requires { ⌜ (length (now work) ≡ lentBytes) × (mostSpelled ≤ length (now bytes)) ⌝ }
+    ensures { λ r. ⌜ Ran inspectMachine atStart r ⌝ }
+{
+    let mut chunk = [0u8; 65536];
+    let mut line = [0u8; 32769];
+    let mut out = [0u8; 65536];
+    run(
+        fd,
+        inspect,
+        arena,
+        work,
+        bytes,
+        &mut chunk,
+        &mut line,
+        &mut out,
+    )
+}
+
 // Inspects what the descriptor has, to standard output, and answers where the reading is then.
 pub fn inspect(fd: i32) -> Flow
     ensures { λ r. ⌜ Ran inspectMachine atStart r ⌝ }
@@ -99,17 +116,5 @@ pub fn inspect(fd: i32) -> Flow
     let mut arena = [0u8; 65536];
     let mut work = [0u8; 65536];
     let mut bytes = [0u8; 16384];
-    let mut chunk = [0u8; 65536];
-    let mut line = [0u8; 32769];
-    let mut out = [0u8; 65536];
-    run(
-        fd,
-        start,
-        &mut arena,
-        &mut work,
-        &mut bytes,
-        &mut chunk,
-        &mut line,
-        &mut out,
-    )
+    lend(fd, start, &mut arena, &mut work, &mut bytes)
 }

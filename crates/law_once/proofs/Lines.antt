@@ -12,6 +12,7 @@ use contract.Monad.{Fun}
 use Rattle.byte_parts.specs.Part.{put}
 use Rattle.text_numbers.specs.Codes.{codesOf}
 use Rattle.line_fields.specs.Fields.{fieldIn}
+use Rattle.text_pull.specs.Pull.{restedOf}
 use Rattle.law_once.specs.One.{OneAnswer}
 use Rattle.law_once.proofs.Law.{once, once-by, of-two, of-facts, of-four, result}
 use Rattle.line_fields.proofs.is_word as line_fields·is-word
@@ -38,10 +39,11 @@ use Rattle.replay_state.proofs.start as replay_state·start
 use Rattle.replay_state.proofs.put_refusal as replay_state·put-refusal
 use Rattle.replay_state.proofs.finish as replay_state·finish
 use Rattle.replay_kind.proofs.kind_of as replay_kind·kind-of
+use Rattle.replay_state.proofs.close as replay_state·close
+use Rattle.replay_state.proofs.stops_in as replay_state·stops-in
 use Rattle.replay_line.proofs.one_more as replay_line·one-more
 use Rattle.replay_line.proofs.take as replay_line·take
 use Rattle.replay_line.proofs.line as replay_line·line
-use Rattle.replay_shell.proofs.stops_in as replay_shell·stops-in
 use Rattle.text_feed.proofs.feed as text_feed·feed
 use Rattle.text_pull.proofs.start as text_pull·start
 use Rattle.text_pull.proofs.goes_on as text_pull·goes-on
@@ -133,6 +135,15 @@ module _ {M : Type 1} (𝓤 : URA M) (H : Heap 𝓤) (A : Atoms 𝓤) (mem : Mem
   pub replay_kind·kind-of-once : OneAnswer 𝓤 replay_kind·kind-of.ended (replay_kind·kind-of.clauses 𝓤 H A mem run)
   replay_kind·kind-of-once κs a g r r′ ws ws′ = result 𝓤 refl
 
+  pub replay_state·close-once : OneAnswer 𝓤 replay_state·close.ended (replay_state·close.clauses 𝓤 H A mem run)
+  replay_state·close-once κs a g r r′ ws ws′ = of-two 𝓤 (λ p p′ q q′. (
+    once-by (λ (n : ℕ). restedOf (a .1 .0) n) (once (p .words .place) (q .words .place)) (p .flow) (q .flow),
+    λ i. (tt, (tt, (once (p .words .bytes) (q .words .bytes) i, tt))),
+  ))
+
+  pub replay_state·stops-in-once : OneAnswer 𝓤 replay_state·stops-in.ended (replay_state·stops-in.clauses 𝓤 H A mem run)
+  replay_state·stops-in-once κs a g r r′ ws ws′ = result 𝓤 refl
+
   pub replay_line·one-more-once : OneAnswer 𝓤 replay_line·one-more.ended (replay_line·one-more.clauses 𝓤 H A mem run)
   replay_line·one-more-once κs a g r r′ ws ws′ = result 𝓤 refl
 
@@ -180,6 +191,3 @@ module _ {M : Type 1} (𝓤 : URA M) (H : Heap 𝓤) (A : Atoms 𝓤) (mem : Mem
 
   pub text_pull·is-short-once : OneAnswer 𝓤 text_pull·is-short.ended (text_pull·is-short.clauses 𝓤 H A mem run)
   text_pull·is-short-once κs a g r r′ ws ws′ = result 𝓤 refl
-
-  pub replay_shell·stops-in-once : OneAnswer 𝓤 replay_shell·stops-in.ended (replay_shell·stops-in.clauses 𝓤 H A mem run)
-  replay_shell·stops-in-once κs a g r r′ ws ws′ = result 𝓤 refl

@@ -1,6 +1,5 @@
-// Replay over a text: its answer to an event, its write, and its loop.
+// Replay over a text: its answer to an event, its write, its loop, and what it lends.
 use byte_parts::sizes::MOST_PRINTED;
-use replay_state::Phase;
 use replay_state::Replay;
 use text_pull::Flow;
 ghost use mathlib.Core.Path.{_≡_};
@@ -11,7 +10,7 @@ ghost use Rattle.text_pull.specs.Pull.{Answered, Next, Flushed, Ran};
 ghost use Rattle.line_serve.specs.Text.{mostSpelled, mostPrinted};
 ghost use Rattle.replay_state.specs.Phases.{startOf};
 ghost use Rattle.replay_line.specs.Replay.{lentBytes, held, replayMachine, atStart};
-ghost use Rattle.replay_shell.specs.Stop.{stopsIn, stops};
+ghost use Rattle.replay_shell.specs.Stop.{stops};
 
 // A replay, and where the reading is.
 struct Moved {
@@ -19,19 +18,7 @@ struct Moved {
     flow: Flow,
 }
 
-// Whether a replay stops: a refused image line ends the run.
-pub fn stops_in(phase: Phase) -> bool
-    ensures { λ r. ⌜ r ≡ stopsIn phase ⌝ }
-{
-    match phase {
-        Phase::First => false,
-        Phase::Image => false,
-        Phase::Requests => false,
-        Phase::Ended => true,
-    }
-}
-
-// Answers an event: a whole line, or the end of the text.
+// Answers an event: a whole line, the end of the text, or nothing.
 fn answer(
     replay: Replay,
     flow: Flow,
@@ -44,26 +31,22 @@ fn answer(
     requires { ⌜ (length (now work) ≡ lentBytes) × (mostSpelled ≤ length (now bytes)) × (flow .len ≤ length (now line)) × (flow .made + mostPrinted ≤ length (now out)) ⌝ }
     ensures { λ r. ⌜ Answered replayMachine stops mostPrinted flow (held replay (now (arena .entry))) (now (line .entry)) (now (out .entry)) (r .flow) (held (r .replay) (now (arena .exit))) (now (out .exit)) ⌝ }
 {
-    let made = text_pull::made(flow);
     if text_pull::is_line(flow) {
+        let made = text_pull::made(flow);
         let len = text_pull::kept(flow);
         let taken = replay_line::line(replay, arena, work, bytes, &line[0..len], out, made);
         let after = taken.replay;
         let phase = after.phase;
-        let stops = stops_in(phase);
+        let stops = replay_state::stops_in(phase);
         return Moved {
             replay: after,
             flow: text_pull::took(flow, taken.at, stops),
         };
     }
-    if text_pull::is_end(flow) {
-        let last = replay_state::finish(replay, out, made);
-        return Moved {
-            replay,
-            flow: text_pull::closed(flow, last),
-        };
+    Moved {
+        replay,
+        flow: replay_state::close(replay, flow, out),
     }
-    Moved { replay, flow }
 }
 
 // Writes what was printed, where it is due: it is what a text of the length read prints next.
@@ -102,6 +85,27 @@ fn run(
     moved.flow
 }
 
+// Lends what a text is read into, kept in and printed to.
+fn lend(fd: i32, replay: Replay, arena: &mut [u8], work: &mut [u8], bytes: &mut [u8]) -> Flow
+    requires { ⌜ (now arena ≡ replicate lentBytes 0) × (replay ≡ startOf) ⌝ }
+    requires { ⌜ (length (now work) ≡ lentBytes) × (mostSpelled ≤ length (now bytes)) ⌝ }
+    ensures { λ r. ⌜ Ran replayMachine atStart r ⌝ }
+{
+    let mut chunk = [0u8; 65536];
+    let mut line = [0u8; 32769];
+    let mut out = [0u8; 65536];
+    run(
+        fd,
+        replay,
+        arena,
+        work,
+        bytes,
+        &mut chunk,
+        &mut line,
+        &mut out,
+    )
+}
+
 // Replays what the descriptor has, to standard output, and answers where the reading is then.
 pub fn replay(fd: i32) -> Flow
     ensures { λ r. ⌜ Ran replayMachine atStart r ⌝ }
@@ -110,17 +114,5 @@ pub fn replay(fd: i32) -> Flow
     let mut arena = [0u8; 65536];
     let mut work = [0u8; 65536];
     let mut bytes = [0u8; 16384];
-    let mut chunk = [0u8; 65536];
-    let mut line = [0u8; 32769];
-    let mut out = [0u8; 65536];
-    run(
-        fd,
-        start,
-        &mut arena,
-        &mut work,
-        &mut bytes,
-        &mut chunk,
-        &mut line,
-        &mut out,
-    )
+    lend(fd, start, &mut arena, &mut work, &mut bytes)
 }

@@ -1,6 +1,6 @@
--- Where a replay is between two lines, how it starts, counts and ends.
+-- Where a replay is between two lines, how it starts, counts and ends, and when it stops reading.
 use Prim.Native.Nat.{ℕ, _+_}
-use mathlib.Core.Bool.{false, cond}
+use mathlib.Core.Bool.{Bool, true, false, cond}
 use mathlib.Core.List.{List, [], _∷_, _++_}
 use lib.Dec.{ltb}
 use Rattle.answers.specs.declared.refusal.Refusal.{Refusal}
@@ -32,3 +32,10 @@ finishText First = refusalText 1 MalformedImage
 finishText Image = []
 finishText Requests = []
 finishText Ended = []
+
+-- RULES 11.11: a refused image line ends the run
+abbrev pub stopsIn : Phase → Bool
+stopsIn First = false
+stopsIn Image = false
+stopsIn Requests = false
+stopsIn Ended = true

@@ -1,14 +1,17 @@
-// A replay: where it is between two lines, how it starts and ends.
+// A replay: where it is between two lines, how it starts and ends, and when it stops reading.
 use answers::refusal::Refusal;
 use card_build::card::Card;
 use card_build::card::System;
 use text_print::put_number;
 use text_print::put_word;
+use text_pull::Flow;
 ghost use mathlib.Core.Path.{_≡_};
 ghost use Prim.Native.Nat.{_+_, _≤_};
 ghost use lib.ListN.{length};
 ghost use Rattle.text_stream.specs.Stream.{Written};
-ghost use Rattle.replay_state.specs.Phases.{startOf, refusalText, finishText};
+ghost use mathlib.Core.Bool.{false};
+ghost use Rattle.text_pull.specs.Pull.{isLine, Rested};
+ghost use Rattle.replay_state.specs.Phases.{startOf, refusalText, finishText, stopsIn};
 
 // Where a replay is: ahead of its first line, in the image, among the requests, or ended by a refused image line.
 pub enum Phase {
@@ -67,5 +70,31 @@ pub fn finish(replay: Replay, out: &mut [u8], at: usize) -> usize
         Phase::Image => at,
         Phase::Requests => at,
         Phase::Ended => at,
+    }
+}
+
+// Answers where no line is at hand: the end of the text, or nothing.
+pub fn close(replay: Replay, flow: Flow, out: &mut [u8]) -> Flow
+    requires { ⌜ (isLine flow ≡ false) × (flow .made + 48 ≤ length (now out)) ⌝ }
+    ensures { λ r. ⌜ Rested (finishText (replay .phase)) flow (now (out .entry)) r (now (out .exit)) ⌝ }
+    ensures { λ r. ⌜ r .made ≤ flow .made + 48 ⌝ }
+{
+    if text_pull::is_end(flow) {
+        let made = text_pull::made(flow);
+        let last = finish(replay, out, made);
+        return text_pull::closed(flow, last);
+    }
+    flow
+}
+
+// Whether a replay stops reading: a refused image line ends the run.
+pub fn stops_in(phase: Phase) -> bool
+    ensures { λ r. ⌜ r ≡ stopsIn phase ⌝ }
+{
+    match phase {
+        Phase::First => false,
+        Phase::Image => false,
+        Phase::Requests => false,
+        Phase::Ended => true,
     }
 }

@@ -15,7 +15,7 @@ use Rattle.text_feed.specs.Feed.{placeAfter, lineAfter}
 use Rattle.text_stream.proofs.Steps.{lf-at, lf-within}
 use Rattle.text_stream.proofs.Feeding.{kept-after, len-within, lf-place, end-place}
 use Rattle.text_pull.specs.declared.Flow.{Flow}
-use Rattle.text_pull.specs.Pull.{readOf, restOf, Refilled, lastOf, Pulled}
+use Rattle.text_pull.specs.Pull.{readOf, restOf, Refilled, atEnd, lastOf, fedOf, Pulled}
 use Rattle.text_pull.proofs.Stages.{read-none, stage-most, read-room}
 
 -- Nothing is read.
@@ -84,11 +84,11 @@ unfolding lastOf
 last-none w n k h = rw (ne-eqb n 1 h)
 
 last-some : (w k : ℕ) → 1 ≤ k → lastOf w 1 k ≡ 1
-unfolding lastOf
+unfolding lastOf atEnd
 last-some w k h = rw (lt-ltb 0 k h)
 
 last-empty : (w : ℕ) → lastOf w 1 0 ≡ w
-unfolding lastOf
+unfolding lastOf atEnd
 last-empty w = refl
 
 module _ (f : Flow) (chunk line : List ℕ) (m : Flow) (chunk′ : List ℕ) (r : Refilled f chunk m chunk′) (c : length chunk′ ≡ length chunk)
@@ -254,11 +254,13 @@ module _ (f : Flow) (chunk line : List ℕ) (m : Flow) (chunk′ : List ℕ) (r 
         written = r .written;
       }
 
-  pub pull-done : (q : Place) (w : ℕ) (line′ : List ℕ) → q ≡ placeAfter p t (length line) → line′ ≡ lineAfter p t line → w ≡ lastOf (q .whole) (m .stage) (q .len)
-      → Pulled f chunk line (ends q w) chunk′ line′
-  unfolding place
-  pull-done q w line′ e l k =
-      elim (decLt (m .at + far) (m .filled)) [
-        | yes h ↦ pull-lf q w line′ e l k h
-        | no h ↦ pull-end q w line′ e l k (omega arith)
-      ]
+  pub pull-done : (q : Place) (g : Flow) (line′ : List ℕ) → q ≡ placeAfter p t (length line) → line′ ≡ lineAfter p t line → g ≡ fedOf m q
+      → Pulled f chunk line g chunk′ line′
+  unfolding place fedOf
+  pull-done q g line′ e l k =
+      let w = lastOf (q .whole) (m .stage) (q .len) in
+      rw k
+      (elim (decLt (m .at + far) (m .filled)) [
+        | yes h ↦ pull-lf q w line′ e l refl h
+        | no h ↦ pull-end q w line′ e l refl (omega arith)
+      ])

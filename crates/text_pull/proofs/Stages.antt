@@ -11,7 +11,7 @@ use mir.Syntax.{w32}
 use mir.Val.{SFits, ofZ}
 use borrow.Author.Tests.{ne-eqb, lt-ltb, le-ltb}
 use Rattle.io.specs.Counts.{clamped}
-use Rattle.text_pull.specs.Pull.{isInterrupt, errorStage, stageOf, writeStage}
+use Rattle.text_pull.specs.Pull.{isInterrupt, errorStage, cameStage, stageOf, brokenStage, writeStage, isBroken}
 
 -- A test has one answer.
 pub never : {A : Type 0} {b : Bool} → b ≡ true → b ≡ false → A
@@ -28,12 +28,16 @@ pub stage-failed : (z e : ℤ) → ltZ z (pos 0) ≡ true → errorStage e ≡ s
 unfolding stageOf
 stage-failed z e p = rw p
 
-pub stage-came : (z e : ℤ) → ltZ z (pos 0) ≡ false → ltZ z (pos 1) ≡ false → 0 ≡ stageOf z e
+pub stage-none : (z e : ℤ) → ltZ z (pos 0) ≡ false → cameStage z ≡ stageOf z e
 unfolding stageOf
+stage-none z e p = rw p
+
+stage-came : (z e : ℤ) → ltZ z (pos 0) ≡ false → ltZ z (pos 1) ≡ false → 0 ≡ stageOf z e
+unfolding stageOf cameStage
 stage-came z e p q = rw (p, q)
 
-pub stage-end : (z e : ℤ) → ltZ z (pos 0) ≡ false → ltZ z (pos 1) ≡ true → 1 ≡ stageOf z e
-unfolding stageOf
+stage-end : (z e : ℤ) → ltZ z (pos 0) ≡ false → ltZ z (pos 1) ≡ true → 1 ≡ stageOf z e
+unfolding stageOf cameStage
 stage-end z e p q = rw (p, q)
 
 -- And after a write.
@@ -41,15 +45,11 @@ pub write-took : (n : ℕ) (z e : ℤ) → ltZ (pos 0) z ≡ true → n ≡ writ
 unfolding writeStage
 write-took n z e p = rw p
 
-pub write-again : (n : ℕ) (z e : ℤ) → ltZ (pos 0) z ≡ false → ltZ z (pos 0) ≡ true → isInterrupt e ≡ true → n ≡ writeStage n z e
+pub write-error : (n : ℕ) (z e : ℤ) → ltZ (pos 0) z ≡ false → ltZ z (pos 0) ≡ true → brokenStage n e ≡ writeStage n z e
 unfolding writeStage
-write-again n z e p q r = rw (p, q, r)
+write-error n z e p q = rw (p, q)
 
-pub write-failed : (n : ℕ) (z e : ℤ) → ltZ (pos 0) z ≡ false → ltZ z (pos 0) ≡ true → isInterrupt e ≡ false → 3 ≡ writeStage n z e
-unfolding writeStage
-write-failed n z e p q r = rw (p, q, r)
-
-pub write-none : (n : ℕ) (z e : ℤ) → ltZ (pos 0) z ≡ false → ltZ z (pos 0) ≡ false → 3 ≡ writeStage n z e
+pub write-none : (n : ℕ) (z e : ℤ) → ltZ (pos 0) z ≡ false → ltZ z (pos 0) ≡ false → 5 ≡ writeStage n z e
 unfolding writeStage
 write-none n z e p q = rw (p, q)
 
@@ -80,20 +80,20 @@ stage-most (pos n) e =
 stage-most (negsuc k) e = omega (arith, stage-failed (negsuc k) e refl, error-most e)
 
 -- A write leaves the stage, or has failed and took nothing.
-pub write-stays : (n : ℕ) (z e : ℤ) → (writeStage n z e ≡ 3 → ⊥) → writeStage n z e ≡ n
-unfolding writeStage
-write-stays n (pos zero) e h = absurd (h refl)
+pub write-stays : (n : ℕ) (z e : ℤ) → isBroken (writeStage n z e) ≡ false → writeStage n z e ≡ n
+unfolding writeStage brokenStage isBroken
+write-stays n (pos zero) e h = never refl h
 write-stays n (pos (suc k)) e h = rw (lt-ltb 0 (suc k) (omega arith))
 write-stays n (negsuc k) e h = by (isInterrupt e) refl
   where
     by : (b : Bool) → isInterrupt e ≡ b → writeStage n (negsuc k) e ≡ n
     by true p = rw p
-    by false p = absurd (h (rw p))
+    by false p = never refl (rw p at h)
 
-pub write-nothing : (n : ℕ) (z e : ℤ) (room : ℕ) → (n ≡ 3 → ⊥) → writeStage n z e ≡ 3 → clamped z room ≡ 0
+pub write-nothing : (n : ℕ) (z e : ℤ) (room : ℕ) → isBroken n ≡ false → isBroken (writeStage n z e) ≡ true → clamped z room ≡ 0
 unfolding writeStage
 write-nothing n (pos zero) e room u h = omega arith
-write-nothing n (pos (suc k)) e room u h = absurd (u (rw (lt-ltb 0 (suc k) (omega arith)) at h))
+write-nothing n (pos (suc k)) e room u h = never (rw (lt-ltb 0 (suc k) (omega arith)) at h) u
 write-nothing n (negsuc k) e room u h = refl
 
 pub read-room : (z : ℤ) (room : ℕ) → clamped z room ≤ room

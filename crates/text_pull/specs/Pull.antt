@@ -9,10 +9,11 @@ use lib.Dec.{eqb, ltb}
 use lib.ListN.{length, take, drop}
 use Rattle.bytes.specs.Bytes.{indexOf}
 use Rattle.io.specs.Counts.{clamped}
+use Rattle.text_feed.specs.declared.Place.{Place}
 use Rattle.text_stream.specs.Stream.{Machine, between, said, saysOf, Written}
 use Rattle.text_pull.specs.declared.Flow.{Flow}
 use Rattle.text_pull.specs.declared.Fault.{Fault}
-use Rattle.text_pull.specs.declared.Fault.the-variants.{Nothing, Unread, Unwritten, Unended}
+use Rattle.text_pull.specs.declared.Fault.the-variants.{Nothing, Unread, Unwritten, Untaken, Unended}
 
 abbrev pub startOf : Flow
 startOf = record { turns = 140737488355328; len = 0; filled = 0; at = 0; whole = 0; made = 0; stage = 0; read = 0; written = 0 }
@@ -23,12 +24,15 @@ isInterrupt (pos k) = eqb k 4
 isInterrupt (negsuc k) = false
 
 -- the stage after a read: 0 bytes came, or a signal interrupted it; 1 the text has ended; 2 the read failed. 3 is after a write that
--- failed, 4 after all is printed, 5 where the buffer for a whole text is full
+-- failed, 4 after all is printed, 5 after a write that took nothing, 6 where the buffer for a whole text is full
 unfoldable pub errorStage : ℤ → ℕ
 errorStage errno = cond (isInterrupt errno) 0 2
 
+unfoldable pub cameStage : ℤ → ℕ
+cameStage got = cond (ltZ got (pos 1)) 1 0
+
 unfoldable pub stageOf : ℤ → ℤ → ℕ
-stageOf got errno = cond (ltZ got (pos 0)) (errorStage errno) (cond (ltZ got (pos 1)) 1 0)
+stageOf got errno = cond (ltZ got (pos 0)) (errorStage errno) (cameStage got)
 
 -- what a read answered comes to, with so much room in the chunk
 unfoldable pub readOf : Flow → ℤ → ℤ → ℕ → Flow
@@ -65,12 +69,32 @@ pub record Refilled (f : Flow) (chunk : List ℕ) (g : Flow) (chunk′ : List �
   pub written : g .written ≡ f .written
 
 -- whether a program goes on: turns are left, and neither all is printed nor something failed
+abbrev pub isOpen : ℕ → Bool
+isOpen stage = ltb stage 2
+
 unfoldable pub goesOn : Flow → Bool
-goesOn f = cond (ltb 0 (f .turns)) (ltb (f .stage) 2) false
+goesOn f = cond (ltb 0 (f .turns)) (isOpen (f .stage)) false
 
 -- a line is whole where a LF ended it, or the text did and it has bytes
+unfoldable pub atEnd : ℕ → ℕ → ℕ
+atEnd whole len = cond (ltb 0 len) 1 whole
+
 unfoldable pub lastOf : ℕ → ℕ → ℕ → ℕ
-lastOf whole stage len = cond (eqb stage 1) (cond (ltb 0 len) 1 whole) whole
+lastOf whole stage len = cond (eqb stage 1) (atEnd whole len) whole
+
+-- where a feeding came to, by one turn
+unfoldable pub fedOf : Flow → Place → Flow
+fedOf f p = record {
+  turns = f .turns - 1;
+  len = p .len;
+  filled = f .filled;
+  at = p .at;
+  whole = lastOf (p .whole) (f .stage) (p .len);
+  made = f .made;
+  stage = f .stage;
+  read = f .read;
+  written = f .written;
+}
 
 -- the event after a pull: a whole line; or, where there is none, the end
 abbrev pub isLine : Flow → Bool
@@ -143,13 +167,41 @@ closedOf f made = record {
   written = f .written;
 }
 
+-- where no line is at hand: the end prints a text, and else nothing happens
+unfoldable pub restText : Flow → List ℕ → List ℕ
+restText f text = cond (isEnd f) text []
+
+unfoldable pub restedOf : Flow → ℕ → Flow
+restedOf f made = cond (isEnd f) (closedOf f made) f
+
+pub record Rested (text : List ℕ) (f : Flow) (out : List ℕ) (g : Flow) (out′ : List ℕ) : Type 0 where
+  pub words : Written out (f .made) (restText f text) (g .made) out′
+  pub flow : g ≡ restedOf f (g .made)
+
 -- whether what waits is to be written: the chunk is used up, less than `most` of the room is left, or no more lines come
 unfoldable pub dueOf : Flow → ℕ → ℕ → Bool
 dueOf f room most = cond (ltb 0 (f .stage)) true (cond (ltb (f .at) (f .filled)) (ltb (room - f .made) most) true)
 
--- the stage after a write: one that took bytes, or that a signal interrupted, leaves it; else the write failed
+-- the stage after a write: one that took bytes, or that a signal interrupted, leaves it; else the write failed, with an error or without
+unfoldable pub brokenStage : ℕ → ℤ → ℕ
+brokenStage stage errno = cond (isInterrupt errno) stage 3
+
 unfoldable pub writeStage : ℕ → ℤ → ℤ → ℕ
-writeStage stage got errno = cond (ltZ (pos 0) got) stage (cond (ltZ got (pos 0)) (cond (isInterrupt errno) stage 3) 3)
+writeStage stage got errno = cond (ltZ (pos 0) got) stage (cond (ltZ got (pos 0)) (brokenStage stage errno) 5)
+
+-- so many of the bytes that wait are written
+abbrev pub countedOf : Flow → ℕ → Flow
+countedOf f n = record {
+  turns = f .turns;
+  len = f .len;
+  filled = f .filled;
+  at = f .at;
+  whole = f .whole;
+  made = f .made - n;
+  stage = f .stage;
+  read = f .read;
+  written = f .written + n;
+}
 
 -- what one write of all that waits comes to
 unfoldable pub putOf : Flow → ℤ → ℤ → Flow
@@ -171,10 +223,16 @@ pub record Put (f g : Flow) : Type 0 where
   pub flow : g ≡ putOf f got errno
 
 -- whether another write is to be made: bytes wait, none failed, and turns are left
-unfoldable pub leftOf : Flow → Bool
-leftOf f = cond (eqb (f .stage) 3) false (cond (ltb 0 (f .turns)) (ltb 0 (f .made)) false)
+unfoldable pub isBroken : ℕ → Bool
+isBroken stage = cond (eqb stage 3) true (eqb stage 5)
 
--- a program that has failed to write
+unfoldable pub leftOf : Flow → Bool
+leftOf f = cond (isBroken (f .stage)) false (cond (ltb 0 (f .turns)) (ltb 0 (f .made)) false)
+
+-- a program that has failed to write: a write had an error, or none took what waits
+unfoldable pub lastStage : ℕ → ℕ
+lastStage stage = cond (eqb stage 3) 3 5
+
 abbrev pub unwritten : Flow → Flow
 unwritten f = record {
   turns = f .turns;
@@ -183,21 +241,22 @@ unwritten f = record {
   at = f .at;
   whole = f .whole;
   made = 0;
-  stage = 3;
+  stage = lastStage (f .stage);
   read = f .read;
   written = f .written;
 }
 
--- what all writes come to that left so many turns and took so many bytes: where bytes were left the program has failed
-unfoldable pub wroteOf : Flow → ℕ → ℕ → Flow
-wroteOf f turns taken = record {
+-- what all writes come to that left so many turns and took so many bytes: where bytes were left the program has failed, with an error or
+-- without
+unfoldable pub wroteOf : Flow → ℕ → ℕ → Bool → Flow
+wroteOf f turns taken error = record {
   turns = turns;
   len = f .len;
   filled = f .filled;
   at = f .at;
   whole = f .whole;
   made = 0;
-  stage = cond (ltb taken (f .made)) 3 (f .stage);
+  stage = cond (ltb taken (f .made)) (cond error 3 5) (f .stage);
   read = f .read;
   written = f .written + taken;
 }
@@ -210,10 +269,11 @@ gaveUp f = cond (ltb 0 (f .made)) (unwritten f) f
 pub record Wrote (f g : Flow) : Type 0 where
   pub turns : ℕ
   pub taken : ℕ
+  pub error : Bool
   pub spent : turns ≤ f .turns
   pub called : 1 ≤ taken → turns < f .turns
   pub most : taken ≤ f .made
-  pub flow : g ≡ wroteOf f turns taken
+  pub flow : g ≡ wroteOf f turns taken error
 
 -- one flush: where it is due all that waits is written, or the program has failed
 pub record Flushed (most room : ℕ) (f g : Flow) : Type 0 where
@@ -253,19 +313,20 @@ module _ {S : Type 0} (M : Machine S) where
     pub made : g .made ≤ f .made + most
 
   -- a program that has left its loop: all is printed; or a read failed, and its whole lines are answered, a line that it cut off is not; or
-  -- a write failed; or its turns are used up
+  -- a write failed, or took nothing; or its turns are used up
   pub record Ran (s₀ : S) (f : Flow) : Type 0 where
     pub done : f .stage ≡ 4 → Told (saysOf M s₀) f
     pub unread : f .stage ≡ 2 → Told (said M (λ l. l) (between s₀)) f
     pub unwritten : f .stage ≡ 3 → Part (saysOf M s₀) f
+    pub untaken : f .stage ≡ 5 → Part (saysOf M s₀) f
     pub turns : f .stage ≤ 1 → f .turns ≡ 0
-    pub stage : f .stage ≤ 4
+    pub stage : f .stage ≤ 5
 
--- a whole text read into a lent buffer: it has ended within it (1), or fills it (5); or a read failed (2), or the reads are used up (0)
+-- a whole text read into a lent buffer: it has ended within it (1), or fills it (6); or a read failed (2), or the reads are used up (0)
 pub record Slurped (room : ℕ) (f : Flow) : Type 0 where
-  pub stage : f .stage ≤ 5
+  pub stage : f .stage ≤ 6
   pub within : f .stage ≤ 2 → f .filled < room
-  pub full : 3 ≤ f .stage → (f .stage ≡ 5) × (f .filled ≡ room)
+  pub full : 3 ≤ f .stage → (f .stage ≡ 6) × (f .filled ≡ room)
   pub turns : f .stage ≡ 0 → f .turns ≡ 0
   pub read : f .read ≡ f .filled
   pub whole : f .whole ≡ 0
@@ -304,11 +365,14 @@ settledOf f room = record {
   at = f .at;
   whole = f .whole;
   made = f .made;
-  stage = cond (eqb (f .filled) room) 5 (f .stage);
+  stage = cond (eqb (f .filled) room) 6 (f .stage);
   read = f .read;
   written = f .written;
 }
 
 -- what is said of a program that has left its loop
+unfoldable pub writeFault : ℕ → Fault
+writeFault stage = cond (eqb stage 3) Unwritten (cond (eqb stage 5) Untaken Nothing)
+
 unfoldable pub faultOf : Flow → Fault
-faultOf f = cond (ltb (f .stage) 2) Unended (cond (eqb (f .stage) 2) Unread (cond (eqb (f .stage) 3) Unwritten Nothing))
+faultOf f = cond (ltb (f .stage) 2) Unended (cond (eqb (f .stage) 2) Unread (writeFault (f .stage)))

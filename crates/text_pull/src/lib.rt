@@ -7,9 +7,10 @@ ghost use mathlib.Core.Path.{_≡_};
 ghost use mathlib.Core.Bool.{true, false};
 ghost use Prim.Native.Nat.{_+_, _≤_, _<_};
 ghost use lib.ListN.{length};
-ghost use Rattle.text_pull.specs.Pull.{startOf, isInterrupt, errorStage, stageOf, readOf, Refilled, lastOf, isLine, isEnd, Pulled, goesOn, tookOf, closedOf, faultOf};
+ghost use Rattle.text_pull.specs.Pull.{startOf, isInterrupt, errorStage, cameStage, stageOf, readOf, Refilled, isOpen, goesOn, atEnd, lastOf, fedOf, isLine, isEnd, Pulled, tookOf, closedOf, writeFault, faultOf};
 
-// Stages: bytes may come, the text has ended, a read failed, a write failed, all is printed, the buffer for a whole text is full.
+// Stages: bytes may come, the text has ended, a read failed, a write failed, all is printed, a write took nothing, the buffer for a whole text
+// is full.
 const READING: u64 = 0;
 
 const ENDED: u64 = 1;
@@ -20,7 +21,9 @@ const UNWRITTEN: u64 = 3;
 
 const DONE: u64 = 4;
 
-const FULL: u64 = 5;
+const UNTAKEN: u64 = 5;
+
+const FULL: u64 = 6;
 
 // A program between two calls: the turns left, of which a pull and a write use one each; the bytes kept of the line at hand; how many the
 // chunk has and how many of them are taken; whether the line at hand is whole (1, else 0); how many bytes are printed and wait to be
@@ -87,17 +90,24 @@ fn error_stage(errno: i32) -> u64
     UNREAD
 }
 
-// The stage after a read that answered `got`: there was an error, or the text has ended, or bytes came.
+// The stage after a read without an error: the text has ended, or bytes came.
+fn came_stage(got: isize) -> u64
+    ensures { λ r. ⌜ r ≡ cameStage got ⌝ }
+{
+    if got < 1 {
+        return ENDED;
+    }
+    READING
+}
+
+// The stage after a read that answered `got`.
 fn stage_of(got: isize, errno: i32) -> u64
     ensures { λ r. ⌜ r ≡ stageOf got errno ⌝ }
 {
     if got < 0 {
         return error_stage(errno);
     }
-    if got < 1 {
-        return ENDED;
-    }
-    READING
+    came_stage(got)
 }
 
 // Takes in what a read answered.
@@ -130,26 +140,54 @@ fn refill(fd: i32, flow: Flow, chunk: &mut [u8]) -> Flow
     take_in(flow, got, errno, chunk)
 }
 
-// Whether a program goes on: turns are left, and neither all is printed nor something failed.
+// Whether a stage is open: neither is all printed, nor has something failed.
+fn is_open(stage: u64) -> bool
+    ensures { λ r. ⌜ r ≡ isOpen stage ⌝ }
+{
+    stage < UNREAD
+}
+
+// Whether a program goes on: turns are left, and its stage is open.
 pub fn goes_on(flow: Flow) -> bool
     ensures { λ r. ⌜ r ≡ goesOn flow ⌝ }
 {
     if 0 < flow.turns {
-        return flow.stage < 2;
+        return is_open(flow.stage);
     }
     false
 }
 
-// Whether the line at hand is whole: a LF ended it, or the text did and it has bytes.
+// Whether the line at hand is whole where the text has ended: it is where bytes of it are kept.
+fn at_end(whole: usize, len: usize) -> usize
+    ensures { λ r. ⌜ r ≡ atEnd whole len ⌝ }
+{
+    if 0 < len {
+        return 1;
+    }
+    whole
+}
+
+// Whether the line at hand is whole: a LF ended it, or the text did.
 fn last(whole: usize, stage: u64, len: usize) -> usize
     ensures { λ r. ⌜ r ≡ lastOf whole stage len ⌝ }
 {
     if stage == ENDED {
-        if 0 < len {
-            return 1;
-        }
+        return at_end(whole, len);
     }
     whole
+}
+
+// Takes in where the feeding came to, by one turn.
+fn fed(came: Flow, place: Place) -> Flow
+    requires { ⌜ 1 ≤ came .turns ⌝ }
+    ensures { λ r. ⌜ r ≡ fedOf came place ⌝ }
+{
+    let mut after = came;
+    after.turns = came.turns - 1;
+    after.at = place.at;
+    after.len = place.len;
+    after.whole = last(place.whole, came.stage, place.len);
+    after
 }
 
 // Pulls: reads where the chunk is used up, and takes its bytes up to a LF. Then a whole line stands in front of `line` (`whole` is 1); or
@@ -171,12 +209,7 @@ pub fn pull(fd: i32, flow: Flow, chunk: &mut [u8], line: &mut [u8]) -> Flow
         &chunk[0..filled],
         line,
     );
-    let mut after = came;
-    after.turns = came.turns - 1;
-    after.at = place.at;
-    after.len = place.len;
-    after.whole = last(place.whole, came.stage, place.len);
-    after
+    fed(came, place)
 }
 
 // Whether the event is a whole line.
@@ -212,15 +245,15 @@ pub fn took(flow: Flow, made: usize, stops: bool) -> Flow
     requires { ⌜ isLine flow ≡ true ⌝ }
     ensures { λ r. ⌜ r ≡ tookOf flow made stops ⌝ }
 {
-    let mut after = flow;
-    after.len = 0;
-    after.whole = 0;
-    after.made = made;
+    let mut next = flow;
+    next.len = 0;
+    next.whole = 0;
+    next.made = made;
     if stops {
-        after.stage = DONE;
-        return after;
+        next.stage = DONE;
+        return next;
     }
-    after
+    next
 }
 
 // After the end, which printed up to `made`.
@@ -239,7 +272,21 @@ enum Fault {
     Nothing,
     Unread,
     Unwritten,
+    Untaken,
     Unended,
+}
+
+// How a write failed: with an error, or it took nothing and there is no error to tell.
+fn write_fault(stage: u64) -> Fault
+    ensures { λ r. ⌜ r ≡ writeFault stage ⌝ }
+{
+    if stage == UNWRITTEN {
+        return Fault::Unwritten;
+    }
+    if stage == UNTAKEN {
+        return Fault::Untaken;
+    }
+    Fault::Nothing
 }
 
 // What failed: a read, a write, or neither and the turns are used up.
@@ -252,10 +299,7 @@ fn fault_of(flow: Flow) -> Fault
     if flow.stage == UNREAD {
         return Fault::Unread;
     }
-    if flow.stage == UNWRITTEN {
-        return Fault::Unwritten;
-    }
-    Fault::Nothing
+    write_fault(flow.stage)
 }
 
 // Says on standard error that a read failed, and why.
@@ -266,6 +310,14 @@ fn say_unread() {
 // Says on standard error that a write failed, and why.
 fn say_unwritten() {
     os::fail(b"failed: the answers could not be written");
+}
+
+// Says on standard error that a write took nothing: no call failed, so there is no reason to give.
+fn say_untaken() {
+    io::write_all(
+        libc::STDERR_FILENO,
+        b"failed: the answers could not be written: a write took nothing\n",
+    );
 }
 
 // Says on standard error that the turns are used up.
@@ -282,6 +334,7 @@ pub fn report(flow: Flow) {
         Fault::Nothing => {}
         Fault::Unread => say_unread(),
         Fault::Unwritten => say_unwritten(),
+        Fault::Untaken => say_untaken(),
         Fault::Unended => say_unended(),
     }
 }

@@ -55,7 +55,7 @@ fn settle(flow: Flow, room: usize) -> Flow
     after
 }
 
-// Reads a whole text into a lent buffer. Then the text has ended, and is shorter than the buffer (stage 1); or the buffer is too short (5);
+// Reads a whole text into a lent buffer. Then the text has ended, and is shorter than the buffer (stage 1); or the buffer is too short (6);
 // or a read failed (2); or the reads are used up.
 pub fn slurp(fd: i32, buffer: &mut [u8]) -> Flow
     requires { ⌜ length (now buffer) < 9223372036854775808 ⌝ }
@@ -78,7 +78,7 @@ pub fn held(flow: Flow) -> usize
 
 // Whether the buffer was too short for the text.
 pub fn is_short(flow: Flow) -> bool
-    ensures { λ r. ⌜ r ≡ eqb (flow .stage) 5 ⌝ }
+    ensures { λ r. ⌜ r ≡ eqb (flow .stage) 6 ⌝ }
 {
     flow.stage == crate::FULL
 }

@@ -3,7 +3,7 @@ use crate::Flow;
 ghost use mathlib.Core.Path.{_≡_};
 ghost use Prim.Native.Nat.{_+_, _≤_, _<_};
 ghost use lib.ListN.{length};
-ghost use Rattle.text_pull.specs.Pull.{dueOf, writeStage, putOf, Put, leftOf, gaveUp, Wrote, Flushed};
+ghost use Rattle.text_pull.specs.Pull.{dueOf, brokenStage, writeStage, countedOf, putOf, Put, isBroken, leftOf, lastStage, gaveUp, Wrote, Flushed};
 
 // Whether what waits is to be written: the chunk is used up, or less than `most` of the room is left, or no more lines come.
 fn is_due(flow: Flow, room: usize, most: usize) -> bool
@@ -19,7 +19,18 @@ fn is_due(flow: Flow, room: usize, most: usize) -> bool
     true
 }
 
-// The stage after a write that answered `got`: one that took bytes and an interrupted one leave it, so that the next goes on.
+// The stage after a write with an error: an interrupted one leaves that before it, so that it is made again.
+fn broken_stage(before: u64, errno: i32) -> u64
+    ensures { λ r. ⌜ r ≡ brokenStage before errno ⌝ }
+{
+    if crate::is_interrupt(errno) {
+        return before;
+    }
+    crate::UNWRITTEN
+}
+
+// The stage after a write that answered `got`: one that took bytes leaves it, so that the next goes on behind them; one that took nothing
+// and has no error is a failure of its own.
 fn write_stage(stage: u64, got: isize, errno: i32) -> u64
     ensures { λ r. ⌜ r ≡ writeStage stage got errno ⌝ }
 {
@@ -27,11 +38,21 @@ fn write_stage(stage: u64, got: isize, errno: i32) -> u64
         return stage;
     }
     if got < 0 {
-        if crate::is_interrupt(errno) {
-            return stage;
-        }
+        return broken_stage(stage, errno);
     }
-    crate::UNWRITTEN
+    crate::UNTAKEN
+}
+
+// Counts so many of the bytes that wait as written.
+fn counted(flow: Flow, n: usize) -> Flow
+    requires { ⌜ (n ≤ flow .made) × (flow .written + flow .made < 18446744073709551616) ⌝ }
+    ensures { λ r. ⌜ r ≡ countedOf flow n ⌝ }
+{
+    let left = flow.made - n;
+    let mut after = flow;
+    after.made = left;
+    after.written = flow.written + n as u64;
+    after
 }
 
 // Takes in what a write of all that waits answered: what it took is written.
@@ -40,12 +61,9 @@ fn wrote(flow: Flow, got: isize, errno: i32, words: &[u8]) -> Flow
     ensures { λ r. ⌜ r ≡ putOf flow got errno ⌝ }
 {
     let n = io::count(got, words);
-    let left = flow.made - n;
-    let mut after = flow;
+    let mut after = counted(flow, n);
     after.turns = flow.turns - 1;
-    after.made = left;
     after.stage = write_stage(flow.stage, got, errno);
-    after.written = flow.written + n as u64;
     after
 }
 
@@ -59,17 +77,37 @@ fn put(flow: Flow, words: &[u8]) -> Flow
     wrote(flow, got, errno, words)
 }
 
+// Whether a write failed, with an error or without.
+fn is_broken(stage: u64) -> bool
+    ensures { λ r. ⌜ r ≡ isBroken stage ⌝ }
+{
+    if stage == crate::UNWRITTEN {
+        return true;
+    }
+    stage == crate::UNTAKEN
+}
+
 // Whether another call is to be made: bytes wait, no write failed, and turns are left.
 fn is_left(flow: Flow) -> bool
     ensures { λ r. ⌜ r ≡ leftOf flow ⌝ }
 {
-    if flow.stage == crate::UNWRITTEN {
+    if is_broken(flow.stage) {
         return false;
     }
     if 0 < flow.turns {
         return 0 < flow.made;
     }
     false
+}
+
+// The stage where bytes still wait after the last call: a write failed, or none took them.
+fn last_stage(stage: u64) -> u64
+    ensures { λ r. ⌜ r ≡ lastStage stage ⌝ }
+{
+    if stage == crate::UNWRITTEN {
+        return crate::UNWRITTEN;
+    }
+    crate::UNTAKEN
 }
 
 // After the last call: where bytes still wait the program has failed.
@@ -79,7 +117,7 @@ fn give_up(flow: Flow) -> Flow
     let mut after = flow;
     if 0 < flow.made {
         after.made = 0;
-        after.stage = crate::UNWRITTEN;
+        after.stage = last_stage(flow.stage);
         return after;
     }
     after

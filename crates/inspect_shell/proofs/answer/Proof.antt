@@ -1,9 +1,9 @@
--- `inspect_shell::answer` meets its contract: a line, the end, or nothing. Assumes nothing.
+-- `inspect_shell::answer` meets its contract: a line, or none. Assumes nothing.
 use Prim.Native.Nat.{_-_}
 use native.Mathlib.Omega.{arith}
 use mathlib.Core.Path.{_≡_, sym, _∙_}
 use borrow.Author.Needs.{needs}
-use Rattle.text_pull.proofs.Answers.{answer-line, answer-end, answer-none}
+use Rattle.text_turns.proofs.Answers.{answer-line, answer-rest}
 use Rattle.line_serve.specs.Text.{mostPrinted}
 use Rattle.inspect_line.specs.Inspect.{inspectMachine}
 use Rattle.inspect_shell.specs.Stop.{stops}
@@ -12,40 +12,33 @@ use Rattle.inspect_shell.proofs.answer.Tie as tie
 
 took-requires : tie.Need-took-requires
 took-requires c κs =
-    let t = c .before .before .before .before .before .before .before .before .before .before .before .before .before .before .before .before .before .before in
+    let t = c .before .before .before .before .before .before .before .before .before .before .before .before .before .before .before .before .before .before .before in
     sym (t .before .is-line .ensures) ∙ t .if1 .taken
 
 returns : tie.Need-returns
 returns c =
     let l = c .before .before .before .before .before .before .before .before .before .before .before .before in
     let k = l .before .before .before .before .before .before in
-    let t = k .before in
+    let m = k .before in
+    let t = m .before in
     let z : k .kept .result - 0 ≡ k .kept .result = omega arith in
-    let o = rw (k .kept .ensures, t .before .before .made .ensures) at (rw z at (l .line .ensures)) in
+    let o = rw (k .kept .ensures, m .made .ensures) at (rw z at (l .line .ensures)) in
     answer-line inspectMachine stops mostPrinted (sym (t .before .is-line .ensures) ∙ t .if1 .taken) (o .0) (o .1 .0 .0) (o .1 .0 .1) (c .before .stops-in .ensures) (c .took .ensures)
 
-closed-requires : tie.Need-closed-requires
-closed-requires c κs =
-    let t = c .before .before .before .before .before in
-    let e = t .before .before in
-    (sym (e .before .is-line .ensures) ∙ e .if1 .left, sym (t .before .is-end .ensures) ∙ t .if2 .taken)
+close-requires : tie.Need-close-requires
+close-requires c κs =
+    let e = c .before .before in
+    (sym (e .before .is-line .ensures) ∙ e .if1 .left, omega (arith, e .before .before .before .before .before .before .before .pre .3))
 
 returns-2 : tie.Need-returns-2
 returns-2 c =
-    let f = c .before .before .before in
-    let t = f .before .before .before in
-    let e = t .before .before in
-    let o = rw (e .before .before .made .ensures) at (f .finish .ensures) in
-    answer-end inspectMachine stops mostPrinted (sym (e .before .is-line .ensures) ∙ e .if1 .left) (sym (t .before .is-end .ensures) ∙ t .if2 .taken) (o .0) (omega (arith, o .1)) (c .closed .ensures)
-
-returns-3 : tie.Need-returns-3
-returns-3 c =
-    let e = c .before .before in
-    answer-none inspectMachine stops mostPrinted (sym (e .before .is-line .ensures) ∙ e .if1 .left) (sym (c .before .is-end .ensures) ∙ c .if2 .left)
+    let k = c .before .before in
+    let e = k .before .before .before in
+    answer-rest inspectMachine stops mostPrinted (sym (e .before .is-line .ensures) ∙ e .if1 .left) (k .close .ensures .0) (omega (arith, k .close .ensures .1))
 
 pub answer-spec : {M : Type 1} → statement M
 answer-spec =
     tie.close
     (tie.spec (λ c κs. search needs) (λ c κs. search needs) (λ c κs. search needs) (λ c. search needs) (λ c. search needs) (λ c. search needs)
     (λ c κs. search needs) (λ c κs. search needs) took-requires (λ c. search needs) (λ c. search needs) (λ c. search needs) (λ c. search needs) returns
-    (λ c κs. search needs) (λ c κs. search needs) closed-requires (λ c. search needs) returns-2 returns-3)
+    close-requires (λ c. search needs) returns-2)

@@ -5,7 +5,8 @@ use mathlib.Core.Path.{_≡_, refl, sym, _∙_}
 use lib.ListN.{length}
 use denote.Ref.{now}
 use borrow.Author.Needs.{needs}
-use Rattle.text_pull.proofs.Turning.{Turning, Turned, begun, pull-may, answer-may, ended, turn}
+use Rattle.text_turns.specs.Turn.{Turning}
+use Rattle.text_turns.proofs.Turning.{Answering, begun, pull-may, answer-may, ended, turn}
 use Rattle.line_serve.specs.Text.{mostPrinted}
 use Rattle.inspect_line.specs.Inspect.{seen, inspectMachine, atStart}
 use Rattle.inspect_line.proofs.Blind.{inspect-blind}
@@ -48,7 +49,7 @@ answer-requires c κs =
 the-turn
     : (v : tie.After-answer Inv-loop μ-loop) →
     let d = v .before .before .before .before .before .before .before .before .before .before in
-    Turned inspectMachine 32769 atStart mostPrinted (d .before .before .before .before .before .loop .moved .flow) (v .answer .result .flow) (seen (v .answer .result .inspect) (v .answer .last .1 .1 .0)) (d .pull .last .1 .1 .1 .0) (d .pull .last .1 .1 .0) (v .answer .last .1 .1 .1 .1 .1 .1 .0)
+    Answering inspectMachine 32769 atStart mostPrinted (d .before .before .before .before .before .loop .moved .flow) (v .answer .result .flow) (seen (v .answer .result .inspect) (v .answer .last .1 .1 .0)) (d .pull .last .1 .1 .1 .0) (d .pull .last .1 .1 .0) (v .answer .last .1 .1 .1 .1 .1 .1 .0)
 the-turn v =
     let d = v .before .before .before .before .before .before .before .before .before .before in
     let t = d .before .before .before in
@@ -61,7 +62,7 @@ flush-requires c κs =
     (t .may, t .next)
 
 loop-less : tie.Need-loop-less Inv-loop μ-loop
-loop-less c = the-turn (c .before .before .before .before .before .before .before .before .before .before) .less (c .flush .result) (c .flush .ensures)
+loop-less c = the-turn (c .before .before .before .before .before .before .before .before .before .before) .flushes (c .flush .result) (c .flush .ensures) .less
 
 loop-again : tie.Need-loop-again Inv-loop μ-loop
 loop-again c =
@@ -70,7 +71,7 @@ loop-again c =
     let i = d .before .before .before .before .before .loop .inv in
     let k = d .pull .kept in
     let w = v .answer .kept in
-    (the-turn v .on (c .flush .result) (c .flush .ensures), w .1 .1 .0 ∙ i .1, w .1 .1 .1 .0 ∙ i .2, w .1 .1 .1 .1 .0 ∙ i .3, k .1 .1 .0 ∙ i .4, k .1 .1 .1 .0 ∙ i .5, w .1 .1 .1 .1 .1 .1 .0 ∙ i .6)
+    (the-turn v .flushes (c .flush .result) (c .flush .ensures) .on, w .1 .1 .0 ∙ i .1, w .1 .1 .1 .0 ∙ i .2, w .1 .1 .1 .1 .0 ∙ i .3, k .1 .1 .0 ∙ i .4, k .1 .1 .1 .0 ∙ i .5, w .1 .1 .1 .1 .1 .1 .0 ∙ i .6)
 
 returns : tie.Need-returns Inv-loop μ-loop
 returns c =

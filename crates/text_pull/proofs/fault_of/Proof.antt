@@ -1,5 +1,6 @@
 -- `text_pull::fault_of` meets its contract, test by test. Assumes nothing.
 use native.Mathlib.Omega.{arith}
+use borrow.Author.Needs.{needs}
 use borrow.Author.Tests.{eq-eqb, ne-eqb, lt-ltb, le-ltb}
 use Rattle.text_pull.specs.Pull.{faultOf}
 use Rattle.text_pull.proofs.fault_of.Statement.{statement}
@@ -18,14 +19,8 @@ returns-2 c =
 returns-3 : tie.Need-returns-3
 unfolding faultOf
 returns-3 c =
-    let n = c .before .before .before .before .before .before .args .flow .stage in
-    rw (le-ltb n 2 (omega arith), ne-eqb n 2 (λ e. omega arith), eq-eqb n 3 (omega arith))
-
-returns-4 : tie.Need-returns-4
-unfolding faultOf
-returns-4 c =
-    let n = c .before .before .before .before .before .before .args .flow .stage in
-    rw (le-ltb n 2 (omega arith), ne-eqb n 2 (λ e. omega arith), ne-eqb n 3 (λ e. omega arith))
+    let n = c .before .before .before .before .before .args .flow .stage in
+    rw (le-ltb n 2 (omega arith), ne-eqb n 2 (λ e. omega arith)) (c .write-fault .ensures)
 
 pub fault-of-spec : {M : Type 1} → statement M
-fault-of-spec = tie.close (tie.spec returns returns-2 returns-3 returns-4)
+fault-of-spec = tie.close (tie.spec returns returns-2 (λ c κs. search needs) returns-3)

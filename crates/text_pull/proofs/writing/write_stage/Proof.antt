@@ -1,8 +1,8 @@
 -- `text_pull::writing::write_stage` meets its contract: the tests that led to a return pick the stage. Assumes nothing.
-use mathlib.Core.Path.{sym, _∙_}
+use mathlib.Core.Path.{_∙_}
 use mir.Facts.{toZ-ofZ}
 use borrow.Author.Needs.{needs}
-use Rattle.text_pull.proofs.Stages.{write-took, write-again, write-failed, write-none}
+use Rattle.text_pull.proofs.Stages.{write-took, write-error, write-none}
 use Rattle.text_pull.proofs.writing.write_stage.Statement.{statement}
 use Rattle.text_pull.proofs.writing.write_stage.Tie as tie
 
@@ -13,23 +13,16 @@ returns c =
 
 returns-2 : tie.Need-returns-2
 returns-2 c =
-    let s = c .before .before .before .before in
+    let s = c .before .before .before in
     let z = toZ-ofZ (s .fits .got) in
-    let y = toZ-ofZ (s .fits .errno) in
-    write-again (s .args .stage) (s .args .got) (s .args .errno) (rw z at (c .before .before .before .if1 .left)) (rw z at (c .before .before .if2 .taken)) (sym (rw y at (c .before .is-interrupt .ensures)) ∙ c .if3 .taken)
+    rw (toZ-ofZ (s .fits .errno)) at (c .broken-stage .ensures)
+    ∙ write-error (s .args .stage) (s .args .got) (s .args .errno) (rw z at (c .before .before .if1 .left)) (rw z at (c .before .if2 .taken))
 
 returns-3 : tie.Need-returns-3
 returns-3 c =
-    let s = c .before .before .before .before in
-    let z = toZ-ofZ (s .fits .got) in
-    let y = toZ-ofZ (s .fits .errno) in
-    write-failed (s .args .stage) (s .args .got) (s .args .errno) (rw z at (c .before .before .before .if1 .left)) (rw z at (c .before .before .if2 .taken)) (sym (rw y at (c .before .is-interrupt .ensures)) ∙ c .if3 .left)
-
-returns-4 : tie.Need-returns-4
-returns-4 c =
     let s = c .before .before in
     let z = toZ-ofZ (s .fits .got) in
     write-none (s .args .stage) (s .args .got) (s .args .errno) (rw z at (c .before .if1 .left)) (rw z at (c .if2 .left))
 
 pub write-stage-spec : {M : Type 1} → statement M
-write-stage-spec = tie.close (tie.spec returns (λ c κs. search needs) returns-2 returns-3 returns-4)
+write-stage-spec = tie.close (tie.spec returns (λ c κs. search needs) returns-2 returns-3)

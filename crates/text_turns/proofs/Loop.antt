@@ -10,11 +10,12 @@ use lib.Seq.{length-take-le, take-length, take-append-le, drop-append-le}
 use borrow.Author.Tests.{lt-ltb, le-ltb}
 use Rattle.text_stream.specs.Stream.{Machine, between, fed, said, ended, saysOf, Blind}
 use Rattle.text_stream.proofs.Whole.{keeps-first, fed-append, said-append, whole}
 use Rattle.text_pull.specs.declared.Flow.{Flow}
 use Rattle.text_pull.specs.Pull.{startOf, dueOf, wroteOf, Flushed, Next, Ran}
-use Rattle.text_pull.proofs.Uncut.{said-uncut}
-use Rattle.text_pull.proofs.Turns.{two, Spoken, speak-on, After}
-use Rattle.text_pull.proofs.Numbers.{Ready}
+use Rattle.text_turns.proofs.Uncut.{said-uncut}
+use Rattle.text_turns.specs.Turn.{Spoken, After, Roomy}
+use Rattle.text_turns.proofs.Turns.{two, speak-on}
+use Rattle.text_turns.proofs.Numbers.{broken-stage}
 
 -- What waits is what is printed next.
 next-spoken
@@ -73,29 +74,35 @@ module _ {S : Type 0} (M : Machine S) (cap : ℕ) (s₀ : S) (some : 1 ≤ cap) 
               ]
         ]
 
-    wrote-all : (turns taken : ℕ) → (f .stage ≡ 3 → ⊥) → f .made ≤ taken → taken ≤ f .made → After M cap s₀ (wroteOf f turns taken) s line chunk out
+    wrote-all
+        : (turns taken : ℕ) (error : Bool) → f .stage ≤ 4 → (f .stage ≡ 3 → ⊥) → f .made ≤ taken → taken ≤ f .made
+        → After M cap s₀ (wroteOf f turns taken error) s line chunk out
     unfolding wroteOf
-    wrote-all turns taken u h g =
+    wrote-all turns taken error i u h g =
         rw (le-ltb taken (f .made) h) record {
           going = λ z. let y = x .going z in record { past = y .past; machine = y .machine; spoken = speak-on (y .spoken) refl (omega arith) refl };
           closing = λ z. let y = x .closing z in record { text = y .text; words = y .words; spoken = speak-on (y .spoken) refl (omega arith) refl; rest = y .rest };
           unread = λ z. let y = x .unread z in record { text = y .text; spoken = speak-on (y .spoken) refl (omega arith) refl };
           part = λ z. absurd (u z);
           done = λ z. let y = x .done z in record { text = y .text; spoken = speak-on (y .spoken) refl (omega arith) refl };
+          untaken = λ z. absurd (omega arith);
         }
 
     wrote-part
-        : (turns taken : ℕ) → f .stage ≤ 4 → (f .stage ≡ 3 → ⊥) → f .made ≤ length out → taken < f .made
-        → After M cap s₀ (wroteOf f turns taken) s line chunk out
+        : (turns taken : ℕ) (error : Bool) → f .stage ≤ 4 → (f .stage ≡ 3 → ⊥) → f .made ≤ length out → taken < f .made
+        → After M cap s₀ (wroteOf f turns taken error) s line chunk out
     unfolding wroteOf
-    wrote-part turns taken h u m i =
+    wrote-part turns taken error h u m i =
         let y = next-after h u in
+        let e = broken-stage error in
+        let w : f .written + taken ≤ length (saysOf M s₀ (y .text)) = omega (arith, y .fits, length-take-le (f .made) out m) in
         rw (lt-ltb taken (f .made) i) record {
-          going = λ z. absurd (omega arith);
-          closing = λ z. absurd (omega arith);
-          unread = λ z. absurd (omega arith);
-          part = λ z. record { text = y .text; read = y .read; written = omega (arith, y .fits, length-take-le (f .made) out m) };
-          done = λ z. absurd (omega arith);
+          going = λ z. absurd (omega (arith, e .0));
+          closing = λ z. absurd (omega (arith, e .0));
+          unread = λ z. absurd (omega (arith, e .0));
+          part = λ z. record { text = y .text; read = y .read; written = w };
+          done = λ z. absurd (e .2 z);
+          untaken = λ z. record { text = y .text; read = y .read; written = w };
         }
 
     pub flushed
@@ -106,13 +113,13 @@ module _ {S : Type 0} (M : Machine S) (cap : ℕ) (s₀ : S) (some : 1 ≤ cap) 
         by true e =
             let y = w .wrote e in
             elim (decLt (y .taken) (f .made)) [
-              | yes i ↦ rw (y .flow) (wrote-part (y .turns) (y .taken) h u m i)
-              | no i ↦ rw (y .flow) (wrote-all (y .turns) (y .taken) u (omega arith) (y .most))
+              | yes i ↦ rw (y .flow) (wrote-part (y .turns) (y .taken) (y .error) h u m i)
+              | no i ↦ rw (y .flow) (wrote-all (y .turns) (y .taken) (y .error) h u (omega arith) (y .most))
             ]
         by false e = rw (w .wait e) x
 
     -- The loop is left.
-    pub ran : {chunks lines room most : ℕ} → Ready chunks lines room most f → (f .stage ≤ 1 → f .turns ≡ 0) → Ran M s₀ f
+    pub ran : {chunks lines room most : ℕ} → Roomy chunks lines room most f → (f .stage ≤ 1 → f .turns ≡ 0) → Ran M s₀ f
     ran r t = record {
       done = λ z. let y = x .done z in record { text = y .text; read = y .spoken .read; written = omega (arith, y .spoken .count, r .quiet (omega arith)) };
       unread =
@@ -124,6 +131,7 @@ module _ {S : Type 0} (M : Machine S) (cap : ℕ) (s₀ : S) (some : 1 ≤ cap) 
             written = rw (← said-uncut M (take cap) (keeps-first cap some) B s₀ (y .text)) (omega (arith, y .spoken .count, r .quiet (omega arith)));
           };
       unwritten = x .part;
+      untaken = x .untaken;
       turns = t;
       stage = r .stage;
     }

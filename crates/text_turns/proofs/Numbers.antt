@@ -4,30 +4,18 @@ use Prim.Native.Nat.{ℕ, _+_, _*_, _-_, _≤_, _<_}
 use native.Mathlib.Omega.{arith}
 use native.Mathlib.Decide.{ℕ-discrete, decLt}
 use mathlib.Core.Path.{_≡_, refl, ap, _∙_}
-use mathlib.Core.Bool.{Bool, true, false}
+use mathlib.Core.Bool.{Bool, true, false, cond}
 use mathlib.Core.List.{List}
 use lib.ListN.{length}
 use borrow.Author.Tests.{lt-ltb, le-ltb, ltb-true, ltb-false}
 use Rattle.text_stream.specs.Stream.{Machine}
 use Rattle.text_pull.specs.declared.Flow.{Flow}
 use Rattle.text_pull.specs.Pull.{startOf, Pulled, goesOn, tookOf, closedOf, dueOf, wroteOf, Wrote, Flushed, Answered}
 use Rattle.text_pull.proofs.Stages.{never}
-use Rattle.text_pull.proofs.Turns.{zero-of}
+use Rattle.text_turns.specs.Turn.{Roomy}
+use Rattle.text_turns.proofs.Turns.{zero-of}
 
--- a program's numbers ahead of a turn: no sum overflows, and there is room for what one event prints
-pub record Ready (chunk cap room most : ℕ) (f : Flow) : Type 0 where
-  pub stage : f .stage ≤ 4
-  pub over : f .stage ≡ 1 → (f .filled ≤ f .at) × (f .len ≡ 0)
-  pub quiet : 2 ≤ f .stage → f .made ≡ 0
-  pub whole : f .whole ≡ 0
-  pub at : f .at ≤ f .filled
-  pub filled : f .filled ≤ chunk
-  pub len : f .len ≤ cap
-  pub made : f .made + most ≤ room
-  pub read : f .read + f .turns * 65536 ≤ 9223372036854775808
-  pub written : f .written + f .made + f .turns * 65536 ≤ 9223372036854775808
-
--- and ahead of a flush
+-- a program's numbers ahead of a flush
 pub record Made (chunk cap room : ℕ) (f : Flow) : Type 0 where
   pub stage : f .stage ≤ 4
   pub unbroken : f .stage ≡ 3 → ⊥
@@ -41,8 +29,8 @@ pub record Made (chunk cap room : ℕ) (f : Flow) : Type 0 where
   pub written : f .written + f .made + f .turns * 65536 ≤ 9223372036854775808
 
 -- They are so at the start.
-pub ready-start : (chunk cap room most : ℕ) → most ≤ room → Ready chunk cap room most startOf
-ready-start chunk cap room most h = record {
+pub roomy-start : (chunk cap room most : ℕ) → most ≤ room → Roomy chunk cap room most startOf
+roomy-start chunk cap room most h = record {
   stage = omega arith;
   over = λ e. absurd (omega arith);
   quiet = λ e. refl;
@@ -119,7 +107,7 @@ made-closed chunk cap room g made v a l n m r w h q = rw q record {
 
 -- A pull and its answer.
 module _ {S : Type 0} {M : Machine S} {stop : S → Bool} (most room : ℕ) (f g h : Flow) (s s′ : S) (line chunk line′ chunk′ out out′ : List ℕ)
-    (x : Ready (length chunk) (length line) room most f) (p : Pulled f chunk line g chunk′ line′) (a : Answered M stop most g s line′ out h s′ out′)
+    (x : Roomy (length chunk) (length line) room most f) (p : Pulled f chunk line g chunk′ line′) (a : Answered M stop most g s line′ out h s′ out′)
     (i : length chunk ≤ 65536) (j : room ≤ 65536) where
   read-on : g .read + g .turns * 65536 ≤ 9223372036854775808
   read-on = omega (arith, x .read, p .most, p .turns)
@@ -158,16 +146,22 @@ module _ {S : Type 0} {M : Machine S} {stop : S → Bool} (most room : ℕ) (f g
       ]
 
 -- A flush.
-wrote-ready
-    : (chunk cap room most : ℕ) (f : Flow) (turns taken : ℕ) → most ≤ room → Made chunk cap room f → turns ≤ f .turns → taken ≤ f .made
-    → Ready chunk cap room most (wroteOf f turns taken)
+-- The stages of a write that failed.
+pub broken-stage : (error : Bool) → (3 ≤ cond error 3 5) × (cond error 3 5 ≤ 5) × (_≡_ {A = ℕ} (cond error 3 5) 4 → ⊥)
+broken-stage true = (omega arith, omega arith, λ z. omega arith)
+broken-stage false = (omega arith, omega arith, λ z. omega arith)
+
+wrote-roomy
+    : (chunk cap room most : ℕ) (f : Flow) (turns taken : ℕ) (error : Bool) → most ≤ room → Made chunk cap room f → turns ≤ f .turns → taken ≤ f .made
+    → Roomy chunk cap room most (wroteOf f turns taken error)
 unfolding wroteOf
-wrote-ready chunk cap room most f turns taken h x u v =
+wrote-roomy chunk cap room most f turns taken error h x u v =
+    let b = broken-stage error in
     elim (decLt taken (f .made)) [
       | yes i ↦
           rw (lt-ltb taken (f .made) i) record {
-            stage = omega arith;
-            over = λ e. absurd (omega arith);
+            stage = b .1;
+            over = λ e. absurd (omega (arith, b .0));
             quiet = λ e. refl;
             whole = x .whole;
             at = x .at;
@@ -179,7 +173,7 @@ wrote-ready chunk cap room most f turns taken h x u v =
           }
       | no i ↦
           rw (le-ltb taken (f .made) (omega arith)) record {
-            stage = x .stage;
+            stage = omega (arith, x .stage);
             over = x .over;
             quiet = λ e. refl;
             whole = x .whole;
@@ -192,11 +186,11 @@ wrote-ready chunk cap room most f turns taken h x u v =
           }
     ]
 
-waits-ready : (chunk cap room most : ℕ) (f : Flow) → most ≤ room → Made chunk cap room f → dueOf f room most ≡ false → Ready chunk cap room most f
-waits-ready chunk cap room most f h x e =
+waits-roomy : (chunk cap room most : ℕ) (f : Flow) → most ≤ room → Made chunk cap room f → dueOf f room most ≡ false → Roomy chunk cap room most f
+waits-roomy chunk cap room most f h x e =
     let d = due-not f room most e in
     record {
-      stage = x .stage;
+      stage = omega (arith, x .stage);
       over = x .over;
       quiet = λ z. absurd (omega (arith, d .0));
       whole = x .whole;
@@ -208,14 +202,14 @@ waits-ready chunk cap room most f h x e =
       written = x .written;
     }
 
-pub ready-again : (chunk cap room most : ℕ) (f k : Flow) → most ≤ room → Made chunk cap room f → Flushed most room f k → Ready chunk cap room most k
-ready-again chunk cap room most f k h x w = by (dueOf f room most) refl
+pub roomy-again : (chunk cap room most : ℕ) (f k : Flow) → most ≤ room → Made chunk cap room f → Flushed most room f k → Roomy chunk cap room most k
+roomy-again chunk cap room most f k h x w = by (dueOf f room most) refl
   where
-    by : (b : Bool) → dueOf f room most ≡ b → Ready chunk cap room most k
+    by : (b : Bool) → dueOf f room most ≡ b → Roomy chunk cap room most k
     by true e =
         let y = w .wrote e in
-        rw (y .flow) (wrote-ready chunk cap room most f (y .turns) (y .taken) h x (y .spent) (y .most))
-    by false e = rw (w .wait e) (waits-ready chunk cap room most f h x e)
+        rw (y .flow) (wrote-roomy chunk cap room most f (y .turns) (y .taken) (y .error) h x (y .spent) (y .most))
+    by false e = rw (w .wait e) (waits-roomy chunk cap room most f h x e)
 
 -- Where a program does not go on though nothing has ended or failed, its turns are used up.
 pub used-up : (f : Flow) → goesOn f ≡ false → f .stage ≤ 1 → f .turns ≡ 0

@@ -13,9 +13,10 @@ use Rattle.text_stream.specs.Stream.{Machine, Mid, between, byteFed, byteSaid, 
 use Rattle.text_stream.proofs.Whole.{keeps-first, fed-append, said-append, whole}
 use Rattle.text_stream.proofs.Prints.{ended-none, ended-some}
 use Rattle.text_stream.proofs.Histories.{history-dead}
 use Rattle.text_pull.specs.declared.Flow.{Flow}
 use Rattle.text_stream.proofs.Steps.{fed-plain, said-plain}
-use Rattle.text_pull.specs.Pull.{startOf, restOf, Pulled, tookOf, closedOf, Answered, Part}
+use Rattle.text_pull.specs.Pull.{startOf, restOf, Pulled, tookOf, closedOf, Answered}
+use Rattle.text_turns.specs.Turn.{Spoken, Flowing, Closing, Done, After}
 
 -- Small numbers.
 pub two : (n : ℕ) → n ≤ 2 → (n ≡ 0 → ⊥) → (n ≡ 1 → ⊥) → n ≡ 2
@@ -30,12 +31,6 @@ zero-of n h e = elim (decLt n 1) [ yes i ↦ omega arith | no i ↦ absurd (e (o
 
 pub one-of : (n : ℕ) → n ≤ 1 → (n ≡ 0 → ⊥) → n ≡ 1
 one-of n h e = elim (decLt n 1) [ yes i ↦ absurd (e (omega arith)) | no i ↦ omega arith ]
-
--- a text was read, and of the words that it prints all but those that wait are written
-pub record Spoken (w text : List ℕ) (f : Flow) (out : List ℕ) : Type 0 where
-  pub read : f .read ≡ length text
-  pub count : f .written + f .made ≡ length w
-  pub words : take (f .made) out ≡ drop (f .written) w
 
 -- More was read.
 respoken
@@ -69,37 +64,6 @@ pub speak-on
 speak-on {w} x m v r = record { read = r ∙ x .read; count = omega (arith, m, v, x .count); words = rw (m, v, x .count, drop-length w) }
 
 module _ {S : Type 0} (M : Machine S) (cap : ℕ) (s₀ : S) where
-  -- bytes may come: the machine has taken those before the rest of the chunk
-  pub record Flowing (f : Flow) (s : S) (line chunk out : List ℕ) : Type 0 where
-    pub past : List ℕ
-    pub machine : record { state = s; kept = take (f .len) line } ≡ fed M (take cap) (between s₀) past
-    pub spoken : Spoken (said M (take cap) (between s₀) past) (past ++ restOf f chunk) f out
-
-  -- the text has ended, and its last line is taken
-  pub record Closing (f : Flow) (s : S) (out : List ℕ) : Type 0 where
-    pub text : List ℕ
-    pub words : List ℕ
-    pub spoken : Spoken words text f out
-    pub rest : words ++ M .end s ≡ saysOf M s₀ text
-
-  -- a read failed
-  pub record Unread (f : Flow) (out : List ℕ) : Type 0 where
-    pub text : List ℕ
-    pub spoken : Spoken (said M (take cap) (between s₀) text) text f out
-
-  -- all is printed
-  pub record Done (f : Flow) (out : List ℕ) : Type 0 where
-    pub text : List ℕ
-    pub spoken : Spoken (saysOf M s₀ text) text f out
-
-  -- one of these, or a write failed
-  pub record After (f : Flow) (s : S) (line chunk out : List ℕ) : Type 0 where
-    pub going : f .stage ≡ 0 → Flowing f s line chunk out
-    pub closing : f .stage ≡ 1 → Closing f s out
-    pub unread : f .stage ≡ 2 → Unread f out
-    pub part : f .stage ≡ 3 → Part (saysOf M s₀) f
-    pub done : f .stage ≡ 4 → Done f out
-
   -- an event: the bytes that were pulled are taken, and a line that is whole is not
   pub record Event (f : Flow) (s : S) (line chunk out : List ℕ) : Type 0 where
     pub past : List ℕ
@@ -118,6 +82,7 @@ module _ {S : Type 0} (M : Machine S) (cap : ℕ) (s₀ : S) where
     unread = λ e. absurd (omega arith);
     part = λ e. absurd (omega arith);
     done = λ e. absurd (omega arith);
+    untaken = λ e. absurd (omega arith);
   }
 
   module _ (some : 1 ≤ cap) (f g : Flow) (s : S) (line chunk line′ chunk′ out : List ℕ) (l : length line ≡ cap) (n : f .len ≤ length line)
@@ -274,6 +239,7 @@ module _ {S : Type 0} (M : Machine S) (cap : ℕ) (s₀ : S) where
           closing = λ z. absurd (omega arith);
           unread = λ z. absurd (omega arith);
           part = λ z. absurd (omega arith);
+          untaken = λ z. absurd (omega arith);
           done =
               λ z.
               elim (ℕ-discrete (g .stage) 0) [
@@ -292,6 +258,7 @@ module _ {S : Type 0} (M : Machine S) (cap : ℕ) (s₀ : S) where
           unread = λ z. absurd (u z);
           part = λ z. absurd (omega arith);
           done = λ z. absurd (omega arith);
+          untaken = λ z. absurd (omega arith);
         }
 
     -- After the end.
@@ -304,6 +271,7 @@ module _ {S : Type 0} (M : Machine S) (cap : ℕ) (s₀ : S) where
           unread = λ z. absurd (omega arith);
           part = λ z. absurd (omega arith);
           done = λ z. closed-done x p;
+          untaken = λ z. absurd (omega arith);
         }
 
   -- After nothing.
@@ -316,6 +284,7 @@ module _ {S : Type 0} (M : Machine S) (cap : ℕ) (s₀ : S) where
     unread = λ z. record { text = x .past; spoken = x .over (omega arith) };
     part = λ z. absurd (omega arith);
     done = λ z. absurd (omega arith);
+    untaken = λ z. absurd (omega arith);
   }
 
   -- A pull and its answer.

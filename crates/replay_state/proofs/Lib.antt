@@ -1,0 +1,2 @@
+-- Where a replay stops it has ended.
+pub mod Stops
