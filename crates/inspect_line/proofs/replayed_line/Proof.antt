@@ -1,5 +1,7 @@
 -- `inspect_line::replayed_line` meets its contract: the line does what it does in a replay, and counts. Assumes nothing.
 use borrow.Author.Needs.{needs}
+use denote.Ref.{now}
+use Rattle.replay_line.specs.Replay.{held, heldBy}
 use Rattle.inspect_line.proofs.Looks.{replayed-seen}
 use Rattle.inspect_line.proofs.replayed_line.Statement.{statement}
 use Rattle.inspect_line.proofs.replayed_line.Tie as tie
@@ -9,7 +11,8 @@ returns c =
     let t = c .before .before .before .before .before .before .before .before .before .before in
     let o = t .before .before .before .before .before in
     let a = o .before .before .before .before .before .before .before .args in
-    (replayed-seen (a .inspect) (t .take .ensures .0) (o .one-more .ensures) (c .numbered-to .ensures), t .take .ensures .1)
+    let h = heldBy (a .kind) (held (a .inspect .replay) (now (a .arena))) (now (a .line)) in
+    (replayed-seen (a .inspect) {h = h} (t .take .ensures .0) (o .one-more .ensures) (c .numbered-to .ensures), t .take .ensures .1)
 
 pub replayed-line-spec : {M : Type 1} → statement M
 replayed-line-spec =
