@@ -6,7 +6,9 @@ use mathlib.Core.Path.{_≡_, refl, sym, ap, _∙_}
 use mathlib.Core.Bool.{true, false, false≢true}
 use mathlib.Core.List.{List, [], _∷_, _++_}
 use lib.ListN.{getD, replicate}
+use Rattle.answers.specs.declared.status.Fault.{Fault}
 use Rattle.answers.specs.declared.status.Fault.the-variants.{PurseRaised, OutsideWord}
+use Rattle.answers.specs.declared.refusal.Refusal.{Refusal}
 use Rattle.answers.specs.declared.refusal.Refusal.the-variants.{ShortStaging}
 use Rattle.service_code.specs.declared.code.ServiceKind.the-variants.{Cyclic, Purse}
 use Rattle.service_code.specs.Code.{numberOf, attributesOf, tableOf, decodedOf, attributeOf, codeKindOf, requiresKey}
@@ -149,6 +151,13 @@ harms : {r : Request} {one : Reply} {a b : List ℕ} (i : ℕ) → Twice r one D
 unfolding after
 harms i x f h = f (ap (λ (l : List ℕ). getD l i 0) (rw (x .left, x .then-left) at (h .unchanged)))
 
+-- what fails or is refused is not accepted
+failed : {i : ℕ} {f : Fault} → Failed i f ≡ Done → ⊥
+failed e = let z : _≡_ {A = ℕ} 0 1 = cc in omega arith
+
+not-served : {r : Refusal} → Refused r ≡ Done → ⊥
+not-served e = let z : _≡_ {A = ℕ} 0 1 = cc in omega arith
+
 -- the purse paid twice more, the ring turned on, the lowered purse raised: none of these is harmless
 harmful
     : (Harmless card arena twice [] 96 → ⊥) × (Harmless card arena parted [] 96 → ⊥) × (Harmless card arena turned [] 96 → ⊥)
@@ -158,8 +167,8 @@ harmful = (
   harms 16 (computed .1) (λ e. omega arith),
   harms 16 (computed .2) (λ e. omega arith),
   harms 80 (computed .4) (λ e. omega arith),
-  λ h. let z : _≡_ {A = ℕ} 0 1 = let q = rw (computed .3 .left, computed .3 .second) at (h .accepted) in cc in omega arith,
-  λ h. let z : _≡_ {A = ℕ} 0 1 = let q = rw (computed .5 .left, computed .5 .second) at (h .accepted) in cc in omega arith,
+  λ h. failed (sym (computed .3 .second) ∙ (rw (computed .3 .left) at (h .accepted))),
+  λ h. failed (sym (computed .5 .second) ∙ (rw (computed .5 .left) at (h .accepted))),
 )
 
 -- where the premises fail: a purse block is named twice, by two codes, by elements that are not neighbours, directly; a ring has two runs
@@ -253,8 +262,8 @@ idle : Idle card (arenaAfter card arena every) between
 idle = idle-each card (arenaAfter card arena every) between (rw (computed .0 .left) (
   λ t d. false≢true t,
   (
-    λ t d. let z : _≡_ {A = ℕ} 0 1 = let q = sym (replies .1) ∙ d in cc in omega arith,
-    (λ t d. let z : _≡_ {A = ℕ} 0 1 = let q = sym (replies .2) ∙ d in cc in omega arith, tt),
+    λ t d. failed (sym (replies .1) ∙ d),
+    (λ t d. not-served (sym (replies .2) ∙ d), tt),
   ),
 ))
 
@@ -266,7 +275,7 @@ needed = (
       let q : getD (serve card left other .arena) 0 0 ≡ getD left 0 0 = ap (λ (l : List ℕ). getD l 0 0) (rw (computed .0 .left) at (h .kept)) in
       let z : _≡_ {A = ℕ} 7 9 = rw (replies .3) at q in
       omega arith,
-  λ h. let z : _≡_ {A = ℕ} 0 1 = let q = sym (replies .2) ∙ (rw (computed .0 .left) at (h .accepted)) in cc in omega arith,
+  λ h. not-served (sym (replies .2) ∙ (rw (computed .0 .left) at (h .accepted))),
 )
 
 in-use : card .used ≡ 6

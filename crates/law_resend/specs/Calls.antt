@@ -18,9 +18,10 @@ use Rattle.law_resend.specs.Resend.{PursesOnce, RingsOnce, Idle, lending
 -- `ask` says what request a call makes, `leave` what an answer leaves its caller; `Done x`: by what it was left the caller sees that its
 -- request was accepted.
 module _ (c : Card) {K L : Type 0} (ask : K → Request) (leave : K → Answer → L) (Done : L → Type 0) where
-  -- A call x, and calls after it, run from the arena a to the arena m; and the call y on m, which leaves e. x and y make the same request, a
-  -- write in which no purse block is named twice and each cyclic number forms a single run.
-  pub record SentTwice (a : List ℕ) (x : Exchange K L) (xs : List (Exchange K L)) (m : List ℕ) (y : Exchange K L) (e : List ℕ) : Type 0 where
+  -- A call x, and calls after it, run from the arena a to the arena m; and the call y on m, which leaves e. x and y make the same request,
+  -- a write in which no purse block is named twice and each cyclic number forms a single run.
+  pub record SentTwice
+      (a : List ℕ) (x : Exchange K L) (xs : List (Exchange K L)) (m : List ℕ) (y : Exchange K L) (e : List ℕ) : Type 0 where
     pub first : Ran c ask leave a (x ∷ xs) m
     pub second : Leaves c ask leave m (y .call) (y .left) e
     -- but for the length of the staging, which is long enough

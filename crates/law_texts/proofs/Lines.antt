@@ -44,7 +44,8 @@ two-lines s z zs p q none n =
       two-first = in-turn (only two zs) (only one zs) q p (let e = both-count zs in omega arith) (u .two-first);
     }
   where
-    in-turn : (ls ms : List (List ℕ)) → Taken (s .replay .phase) ls → Taken (s .replay .phase) ms → length (all zs) ≡ length ls + length ms →
+    in-turn : (ls ms : List (List ℕ)) → Taken (s .replay .phase) ls → Taken (s .replay .phase) ms →
+        length (all zs) ≡ length ls + length ms →
         let c = s .replay .card in
         after (left c n) (next c n) (s .arena) (all zs) ≡ after (left c n) (next c n) (after (left c n) (next c n) (s .arena) ls) ms →
         after (textAs n) lineHeld s (all zs) ≡ after (textAs n) lineHeld (after (textAs n) lineHeld s ls) ms
@@ -69,7 +70,8 @@ unfolding heldAfter
 requests-after line ls s q = requests-stay ls (lineHeld s line) (after-phase s line (taken-first (s .replay .phase) line ls q))
 
 -- the arena after a line and those that follow it
-then-is : (c : Card) (a b : List ℕ) (r : Request) (rs : List Request) → b ≡ after (answerOf c) (arenaAfter c) a (r ∷ rs) → b ≡ arenaThen c a r rs
+then-is : (c : Card) (a b : List ℕ) (r : Request) (rs : List Request) →
+    b ≡ after (answerOf c) (arenaAfter c) a (r ∷ rs) → b ≡ arenaThen c a r rs
 unfolding after
 then-is c a b r rs e = e
 

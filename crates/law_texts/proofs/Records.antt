@@ -38,21 +38,24 @@ module _ (c : Card) where
   area-long depth code end version = by (not (isSound c)) (leb 64 (c .count)) (areaJudged (nodesOf c) depth code end)
     where
       by : (t u : Bool) (x : Answer) →
-          length (cond t (refused c NotBuilt) (cond u (refused c TableFull) (areaBy c (nodeAs depth code version (Area end)) x)) .card .nodes) ≡ length (c .nodes)
+          length (cond t (refused c NotBuilt) (cond u (refused c TableFull) (areaBy c (nodeAs depth code version (Area end)) x)) .card .nodes)
+          ≡ length (c .nodes)
       by true u x = refl
       by false true x = refl
       by false false (Refused r) = refl
       by false false Done = length-set (c .nodes) (c .count) _
 
   -- so does a service
-  service-long : (arenaLen depth code blocks version : ℕ) → length (serviceAdded c arenaLen depth code blocks version .card .nodes) ≡ length (c .nodes)
+  service-long : (arenaLen depth code blocks version : ℕ) →
+      length (serviceAdded c arenaLen depth code blocks version .card .nodes) ≡ length (c .nodes)
   unfolding serviceAdded addService
   service-long arenaLen depth code blocks version =
-      by (not (isSound c)) (ltb arenaLen (16 * c .used)) (leb 64 (c .count)) (agreed (c .system .join) blocks (placedOf (nodesOf c) (c .used) arenaLen depth code blocks))
+      by (not (isSound c)) (ltb arenaLen (16 * c .used)) (leb 64 (c .count))
+      (agreed (c .system .join) blocks (placedOf (nodesOf c) (c .used) arenaLen depth code blocks))
     where
       by : (t s u : Bool) (p : Placed) →
-          length (cond t (refused c NotBuilt) (cond s (refused c ShortArena) (cond u (refused c TableFull) (serviceBy c depth code version p))) .card .nodes)
-          ≡ length (c .nodes)
+          let x = cond s (refused c ShortArena) (cond u (refused c TableFull) (serviceBy c depth code version p)) in
+          length (cond t (refused c NotBuilt) x .card .nodes) ≡ length (c .nodes)
       by true s u p = refl
       by false true u p = refl
       by false false true p = refl
@@ -64,7 +67,8 @@ module _ (c : Card) where
   unfolding limitAdded setLimit
   limit-long upper lower generation = by (not (isSound c)) (lastOf c .entry)
     where
-      by : (t : Bool) (e : Entry) → length (cond t (refused c NotBuilt) (limitBy c (Limited upper lower generation) e) .card .nodes) ≡ length (c .nodes)
+      by : (t : Bool) (e : Entry) →
+          length (cond t (refused c NotBuilt) (limitBy c (Limited upper lower generation) e) .card .nodes) ≡ length (c .nodes)
       by true e = refl
       by false (Area end) = refl
       by false (Service s b old) = length-set (c .nodes) (c .count - 1) _

@@ -122,7 +122,9 @@ module _ (c : Card) (n : ℕ) where
   steps s line e q =
       let w = line-leaves s line q in
       record {
-        text = subst (λ (x : Card). textAs n s line ≡ printedBy (oneMore n) line (answerOf x (s .arena) (requestIn line))) e (line-says s line n q);
+        text =
+            subst (λ (x : Card). textAs n s line ≡ printedBy (oneMore n) line (answerOf x (s .arena) (requestIn line))) e
+            (line-says s line n q);
         card = w .0 ∙ e;
         arena = subst (λ (x : Card). lineHeld s line .arena ≡ arenaAfter x (s .arena) (requestIn line)) e (w .1);
         taken = λ ls. taken-requests (after-phase s line q) ls;

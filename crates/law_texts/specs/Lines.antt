@@ -18,8 +18,8 @@ abbrev pub asking : ℕ → Held → Held
 asking n s =
     held (record { card = s .replay .card; phase = s .replay .phase; lines = s .replay .lines; asked = n }) (s .arena)
 
--- What a line prints with the ordinal that follows n in place of its own. With `s .replay .asked` for n it is `lineText s line`, so two lines
--- of which this is equal for every n print the same, ordinals aside.
+-- What a line prints with the ordinal that follows n in place of its own. With `s .replay .asked` for n it is `lineText s line`, so two
+-- lines of which this is equal for every n print the same, ordinals aside.
 abbrev pub textAs : ℕ → Held → List ℕ → List ℕ
 textAs n s line = lineText (asking n s) line
 

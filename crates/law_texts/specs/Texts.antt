@@ -28,9 +28,11 @@ pub record TextsApart (is : List (List ℕ)) (zs : List (Marked (List ℕ))) : T
   -- what is printed after `is`: of both, line by line what each prints, marked with the terminal that is told it
   pub both : replayOf (textOf (is ++ all zs)) ≡ replayOf (textOf is) ++ joined (all (told lineText lineHeld (stateAfter is) zs))
   -- of one's lines alone
-  pub first : replayOf (textOf (is ++ only one zs)) ≡ replayOf (textOf is) ++ joined (answers lineText lineHeld (stateAfter is) (only one zs))
+  pub first
+      : replayOf (textOf (is ++ only one zs)) ≡ replayOf (textOf is) ++ joined (answers lineText lineHeld (stateAfter is) (only one zs))
   -- of two's lines alone
-  pub second : replayOf (textOf (is ++ only two zs)) ≡ replayOf (textOf is) ++ joined (answers lineText lineHeld (stateAfter is) (only two zs))
+  pub second
+      : replayOf (textOf (is ++ only two zs)) ≡ replayOf (textOf is) ++ joined (answers lineText lineHeld (stateAfter is) (only two zs))
   -- ordinals aside each terminal is told the same in both, and the state ends alike
   pub same : (n : ℕ) → Undisturbed (textAs n) lineHeld (stateAfter is) zs
 
@@ -47,7 +49,9 @@ TwoTexts =
 -- A text of the lines `is`, a `W` line, the lines ls, and that `W` line again.
 pub record TextAgain (is : List (List ℕ)) (w : List ℕ) (ls : List (List ℕ)) : Type 0 where
   -- the last line's text is printed after what the others print
-  pub printed : replayOf (textOf (is ++ (w ∷ ls) ++ (w ∷ []))) ≡ replayOf (textOf (is ++ (w ∷ ls))) ++ lineText (heldAfter (stateAfter is) (w ∷ ls)) w
+  pub printed
+      : replayOf (textOf (is ++ (w ∷ ls) ++ (w ∷ [])))
+      ≡ replayOf (textOf (is ++ (w ∷ ls))) ++ lineText (heldAfter (stateAfter is) (w ∷ ls)) w
   -- it is the first one's, ordinals aside, and no stored byte is changed
   pub again : PrintsAgain (stateAfter is) (heldAfter (stateAfter is) (w ∷ ls)) w
 
