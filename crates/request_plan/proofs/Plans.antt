@@ -27,15 +27,10 @@ module _ (list : List ℕ) (n : Sizes) where
     codes-refused h = rw (f, h)
 
     module _ (g : ltb 16 (n .codes) ≡ false) where
-      -- a list that ends early, or runs on
-      pub bad-list : endsAfter list (n .count) ≡ false → Refused ListLength ≡ boundsJudged list n
+      -- The list's own length decides.
+      pub by-list : {a : Answer} → a ≡ cond (not (endsAfter list (n .count))) (Refused ListLength) Done → a ≡ boundsJudged list n
       unfolding boundsJudged
-      bad-list e = rw (f, g, e)
-
-      -- one that ends with its last element
-      pub in-bounds : endsAfter list (n .count) ≡ true → Done ≡ boundsJudged list n
-      unfolding boundsJudged
-      in-bounds e = rw (f, g, e)
+      by-list h = rw (f, g) h
 
 module _ (write : Bool) (n : Sizes) where
   -- the blocks in use do not fit the arena

@@ -8,6 +8,9 @@ use byte_parts::sizes::BLOCK_SIZE;
 use byte_parts::sizes::MOST_CODES;
 use byte_parts::sizes::MOST_ELEMENTS;
 ghost use mathlib.Core.Path.{_≡_};
+ghost use mathlib.Core.Bool.{cond, not};
+ghost use Rattle.answers.specs.Refusal.{refusalNumber};
+ghost use Rattle.block_list.specs.Element.{endsAfter};
 ghost use Rattle.request_plan.specs.Request.{flag1In, flag2In, responseOf, causeIn};
 ghost use Prim.Native.Nat.{_*_};
 ghost use lib.Dec.{ltb};
@@ -27,6 +30,13 @@ pub enum Reply {
 pub enum Response {
     Pair { flag1: u8, flag2: u8 },
     Refusal(u8),
+}
+
+// A refusal as it is told: by its number.
+fn number_told(refusal: Refusal) -> Response
+    ensures { λ r. ⌜ r ≡ Response.Refusal (refusalNumber refusal) ⌝ }
+{
+    Response::Refusal(refusal.number())
 }
 
 impl Reply {
@@ -61,7 +71,7 @@ impl Reply {
         let flag1 = self.flag1();
         let flag2 = self.flag2();
         match self {
-            Reply::Refused(refusal) => Response::Refusal(refusal.number()),
+            Reply::Refused(refusal) => number_told(refusal),
             Reply::Done => Response::Pair { flag1, flag2 },
             Reply::ShortData => Response::Pair { flag1, flag2 },
             Reply::Failed { index: _, fault: _ } => Response::Pair { flag1, flag2 },
@@ -120,6 +130,16 @@ fn too_short(bytes: usize, blocks: usize) -> bool
     bytes / BLOCK_SIZE < blocks
 }
 
+// The refusal of a list that is not as many elements as are counted, or none.
+fn list_judged(list: &[u8], sizes: Sizes) -> Answer
+    ensures { λ r. ⌜ r ≡ cond (not (endsAfter (now (list .entry)) (sizes .count))) (Answer.Refused Refusal.ListLength) Answer.Done ⌝ }
+{
+    if !reader::list_ends(list, sizes.count) {
+        return Answer::Refused(Refusal::ListLength); // 3: the list ends early, or runs on
+    }
+    Answer::Done
+}
+
 // Judges the counts and the list of a request: 1, 2, 3.
 fn bounds_judged(list: &[u8], sizes: Sizes) -> Answer
     ensures { λ r. ⌜ r ≡ boundsJudged (now (list .entry)) sizes ⌝ }
@@ -130,10 +150,17 @@ fn bounds_judged(list: &[u8], sizes: Sizes) -> Answer
     if many_codes(sizes.codes) {
         return Answer::Refused(Refusal::TooManyCodes); // 2
     }
-    if !reader::list_ends(list, sizes.count) {
-        return Answer::Refused(Refusal::ListLength); // 3: the list ends early, or runs on
+    list_judged(list, sizes) // 3
+}
+
+// Whether a write has data for each of its elements.
+fn data_judged(sizes: Sizes) -> Judged
+    ensures { λ r. ⌜ r ≡ cond (ltb (sizes .«data») (16 * sizes .count)) Judged.ShortData Judged.Fit ⌝ }
+{
+    if too_short(sizes.data, sizes.count) {
+        return Judged::ShortData; // FF AC, ahead of all elements
     }
-    Answer::Done
+    Judged::Fit
 }
 
 // Judges the buffer and the data of a write: 4, then FF AC. Surplus data are ignored.
@@ -143,10 +170,7 @@ fn write_judged(sizes: Sizes) -> Judged
     if too_short(sizes.room, sizes.used) {
         return Judged::Refused(Refusal::ShortStaging); // 4
     }
-    if too_short(sizes.data, sizes.count) {
-        return Judged::ShortData; // FF AC, ahead of all elements
-    }
-    Judged::Fit
+    data_judged(sizes)
 }
 
 // Judges the buffer of a read: 5.

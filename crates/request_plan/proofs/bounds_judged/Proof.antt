@@ -1,8 +1,7 @@
 -- The code tests in the definition's order.
 use mathlib.Core.Path.{sym, _∙_}
 use borrow.Author.Needs.{needs}
-use borrow.Author.Tests.{not-true, not-false}
-use Rattle.request_plan.proofs.Plans.{elements-refused, codes-refused, bad-list, in-bounds}
+use Rattle.request_plan.proofs.Plans.{elements-refused, codes-refused, by-list}
 use Rattle.request_plan.proofs.bounds_judged.Statement.{statement}
 use Rattle.request_plan.proofs.bounds_judged.Tie as tie
 
@@ -16,19 +15,9 @@ returns-2 c =
 
 returns-3 : tie.Need-returns-3
 returns-3 c =
-    let l = c .before in
-    let g = l .before in
+    let g = c .before in
     let f = g .before .before in
-    bad-list _ _ (sym (f .before .many-elements .ensures) ∙ f .if1 .left) (sym (g .before .many-codes .ensures) ∙ g .if2 .left)
-    (sym (l .list-ends .ensures) ∙ not-true (l .list-ends .result) (c .if3 .taken))
-
-returns-4 : tie.Need-returns-4
-returns-4 c =
-    let l = c .before in
-    let g = l .before in
-    let f = g .before .before in
-    in-bounds _ _ (sym (f .before .many-elements .ensures) ∙ f .if1 .left) (sym (g .before .many-codes .ensures) ∙ g .if2 .left)
-    (sym (l .list-ends .ensures) ∙ not-false (l .list-ends .result) (c .if3 .left))
+    by-list _ _ (sym (f .before .many-elements .ensures) ∙ f .if1 .left) (sym (g .before .many-codes .ensures) ∙ g .if2 .left) (c .list-judged .ensures)
 
 pub bounds-judged-spec : {M : Type 1} → statement M
 bounds-judged-spec =
@@ -39,5 +28,4 @@ bounds-judged-spec =
     (λ c κs. search needs)
     returns-2
     (λ c κs. search needs)
-    returns-3
-    returns-4)
+    returns-3)

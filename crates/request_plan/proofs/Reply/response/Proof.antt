@@ -4,7 +4,7 @@ use Prim.Native.Nat.{ℕ}
 use mathlib.Core.Path.{_≡_, refl, sym, _∙_, ap}
 use Rattle.request_plan.specs.declared.Reply.{Reply}
 use Rattle.request_plan.specs.declared.Reply.the-variants.{Done, ShortData}
-use Rattle.request_plan.specs.declared.Response.the-variants.{Pair, Refusal}
+use Rattle.request_plan.specs.declared.Response.the-variants.{Pair}
 use Rattle.request_plan.specs.Request.{flag1In, flag2In, responseOf}
 use Rattle.request_plan.proofs.Reply.response.Statement.{statement}
 use Rattle.request_plan.proofs.Reply.response.Tie as tie
@@ -15,7 +15,7 @@ told h e p q = (λ i. Pair (p i) (q i)) ∙ rw h e
 
 -- a refusal's number
 returns : tie.Need-returns
-returns c = ap Refusal (c .number .ensures) ∙ ap responseOf (sym (c .before .before .self .given .1))
+returns c = c .number-told .ensures ∙ ap responseOf (sym (c .before .before .self .given .1))
 
 returns-2 : tie.Need-returns-2
 returns-2 c = let f = c .before .before in told (c .enum-told .given .1) refl (f .before .flag1 .ensures) (f .flag2 .ensures)
