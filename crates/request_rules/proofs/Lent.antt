@@ -38,16 +38,15 @@ module _ (s : List ℕ) (at n : ℕ) (rule : List ℕ → Outcome) (fits : at + 
       let m : length ys ≡ n = (rw k at l) ∙ length-part s at n fits in
       rw (put-lent s at n ys fits m) (told-back (rule (take n (drop at s))) (rw k at e))
 
--- the same of a row's store in the stage
+-- the same of a row's store in the stage, which begins at `at`
 pub store-lent
-    : (w : Row) (s : List ℕ) (rule : List ℕ → Outcome) (r : Written) (ys : List ℕ)
-    → let at = 16 * w .start in
-    let size = at + 16 * w .blocks - at in
+    : (w : Row) (s : List ℕ) (rule : List ℕ → Outcome) (r : Written) (ys : List ℕ) (at : ℕ) → at ≡ 16 * w .start
+    → let size = at + 16 * w .blocks - at in
     let lent = take size (drop at s) in
     16 * w .start + 16 * w .blocks ≤ length s → length ys ≡ length lent → Told lent (rule lent) r ys
     → Told s (onStore w rule s) r (take at s ++ (ys ++ drop size (drop at s)))
 unfolding onStore
-store-lent w s rule r ys fits l e = within-lent s (16 * w .start) (16 * w .blocks) rule fits r ys l e
+store-lent w s rule r ys at q fits l e = rw (← q) (within-lent s at (16 * w .blocks) rule (omega (arith, q, fits)) r ys l e)
 
 -- an element of a cyclic store leaves it as it was
 pub cyclic-ends : (number : ℕ) (s : List ℕ) {r : Written} → r ≡ cyclicElement number → Told s (cond (eqb number 0) (passed s) (failed CyclicBlock)) r s

@@ -87,13 +87,20 @@ fn element_by(
     }
 }
 
+// Gives where a row's store begins in the stage.
+fn place_of(row: Row) -> usize
+    ensures { λ r. ⌜ r ≡ 16 * row .start ⌝ }
+{
+    16 * (row.start as usize)
+}
+
 // Carries out one element where its row's store lies in the stage.
 pub fn element_on(stage: &mut [u8], block: &[u8], row: Row, number: u16, mode: u8) -> Written
     requires { ⌜ (16 * row .start + 16 * row .blocks ≤ length (now stage)) × (16 * number + 16 ≤ 16 * row .blocks) × (16 ≤ length (now block)) ⌝ }
     ensures { λ r. ⌜ r ≡ writtenOf (onStore row (elementBy (row .attribute) (row .limit) number mode (now (block .entry))) (now (stage .entry))) ⌝ }
     ensures { λ r. ⌜ now (stage .exit) ≡ bytesAfter (now (stage .entry)) (onStore row (elementBy (row .attribute) (row .limit) number mode (now (block .entry))) (now (stage .entry))) ⌝ }
 {
-    let at = 16 * (row.start as usize);
+    let at = place_of(row);
     let end = at + 16 * (row.blocks as usize);
     let decoded = row.attribute;
     let limit = row.limit;
@@ -128,7 +135,7 @@ pub fn end_on(stage: &mut [u8], run: &[u8], row: Row) -> Written
     ensures { λ r. ⌜ r ≡ writtenOf (onStore row (endBy (row .attribute) (now (run .entry))) (now (stage .entry))) ⌝ }
     ensures { λ r. ⌜ now (stage .exit) ≡ bytesAfter (now (stage .entry)) (onStore row (endBy (row .attribute) (now (run .entry))) (now (stage .entry))) ⌝ }
 {
-    let at = 16 * (row.start as usize);
+    let at = place_of(row);
     let end = at + 16 * (row.blocks as usize);
     let decoded = row.attribute;
     match decoded {

@@ -12,9 +12,10 @@ use Rattle.request_rules.proofs.element_on.Tie as tie
 returns : tie.Need-returns
 returns c =
     let d = c .before .before .before .before .before in
+    let p = d .before .before .before in
     let a = d .before .before .before .before .before .before .args in
     let k = c .before .before .element-by in
-    store-lent (a .row) (now (a .stage)) (elementBy (a .row .attribute) (a .row .limit) (a .number) (a .mode) (now (a .block))) (k .result) (k .last .0) (omega arith) (k .kept .0)
+    store-lent (a .row) (now (a .stage)) (elementBy (a .row .attribute) (a .row .limit) (a .number) (a .mode) (now (a .block))) (k .result) (k .last .0) (p .place-of .result) (p .place-of .ensures) (omega arith) (k .kept .0)
     (rw (d .decoded .given .1) (k .ensures))
 
 returns-2 : tie.Need-returns-2
@@ -25,8 +26,7 @@ pub element-on-spec : {M : Type 1} → statement M
 element-on-spec =
     tie.close
     (tie.spec
-    (λ c. search needs)
-    (λ c. search needs)
+    (λ c κs. search needs)
     (λ c. search needs)
     (λ c. search needs)
     (λ c. search needs)

@@ -13,9 +13,10 @@ use Rattle.request_rules.proofs.end_on.Tie as tie
 returns : tie.Need-returns
 returns c =
     let d = c .before .before .before .before .before in
+    let p = d .before .before .before in
     let a = d .before .before .before .before .before .before .args in
     let k = c .before .before .end-by in
-    store-lent (a .row) (now (a .stage)) (endBy (a .row .attribute) (now (a .run))) (k .result) (k .last .0) (omega arith) (k .kept .0)
+    store-lent (a .row) (now (a .stage)) (endBy (a .row .attribute) (now (a .run))) (k .result) (k .last .0) (p .place-of .result) (p .place-of .ensures) (omega arith) (k .kept .0)
     (rw (d .decoded .given .1) (k .ensures))
 
 returns-2 : tie.Need-returns-2
@@ -26,8 +27,7 @@ pub end-on-spec : {M : Type 1} → statement M
 end-on-spec =
     tie.close
     (tie.spec
-    (λ c. search needs)
-    (λ c. search needs)
+    (λ c κs. search needs)
     (λ c. search needs)
     (λ c. search needs)
     (λ c. search needs)
