@@ -44,11 +44,15 @@ fn answer(
             flow: text_pull::took(flow, taken.at, stops),
         };
     }
-    let replay = inspect.replay;
-    Moved {
-        inspect,
-        flow: replay_state::close(replay, flow, out),
+    if text_pull::is_end(flow) {
+        let replay = inspect.replay;
+        let rest = replay_state::close(replay, flow, out);
+        return Moved {
+            inspect,
+            flow: rest,
+        };
     }
+    Moved { inspect, flow }
 }
 
 // Writes what was printed, where it is due: it is what a text of the length read prints next.

@@ -43,10 +43,11 @@ fn answer(
             flow: text_pull::took(flow, taken.at, stops),
         };
     }
-    Moved {
-        replay,
-        flow: replay_state::close(replay, flow, out),
+    if text_pull::is_end(flow) {
+        let rest = replay_state::close(replay, flow, out);
+        return Moved { replay, flow: rest };
     }
+    Moved { replay, flow }
 }
 
 // Writes what was printed, where it is due: it is what a text of the length read prints next.

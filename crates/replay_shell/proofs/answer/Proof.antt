@@ -3,8 +3,9 @@ use Prim.Native.Nat.{_-_}
 use native.Mathlib.Omega.{arith}
 use mathlib.Core.Path.{_≡_, sym, _∙_}
 use borrow.Author.Needs.{needs}
-use Rattle.text_turns.proofs.Answers.{answer-line, answer-rest}
+use Rattle.text_turns.proofs.Answers.{answer-line, answer-rest, rest-none}
 use Rattle.line_serve.specs.Text.{mostPrinted}
+use Rattle.replay_state.specs.Phases.{finishText}
 use Rattle.replay_line.specs.Replay.{replayMachine}
 use Rattle.replay_shell.specs.Stop.{stops}
 use Rattle.replay_shell.proofs.answer.Statement.{statement}
@@ -27,18 +28,23 @@ returns c =
 
 close-requires : tie.Need-close-requires
 close-requires c κs =
-    let e = c .before in
+    let e = c .before .before .before in
     (sym (e .before .is-line .ensures) ∙ e .if1 .left, omega (arith, e .before .before .before .before .before .before .before .pre .3))
 
 returns-2 : tie.Need-returns-2
 returns-2 c =
     let k = c .before .before in
-    let e = k .before .before in
+    let e = k .before .before .before .before in
     answer-rest replayMachine stops mostPrinted (sym (e .before .is-line .ensures) ∙ e .if1 .left) (k .close .ensures .0) (omega (arith, k .close .ensures .1))
+
+returns-3 : tie.Need-returns-3
+returns-3 c =
+    let e = c .before .before in
+    answer-rest replayMachine stops mostPrinted (sym (e .before .is-line .ensures) ∙ e .if1 .left) (rest-none (finishText (e .before .before .before .before .before .before .before .args .replay .phase)) (sym (c .before .is-end .ensures) ∙ c .if2 .left)) (omega arith)
 
 pub answer-spec : {M : Type 1} → statement M
 answer-spec =
     tie.close
     (tie.spec (λ c κs. search needs) (λ c κs. search needs) (λ c κs. search needs) (λ c. search needs) (λ c. search needs) (λ c. search needs)
     (λ c κs. search needs) (λ c κs. search needs) took-requires (λ c. search needs) (λ c. search needs) (λ c. search needs) (λ c. search needs) returns
-    close-requires (λ c. search needs) returns-2)
+    (λ c κs. search needs) close-requires (λ c. search needs) returns-2 returns-3)
