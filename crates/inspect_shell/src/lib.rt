@@ -92,17 +92,18 @@ fn run(
 }
 
 // Lends what a text is read into, kept in and printed to.
-fn lend(fd: i32, inspect: Inspect, arena: &mut [u8], work: &mut [u8], bytes: &mut [u8]) -> Flow
-    requires { ⌜ (now arena ≡ replicate lentBytes 0) × (inspect ≡ beginsWith) ⌝ }
+fn lend(fd: i32, arena: &mut [u8], work: &mut [u8], bytes: &mut [u8]) -> Flow
+    requires { ⌜ now arena ≡ replicate lentBytes 0 ⌝ }
     requires { ⌜ (length (now work) ≡ lentBytes) × (mostSpelled ≤ length (now bytes)) ⌝ }
     ensures { λ r. ⌜ Ran inspectMachine atStart r ⌝ }
 {
+    let start = inspect_line::start();
     let mut chunk = [0u8; 65536];
     let mut line = [0u8; 32769];
     let mut out = [0u8; 65536];
     run(
         fd,
-        inspect,
+        start,
         arena,
         work,
         bytes,
@@ -116,9 +117,8 @@ fn lend(fd: i32, inspect: Inspect, arena: &mut [u8], work: &mut [u8], bytes: &mu
 pub fn inspect(fd: i32) -> Flow
     ensures { λ r. ⌜ Ran inspectMachine atStart r ⌝ }
 {
-    let start = inspect_line::start();
     let mut arena = [0u8; 65536];
     let mut work = [0u8; 65536];
     let mut bytes = [0u8; 16384];
-    lend(fd, start, &mut arena, &mut work, &mut bytes)
+    lend(fd, &mut arena, &mut work, &mut bytes)
 }

@@ -87,17 +87,18 @@ fn run(
 }
 
 // Lends what a text is read into, kept in and printed to.
-fn lend(fd: i32, replay: Replay, arena: &mut [u8], work: &mut [u8], bytes: &mut [u8]) -> Flow
-    requires { ⌜ (now arena ≡ replicate lentBytes 0) × (replay ≡ startOf) ⌝ }
+fn lend(fd: i32, arena: &mut [u8], work: &mut [u8], bytes: &mut [u8]) -> Flow
+    requires { ⌜ now arena ≡ replicate lentBytes 0 ⌝ }
     requires { ⌜ (length (now work) ≡ lentBytes) × (mostSpelled ≤ length (now bytes)) ⌝ }
     ensures { λ r. ⌜ Ran replayMachine atStart r ⌝ }
 {
+    let start = replay_state::start();
     let mut chunk = [0u8; 65536];
     let mut line = [0u8; 32769];
     let mut out = [0u8; 65536];
     run(
         fd,
-        replay,
+        start,
         arena,
         work,
         bytes,
@@ -111,9 +112,8 @@ fn lend(fd: i32, replay: Replay, arena: &mut [u8], work: &mut [u8], bytes: &mut 
 pub fn replay(fd: i32) -> Flow
     ensures { λ r. ⌜ Ran replayMachine atStart r ⌝ }
 {
-    let start = replay_state::start();
     let mut arena = [0u8; 65536];
     let mut work = [0u8; 65536];
     let mut bytes = [0u8; 16384];
-    lend(fd, start, &mut arena, &mut work, &mut bytes)
+    lend(fd, &mut arena, &mut work, &mut bytes)
 }

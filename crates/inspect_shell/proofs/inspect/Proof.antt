@@ -5,10 +5,10 @@ use Rattle.inspect_shell.proofs.inspect.Statement.{statement}
 use Rattle.inspect_shell.proofs.inspect.Tie as tie
 
 lend-requires : tie.Need-lend-requires
-lend-requires c κs = ((refl, search needs), search needs)
+lend-requires c κs = (refl, search needs)
 
 returns : tie.Need-returns
 returns c = c .before .before .before .lend .ensures
 
 pub inspect-spec : {M : Type 1} → statement M
-inspect-spec = tie.close (tie.spec (λ c κs. search needs) (λ c. search needs) (λ c. search needs) (λ c. search needs) lend-requires returns)
+inspect-spec = tie.close (tie.spec (λ c. search needs) (λ c. search needs) (λ c. search needs) lend-requires returns)

@@ -5,10 +5,10 @@ use Rattle.replay_shell.proofs.replay.Statement.{statement}
 use Rattle.replay_shell.proofs.replay.Tie as tie
 
 lend-requires : tie.Need-lend-requires
-lend-requires c κs = ((refl, search needs), search needs)
+lend-requires c κs = (refl, search needs)
 
 returns : tie.Need-returns
 returns c = c .before .before .before .lend .ensures
 
 pub replay-spec : {M : Type 1} → statement M
-replay-spec = tie.close (tie.spec (λ c κs. search needs) (λ c. search needs) (λ c. search needs) (λ c. search needs) lend-requires returns)
+replay-spec = tie.close (tie.spec (λ c. search needs) (λ c. search needs) (λ c. search needs) lend-requires returns)
