@@ -1,2 +1,3 @@
--- What callers cite: what a line is taken for goes by its first 32,769 bytes.
+-- What callers cite: what a line is taken for goes by its first 32,769 bytes; and examples.
 pub mod Blind
+pub mod Rows
