@@ -11,13 +11,10 @@ use borrow.Author.Tests.{le-ltb}
 use Rattle.byte_parts.specs.Part.{sameBytes}
 use Rattle.byte_parts.proofs.Part.{same-equal}
 use Rattle.text_fields.specs.Field.{split}
-use Rattle.text_numbers.specs.declared.codes.Code.{Code}
-use Rattle.text_numbers.specs.declared.codes.Code.the-variants as codes
-use Rattle.text_numbers.specs.declared.decimals.Number.{Number}
-use Rattle.text_numbers.specs.declared.decimals.Number.the-variants as numbers
 use Rattle.text_numbers.specs.Hex.{hexField}
 use Rattle.text_numbers.specs.Codes.{codesField}
-use Rattle.line_fields.specs.Fields.{codeAt, numberAt, withCode, withNumber, named, form}
+use Rattle.line_fields.specs.Fields.{codeAt, numberAt, named, form}
+use Rattle.line_fields.proofs.Said.{on-code, on-number}
 use Rattle.inspect_ask.specs.declared.Asked.{Asked}
 use Rattle.inspect_ask.specs.declared.Asked.the-variants as asks
 use Rattle.inspect_ask.specs.declared.Single.the-variants as singles
@@ -50,14 +47,6 @@ module _ (fs : List (List ℕ)) where
       go true e = p (formed name n e)
       go false e = q
 
-  on-code : (x : Code) (more : ℕ → Question) → ((n : ℕ) → Named first (more n)) → Named first (withCode Unknown x more)
-  on-code (codes.Is n) more p = p n
-  on-code codes.Bad more p = tt
-
-  on-number : (x : Number) (more : ℕ → Question) → ((n : ℕ) → Named first (more n)) → Named first (withNumber Unknown x more)
-  on-number (numbers.Is n) more p = p n
-  on-number numbers.Bad more p = tt
-
   tested : (t : Bool) (asked : Asked) → first ≡ nameOf asked → Named first (cond t (Of asked) Unknown)
   tested true asked e = e
   tested false asked e = tt
@@ -65,15 +54,15 @@ module _ (fs : List (List ℕ)) where
   on-lent : Named first (lentAsked fs)
   unfolding lentAsked roomLine arenaLine
   on-lent =
-      by roomName 2 (roomLine fs) _ (λ e. on-number (numberAt fs 1 4096) Room (λ n. tt))
-      (by arenaName 2 (arenaLine fs) Unknown (λ e. on-number (numberAt fs 1 65536) Arena (λ n. tt)) tt)
+      by roomName 2 (roomLine fs) _ (λ e. on-number (Named first) Unknown tt (numberAt fs 1 4096) Room (λ n. tt))
+      (by arenaName 2 (arenaLine fs) Unknown (λ e. on-number (Named first) Unknown tt (numberAt fs 1 65536) Arena (λ n. tt)) tt)
 
   on-stored : Named first (storedAsked fs)
   unfolding storedAsked blockLine codeLine
   on-stored =
-      by blockName 3 (blockLine fs) _ (λ e. on-code (codeAt fs 1) _ (λ n. on-number (numberAt fs 2 4294967295) _ (λ m. e)))
+      by blockName 3 (blockLine fs) _ (λ e. on-code (Named first) Unknown tt (codeAt fs 1) _ (λ n. on-number (Named first) Unknown tt (numberAt fs 2 4294967295) _ (λ m. e)))
       (by usedName 1 (Of asks.Used) _ (λ e. e)
-      (by attrName 2 (codeLine singles.Attribute fs) (lentAsked fs) (λ e. on-code (codeAt fs 1) _ (λ n. e)) on-lent))
+      (by attrName 2 (codeLine singles.Attribute fs) (lentAsked fs) (λ e. on-code (Named first) Unknown tt (codeAt fs 1) _ (λ n. e)) on-lent))
 
   on-lists : Named first (listsAsked fs)
   unfolding listsAsked codesLine
@@ -84,8 +73,8 @@ module _ (fs : List (List ℕ)) where
   on-card : Named first (cardAsked fs)
   unfolding cardAsked codeLine
   on-card =
-      by totalName 2 (codeLine singles.Total fs) _ (λ e. on-code (codeAt fs 1) _ (λ n. e))
-      (by verName 2 (codeLine singles.Version fs) _ (λ e. on-code (codeAt fs 1) _ (λ n. e))
+      by totalName 2 (codeLine singles.Total fs) _ (λ e. on-code (Named first) Unknown tt (codeAt fs 1) _ (λ n. e))
+      (by verName 2 (codeLine singles.Version fs) _ (λ e. on-code (Named first) Unknown tt (codeAt fs 1) _ (λ n. e))
       (by dirName 1 (Of asks.Directory) (listsAsked fs) (λ e. e) on-lists))
 
   on-bytes : Named first (bytesAsked fs)
@@ -97,7 +86,7 @@ module _ (fs : List (List ℕ)) where
   on-message : Named first (messageAsked fs)
   unfolding messageAsked listLine codesLine
   on-message =
-      by listName 3 (listLine fs) _ (λ e. on-code (codeAt fs 1) _ (λ n. on-number (numberAt fs 2 4294967295) _ (λ m. e)))
+      by listName 3 (listLine fs) _ (λ e. on-code (Named first) Unknown tt (codeAt fs 1) _ (λ n. on-number (Named first) Unknown tt (numberAt fs 2 4294967295) _ (λ m. e)))
       (by infoName 2 (codesLine asks.Info fs) (bytesAsked fs) (λ e. tested (codesField (getD fs 1 [])) asks.Info e) on-bytes)
 
 -- A line that asks has the question's name in its first field.

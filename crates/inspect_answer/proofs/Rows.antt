@@ -56,8 +56,8 @@ unbuilt = record { nodes = card .nodes; count = 0; used = 0; system = card .syst
 abbrev arena : List ℕ
 arena = replicate 16 0 ++ (76 ∷ 65 ∷ 78 ∷ 69 ∷ 32 ∷ 50 ∷ []) ++ replicate 26 0
 
--- The answers: two packets, information on three nodes, messages read, totals, versions, pairs, whether lists are well formed, a block and one
--- that is not there, the blocks in use, an attribute.
+-- The answers: two packets, information on three nodes, messages read, totals, versions, pairs, whether lists are well formed, a block and
+-- one that is not there, the blocks in use, an attribute.
 abbrev Answers : Type 0
 Answers =
     (answerText card arena 48 4096 [] (asks.List 0 0) ≡ 108 ∷ 105 ∷ 115 ∷ 116 ∷ 9 ∷ 48 ∷ 48 ∷ 48 ∷ 49 ∷ 52 ∷ 48 ∷ 49 ∷ 48 ∷ 66 ∷ 70 ∷ 49 ∷ 48 ∷ 48 ∷ 48 ∷ 10 ∷ [])
@@ -80,8 +80,8 @@ Answers =
     × (answerText card arena 48 4096 [] asks.Used ≡ 117 ∷ 115 ∷ 101 ∷ 100 ∷ 9 ∷ 50 ∷ 10 ∷ [])
     × (answerText card arena 48 4096 [] (asks.Attribute 0x1049) ≡ 97 ∷ 116 ∷ 116 ∷ 114 ∷ 9 ∷ 54 ∷ 53 ∷ 9 ∷ 114 ∷ 97 ∷ 110 ∷ 100 ∷ 111 ∷ 109 ∷ 9 ∷ 114 ∷ 101 ∷ 97 ∷ 100 ∷ 45 ∷ 119 ∷ 114 ∷ 105 ∷ 116 ∷ 101 ∷ 9 ∷ 102 ∷ 114 ∷ 101 ∷ 101 ∷ 10 ∷ [])
 
--- What is refused: packets past the end, however large their number, with 45; a service and FFFF as parents with 44; outputs that are a byte
--- too short with 5, and those that just do; a short arena with 7, 33 nodes with 46, and 7 ahead of 46; no message with 47; and no block.
+-- What is refused: packets past the end, however large their number, with 45; a service and FFFF as parents with 44; outputs that are a
+-- byte too short with 5, and those that just do; a short arena with 7, 33 nodes with 46, and 7 ahead of 46; no message with 47; and no block.
 abbrev Refusals : Type 0
 Refusals =
     (answerText card arena 48 4096 [] (asks.List 0x1040 1) ≡ 108 ∷ 105 ∷ 115 ∷ 116 ∷ 9 ∷ 33 ∷ 9 ∷ 52 ∷ 53 ∷ 10 ∷ [])

@@ -84,4 +84,32 @@ pub unknown-rows
     × (questionOf (76 ∷ 105 ∷ 115 ∷ 116 ∷ 9 ∷ 49 ∷ 48 ∷ 48 ∷ 48 ∷ 9 ∷ 48 ∷ []) ≡ Unknown)
     × (questionOf [] ≡ Unknown)
 unfolding questionOf messageAsked bytesAsked cardAsked listsAsked storedAsked lentAsked listLine blockLine codeLine codesLine bytesLine roomLine arenaLine form named sameBytes split hex16 codesField hexField grouped decimal plain upTo spelt digits digitOf among
-unknown-rows = (refl, refl, refl, refl, refl, refl, refl, refl, refl, refl, refl, refl, refl, refl, refl, refl, refl, refl, refl, refl, refl, refl, refl, refl, refl, refl, refl)
+unknown-rows = (
+  refl,
+  refl,
+  refl,
+  refl,
+  refl,
+  refl,
+  refl,
+  refl,
+  refl,
+  refl,
+  refl,
+  refl,
+  refl,
+  refl,
+  refl,
+  refl,
+  refl,
+  refl,
+  refl,
+  refl,
+  refl,
+  refl,
+  refl,
+  refl,
+  refl,
+  refl,
+  refl,
+)

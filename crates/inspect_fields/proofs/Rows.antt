@@ -29,8 +29,8 @@ pub attribute-rows
 unfolding numberOf attributesOf tableOf decodedOf attributeOf requiresKey attributeFields decText digitsOf
 attribute-rows = (refl, refl, refl, refl, refl, refl, refl, refl, refl, refl)
 
--- A code list of one area, 1000 to 10FF, and one service, 104B, after which more follow, `1 100010FF 104B`; an empty one, `0 - -`; flag 2 and
--- a byte too few, `! 47`.
+-- A code list of one area, 1000 to 10FF, and one service, 104B, after which more follow, `1 100010FF 104B`; an empty one, `0 - -`; flag 2
+-- and a byte too few, `! 47`.
 pub list-rows
     : (readListFields (0x01 ∷ 0x01 ∷ 0x00 ∷ 0x10 ∷ 0xff ∷ 0x10 ∷ 0x01 ∷ 0x4b ∷ 0x10 ∷ []) ≡ 49 ∷ 9 ∷ 49 ∷ 48 ∷ 48 ∷ 48 ∷ 49 ∷ 48 ∷ 70 ∷ 70 ∷ 9 ∷ 49 ∷ 48 ∷ 52 ∷ 66 ∷ 10 ∷ [])
     × (readListFields (0x00 ∷ 0x00 ∷ 0x00 ∷ []) ≡ 48 ∷ 9 ∷ 45 ∷ 9 ∷ 45 ∷ 10 ∷ [])
