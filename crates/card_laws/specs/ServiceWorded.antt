@@ -1,4 +1,4 @@
--- A service's addition as docs/RULES.md words its refusals: 8, 7, 20, 21, then those of a service under its parent, 24 among them (5.6, 5.9 to 5.11).
+-- A service's addition as docs/RULES.md words its refusals (2.3, 5.4, 5.6): 8, 7, 20, 21, then those under its parent, 24 among them.
 use Prim.Native.Nat.{ℕ, _*_}
 use mathlib.Core.Bool.{Bool, cond, not}
 use mathlib.Core.List.{List}
@@ -31,4 +31,5 @@ serviceWorded c arenaLen depth code blocks version =
     cond (not (isSound c)) (refused c NotBuilt)
     (cond (ltb arenaLen (16 * c .used)) (refused c ShortArena)
     (cond (leb 64 (c .count)) (refused c TableFull)
-    (serviceBy c depth code version (placedWorded (c .system .join) (nodesOf c) (c .used) arenaLen code blocks (parentAt (nodesOf c) depth)))))
+    (serviceBy c depth code version
+    (placedWorded (c .system .join) (nodesOf c) (c .used) arenaLen code blocks (parentAt (nodesOf c) depth)))))
