@@ -1,4 +1,4 @@
-// Tags of nodes: a number for each that says its code and whether it is a service, so that a search by code goes over numbers that are lent.
+// Tags of nodes: a number for each that says its code and whether it is a service, so that a search by code goes over lent numbers.
 use card_nodes::find::Found;
 use card_nodes::node;
 use card_nodes::node::Node;

@@ -32,17 +32,22 @@ listSent s parent p out =
 pub record ListTaken (m : CodeList) (message areas services : List ℕ) : Type 0 where
   pub returns : answerAs (listRead message (length areas) (length services)) ≡ 0
   pub ranges
-      : numbersTold (listRead message (length areas) (length services)) areas (2 * readCodeList message .list .areas) (readCodeList message .list .ranges)
+      : numbersTold (listRead message (length areas) (length services)) areas
+      (2 * readCodeList message .list .areas) (readCodeList message .list .ranges)
       ≡ put areas 0 (2 * m .areas) (m .ranges)
   pub codes
-      : numbersTold (listRead message (length areas) (length services)) services (readCodeList message .list .services) (readCodeList message .list .codes)
+      : numbersTold (listRead message (length areas) (length services)) services
+      (readCodeList message .list .services) (readCodeList message .list .codes)
       ≡ put services 0 (m .services) (m .codes)
   pub areaCount
-      : (old : ℕ) → toldBy {A = ℕ} (listRead message (length areas) (length services)) old (readCodeList message .list .areas) ≡ m .areas
+      : (old : ℕ) → toldBy {A = ℕ} (listRead message (length areas) (length services)) old (readCodeList message .list .areas)
+      ≡ m .areas
   pub serviceCount
-      : (old : ℕ) → toldBy {A = ℕ} (listRead message (length areas) (length services)) old (readCodeList message .list .services) ≡ m .services
+      : (old : ℕ) → toldBy {A = ℕ} (listRead message (length areas) (length services)) old (readCodeList message .list .services)
+      ≡ m .services
   pub flag
-      : (old : Bool) → toldBy {A = Bool} (listRead message (length areas) (length services)) old (readCodeList message .list .more) ≡ m .more
+      : (old : Bool) → toldBy {A = Bool} (listRead message (length areas) (length services)) old (readCodeList message .list .more)
+      ≡ m .more
 
 -- on any bytes of a card: what the one call wrote, returning 0, the other reads as the card's own answer, where its lists find room
 abbrev pub ListCalls : List ℕ → Type 0
@@ -60,13 +65,16 @@ blocksSent s arenaLen asked out =
 pub record InformationTaken (m : BlockInformation) (message assigned free : List ℕ) : Type 0 where
   pub returns : answerAs (informationRead message (length assigned) (length free)) ≡ 0
   pub counts
-      : numbersTold (informationRead message (length assigned) (length free)) assigned (readInformation message .told .count) (readInformation message .told .assigned)
+      : numbersTold (informationRead message (length assigned) (length free)) assigned
+      (readInformation message .told .count) (readInformation message .told .assigned)
       ≡ put assigned 0 (m .count) (m .assigned)
   pub frees
-      : numbersTold (informationRead message (length assigned) (length free)) free (readInformation message .told .count) (readInformation message .told .free)
+      : numbersTold (informationRead message (length assigned) (length free)) free
+      (readInformation message .told .count) (readInformation message .told .free)
       ≡ put free 0 (m .count) (m .free)
   pub nodes
-      : (old : ℕ) → toldBy {A = ℕ} (informationRead message (length assigned) (length free)) old (readInformation message .told .count) ≡ m .count
+      : (old : ℕ) → toldBy {A = ℕ} (informationRead message (length assigned) (length free)) old (readInformation message .told .count)
+      ≡ m .count
 
 abbrev pub InformationCalls : List ℕ → Type 0
 InformationCalls s =

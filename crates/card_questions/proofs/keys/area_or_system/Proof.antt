@@ -7,12 +7,13 @@ use Rattle.card_questions.proofs.TagLaws.{tags-area}
 use Rattle.card_questions.proofs.keys.area_or_system.Statement.{statement}
 use Rattle.card_questions.proofs.keys.area_or_system.Tie as tie
 
-pub area-or-system-spec : {M : Type 1} → statement M
+returns : tie.Need-returns
 unfolding areaOrSystem
-area-or-system-spec =
-    tie.close
-    (tie.spec
-    (λ c ns e. search tests)
-    (λ c κs. search needs)
-    (λ c κs. search needs)
-    (λ c ns e. c .is-found .ensures ∙ ap isFound (c .before .area-at .ensures ∙ tags-area ns e _) ∙ search tests))
+returns c ns e = search tests
+
+returns-2 : tie.Need-returns-2
+unfolding areaOrSystem
+returns-2 c ns e = c .is-found .ensures ∙ ap isFound (c .before .area-at .ensures ∙ tags-area ns e _) ∙ search tests
+
+pub area-or-system-spec : {M : Type 1} → statement M
+area-or-system-spec = tie.close (tie.spec returns (λ c κs. search needs) (λ c κs. search needs) returns-2)
