@@ -54,7 +54,7 @@ pub question-rows
 unfolding questionOf messageAsked bytesAsked cardAsked listsAsked storedAsked lentAsked listLine blockLine codeLine codesLine bytesLine roomLine arenaLine form named sameBytes split hex16 codesField hexField grouped decimal plain upTo spelt digits digitOf among
 question-rows = (refl, refl, refl, refl, refl, refl, refl, refl, refl, refl, refl, refl, refl, refl, refl)
 
--- Each with a malformed field, and with a field too few or too many; a capital; and an empty line.
+-- Messages, codes and lists with a malformed field, and with a field too few or too many.
 pub unknown-rows
     : (questionOf (105 ∷ 110 ∷ 102 ∷ 111 ∷ 9 ∷ 49 ∷ 48 ∷ 48 ∷ 48 ∷ 49 ∷ 48 ∷ 52 ∷ []) ≡ Unknown)
     × (questionOf (105 ∷ 110 ∷ 102 ∷ 111 ∷ []) ≡ Unknown)
@@ -71,7 +71,12 @@ pub unknown-rows
     × (questionOf (97 ∷ 114 ∷ 101 ∷ 97 ∷ 115 ∷ []) ≡ Unknown)
     × (questionOf (115 ∷ 118 ∷ 99 ∷ 115 ∷ 9 ∷ 49 ∷ 48 ∷ 52 ∷ 66 ∷ 9 ∷ []) ≡ Unknown)
     × (questionOf (115 ∷ 118 ∷ 99 ∷ 115 ∷ 9 ∷ 49 ∷ 48 ∷ 45 ∷ 66 ∷ []) ≡ Unknown)
-    × (questionOf (98 ∷ 108 ∷ 111 ∷ 99 ∷ 107 ∷ 9 ∷ 49 ∷ 48 ∷ 52 ∷ 66 ∷ []) ≡ Unknown)
+unfolding questionOf messageAsked bytesAsked cardAsked listsAsked storedAsked lentAsked listLine blockLine codeLine codesLine bytesLine roomLine arenaLine form named sameBytes split hex16 codesField hexField grouped decimal plain upTo spelt digits digitOf among
+unknown-rows = (refl, refl, refl, refl, refl, refl, refl, refl, refl, refl, refl, refl, refl, refl, refl)
+
+-- Blocks, attributes and lengths likewise; a capital; and an empty line.
+pub unknown-block-rows
+    : (questionOf (98 ∷ 108 ∷ 111 ∷ 99 ∷ 107 ∷ 9 ∷ 49 ∷ 48 ∷ 52 ∷ 66 ∷ []) ≡ Unknown)
     × (questionOf (98 ∷ 108 ∷ 111 ∷ 99 ∷ 107 ∷ 9 ∷ 49 ∷ 48 ∷ 52 ∷ 66 ∷ 9 ∷ 52 ∷ 50 ∷ 57 ∷ 52 ∷ 57 ∷ 54 ∷ 55 ∷ 50 ∷ 57 ∷ 54 ∷ []) ≡ Unknown)
     × (questionOf (98 ∷ 108 ∷ 111 ∷ 99 ∷ 107 ∷ 9 ∷ 49 ∷ 48 ∷ 52 ∷ 66 ∷ 9 ∷ 48 ∷ 48 ∷ []) ≡ Unknown)
     × (questionOf (117 ∷ 115 ∷ 101 ∷ 100 ∷ 9 ∷ []) ≡ Unknown)
@@ -84,32 +89,4 @@ pub unknown-rows
     × (questionOf (76 ∷ 105 ∷ 115 ∷ 116 ∷ 9 ∷ 49 ∷ 48 ∷ 48 ∷ 48 ∷ 9 ∷ 48 ∷ []) ≡ Unknown)
     × (questionOf [] ≡ Unknown)
 unfolding questionOf messageAsked bytesAsked cardAsked listsAsked storedAsked lentAsked listLine blockLine codeLine codesLine bytesLine roomLine arenaLine form named sameBytes split hex16 codesField hexField grouped decimal plain upTo spelt digits digitOf among
-unknown-rows = (
-  refl,
-  refl,
-  refl,
-  refl,
-  refl,
-  refl,
-  refl,
-  refl,
-  refl,
-  refl,
-  refl,
-  refl,
-  refl,
-  refl,
-  refl,
-  refl,
-  refl,
-  refl,
-  refl,
-  refl,
-  refl,
-  refl,
-  refl,
-  refl,
-  refl,
-  refl,
-  refl,
-)
+unknown-block-rows = (refl, refl, refl, refl, refl, refl, refl, refl, refl, refl, refl, refl)
