@@ -1,7 +1,7 @@
 // Status flag 1 as bits: the places of a list that a set bit can denote (`types.rs` of the Rust). Bit k stands for place k + 1, and, but
 // for bit 7, for place k + 9 as well, so that a byte denotes fifteen places at most.
 ghost use mathlib.Core.Path.{_≡_};
-ghost use Prim.Native.Nat.{_+_, _≤_, _<_};
+ghost use Prim.Native.Nat.{_+_, _%_, _≤_, _<_};
 ghost use lib.Count.{ones};
 ghost use lib.ListN.{length};
 ghost use lib.Seq.{sets};
@@ -34,6 +34,14 @@ fn count_places(value: u8) -> usize
     low + high
 }
 
+// Puts the second places of a byte, from 9 on, which its lower seven bits have, from index `at` on.
+fn put_second(places: &mut [u8], at: usize, value: u8)
+    requires { ⌜ at + ones (value % 128) ≤ length (now places) ⌝ }
+    ensures { λ _. ⌜ now (places .exit) ≡ sets (now (places .entry)) at (placesFrom 8 9 (value % 128)) ⌝ }
+{
+    places_from(places, at, value % 128, 9);
+}
+
 // Writes them: those of all eight bits, then those of the low seven again, nine on.
 fn put_places(places: &mut [u8], value: u8)
     requires { ⌜ 15 ≤ length (now places) ⌝ }
@@ -41,7 +49,7 @@ fn put_places(places: &mut [u8], value: u8)
 {
     let past = u8::count_ones(value) as usize;
     places_from(places, 0, value, 1);
-    places_from(places, past, value % 128, 9);
+    put_second(places, past, value);
 }
 
 // Writes the places of the set bits of `bits` from index `at` on, `place` being the lowest bit's. Trailing zeros lead from a set bit to

@@ -14,8 +14,8 @@ cast-past c = omega (arith, ones-le 8 (c .before .args .value) (omega arith))
 places-from-requires : tie.Need-places-from-requires
 places-from-requires c κs = omega (arith, ones-le 8 (c .before .before .args .value) (omega arith))
 
-places-from-requires-2 : tie.Need-places-from-requires-2
-places-from-requires-2 c κs =
+put-second-requires : tie.Need-put-second-requires
+put-second-requires c κs =
     let first = c .before .before .before in
     let v = first .before .before .before .args .value in
     omega (arith, ones-le 8 v (omega arith), ones-le 7 (v % 128) (omega arith), first .places-from .kept .0)
@@ -25,7 +25,7 @@ returns c =
     let second = c .before .before in
     let first = second .before .before .before .before in
     let a = first .before .before .before .args in
-    both-runs (now (a .places)) (a .value) _ _ (omega arith) (first .places-from .ensures) (second .places-from2 .ensures)
+    both-runs (now (a .places)) (a .value) _ _ (omega arith) (first .places-from .ensures) (second .put-second .ensures)
 
 pub put-places-spec : {M : Type 1} → statement M
-put-places-spec = tie.close (tie.spec cast-past places-from-requires places-from-requires-2 (λ c. search needs) returns)
+put-places-spec = tie.close (tie.spec cast-past places-from-requires put-second-requires (λ c. search needs) returns)
