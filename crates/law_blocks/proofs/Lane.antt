@@ -1,5 +1,5 @@
--- A refresh shows what a block holds, and so what was written last. Read specs/Lane.antt for the statement: `BoardShows c`. The last law says
--- that it holds of every card.
+-- A refresh shows what a block holds, and so what was written last. Read specs/Lane.antt for the statement: `BoardShows c`. The last law
+-- says that it holds of every card.
 use Prim.Native.Nat.{ℕ, zero, suc, _+_, _<_}
 use native.Mathlib.Omega.{arith}
 use native.Mathlib.Decide.{ℕ-discrete}
@@ -70,12 +70,13 @@ board-lane bytes k ls h = by-judged (judgedOf bytes)
     by-judged (judged.Refused x) e = absurd (let z : _≡_ {A = ℕ} 0 1 = cc in (omega arith))
 
 -- a lane shows what is read as its block
-lane-shows : (c : Card) (a : List ℕ) (code : ℕ) {k : ℕ} {d : List ℕ} → k < 8 → blockAt (boardServed c a code 128 .read) k ≡ d → Shows c a code k d
+lane-shows : (c : Card) (a : List ℕ) (code : ℕ) {k : ℕ} {d : List ℕ} → k < 8 → blockAt (boardServed c a code 128 .read) k ≡ d →
+    Shows c a code k d
 lane-shows c a code {k} h b = record { block = b; lane = λ ls q. board-lane _ k ls h q ∙ ap laneOf b }
 
 -- so a refresh that is answered 00 00 shows what the block holds
-pub holds-shows : (c : Card) → length (c .nodes) ≡ 64 → {n k : ℕ} {d a : List ℕ} → BlockHolds c n k d a → (code : ℕ) → k < 8 → numberOf code ≡ n →
-    boardServed c a code 128 .reply ≡ Done → Shows c a code k d
+pub holds-shows : (c : Card) → length (c .nodes) ≡ 64 → {n k : ℕ} {d a : List ℕ} → BlockHolds c n k d a → (code : ℕ) → k < 8 →
+    numberOf code ≡ n → boardServed c a code 128 .reply ≡ Done → Shows c a code k d
 holds-shows c z {n} {k} {a = a} h code l e s =
     lane-shows c a code l (read-gives c h z (boardRequest code 128) refl s (names-block code n k l e))
 
