@@ -50,10 +50,10 @@ use Rattle.law_board.proofs.Redraw.{line-shows}
 abbrev marshals : Card
 marshals = addService (newCard (systemOf 1 0 false)) 128 1 0x1049 8 0 .card
 
-abbrev card : Card
+abbrev pub card : Card
 card = addService marshals 128 1 0x104b 8 0 .card
 
-built : Built card
+pub built : Built card
 unfolding addService placedOf isDepth parentAt parentFrom openAt firstFrom serviceUnder outside sameKind joinedTo usable newStore mayJoin numberOf attributesOf tableOf decodedOf attributeOf codeKindOf
 built = service {c = marshals} 128 1 0x104b 8 0 (service {c = newCard (systemOf 1 0 false)} 128 1 0x1049 8 0 (new (systemOf 1 0 false)) refl) refl
 
@@ -64,14 +64,14 @@ leander = (1 ∷ 7 ∷ 0 ∷ 76 ∷ 69 ∷ 65 ∷ 78 ∷ 68 ∷ 69 ∷ 82 ∷ 32
 abbrev molesey : List ℕ
 molesey = (3 ∷ 7 ∷ 0 ∷ 77 ∷ 79 ∷ 76 ∷ 69 ∷ 83 ∷ 69 ∷ 89 ∷ 32 ∷ 32 ∷ 32 ∷ 32 ∷ 32 ∷ 0 ∷ [])
 
-abbrev thames : List ℕ
+abbrev pub thames : List ℕ
 thames = (3 ∷ 7 ∷ 0 ∷ 84 ∷ 72 ∷ 65 ∷ 77 ∷ 69 ∷ 83 ∷ 32 ∷ 32 ∷ 32 ∷ 32 ∷ 32 ∷ 32 ∷ 0 ∷ [])
 
-abbrev arena : List ℕ
+abbrev pub arena : List ℕ
 arena = leander ++ replicate 16 0 ++ molesey ++ replicate 80 0
 
 -- the lines: `L` 104B; `W` to lane 3, open, by 1049; `R` of lane 3, open, by 104B
-abbrev refresh : List ℕ
+abbrev pub refresh : List ℕ
 refresh = (76 ∷ 9 ∷ 49 ∷ 48 ∷ 52 ∷ 66 ∷ [])
 
 abbrev redraw : List ℕ
@@ -82,11 +82,11 @@ abbrev look : List ℕ
 look = (82 ∷ 9 ∷ 79 ∷ 9 ∷ 49 ∷ 48 ∷ 52 ∷ 66 ∷ 9 ∷ 49 ∷ 9 ∷ 56 ∷ 48 ∷ 48 ∷ 50 ∷ [])
 
 -- the boards: lanes 1 and 3 are filled, and lane 3 is `MOLESEY`; then it is `THAMES`
-abbrev first : List ℕ
+abbrev pub first : List ℕ
 first =
     (49 ∷ 9 ∷ 55 ∷ 9 ∷ 76 ∷ 69 ∷ 65 ∷ 78 ∷ 68 ∷ 69 ∷ 82 ∷ 10 ∷ 50 ∷ 9 ∷ 45 ∷ 9 ∷ 45 ∷ 10 ∷ 51 ∷ 9 ∷ 55 ∷ 9 ∷ 77 ∷ 79 ∷ 76 ∷ 69 ∷ 83 ∷ 69 ∷ 89 ∷ 10 ∷ 52 ∷ 9 ∷ 45 ∷ 9 ∷ 45 ∷ 10 ∷ 53 ∷ 9 ∷ 45 ∷ 9 ∷ 45 ∷ 10 ∷ 54 ∷ 9 ∷ 45 ∷ 9 ∷ 45 ∷ 10 ∷ 55 ∷ 9 ∷ 45 ∷ 9 ∷ 45 ∷ 10 ∷ 56 ∷ 9 ∷ 45 ∷ 9 ∷ 45 ∷ 10 ∷ [])
 
-abbrev second : List ℕ
+abbrev pub second : List ℕ
 second =
     (49 ∷ 9 ∷ 55 ∷ 9 ∷ 76 ∷ 69 ∷ 65 ∷ 78 ∷ 68 ∷ 69 ∷ 82 ∷ 10 ∷ 50 ∷ 9 ∷ 45 ∷ 9 ∷ 45 ∷ 10 ∷ 51 ∷ 9 ∷ 55 ∷ 9 ∷ 84 ∷ 72 ∷ 65 ∷ 77 ∷ 69 ∷ 83 ∷ 10 ∷ 52 ∷ 9 ∷ 45 ∷ 9 ∷ 45 ∷ 10 ∷ 53 ∷ 9 ∷ 45 ∷ 9 ∷ 45 ∷ 10 ∷ 54 ∷ 9 ∷ 45 ∷ 9 ∷ 45 ∷ 10 ∷ 55 ∷ 9 ∷ 45 ∷ 9 ∷ 45 ∷ 10 ∷ 56 ∷ 9 ∷ 45 ∷ 9 ∷ 45 ∷ 10 ∷ [])
 

@@ -3,4 +3,4 @@
 pub mod Redraw
 pub mod Library
 pub mod Calls
-mod Example
+pub mod Example

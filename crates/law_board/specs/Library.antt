@@ -25,7 +25,7 @@ pub record BoardCall (c : Card) (a : List ℕ) (code : ℕ) (old : List ℕ) (r 
       r ≡ 0 → (boardOf (eightOf c a code) ≡ lanes ls) × (new ≡ put old 0 128 (lanesRecords ls))
   pub left : (r ≡ 0 → ⊥) → new ≡ old
 
--- A call of the library on a card's bytes and an arena: a read or a write, a board with the bytes lent for its records, or a block that is set.
+-- A call of the library on a card and an arena: a read or a write, a board with the bytes lent for its records, or a block that is set.
 pub data LibraryCall : Type 0 where
   requests : Call → LibraryCall
   boards : (code : ℕ) (records : List ℕ) → LibraryCall

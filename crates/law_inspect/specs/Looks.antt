@@ -1,5 +1,5 @@
--- Refreshes among the lines of an inspection: each shows the board as it stands, in which a lane is as it was brought last; and what neither
--- builds nor requests writes nothing. The statements.
+-- Refreshes among the lines of an inspection: each shows the board as it stands, in which a lane is as it was brought last; and what
+-- neither builds nor requests writes nothing. The statements.
 use Prim.Native.Nat.{ℕ, _<_}
 use mathlib.Core.Bool.{false}
 use mathlib.Core.List.{List, [], _∷_}
@@ -44,7 +44,8 @@ abbrev pub InspectPrints : Type 0
 InspectPrints =
     (s : Seen) (line : List ℕ) (code : ℕ) → GoesOn (s .inspect .replay .phase) → boardCode line ≡ Is code
     → let p = s .inspect .replay in
-    lineSaid s line ≡ shownText (oneMore (p .asked)) (boardServed (p .card) (s .arena) code 128 .reply) (boardOf (eightOf (p .card) (s .arena) code))
+    lineSaid s line
+    ≡ shownText (oneMore (p .asked)) (boardServed (p .card) (s .arena) code 128 .reply) (boardOf (eightOf (p .card) (s .arena) code))
 
 -- what a line leaves as it was: card, arena, and the buffers that requests are lent
 pub record LooksOnly (s : Seen) (line : List ℕ) : Type 0 where

@@ -126,7 +126,8 @@ prints-board c a line ordinal code k = rw k (by-reply (boardServed c a code 128 
 
 -- what is printed where the card answers 00 00
 pub done-text : (c : Card) (a : List ℕ) (ordinal code : ℕ) → boardServed c a code 128 .reply ≡ replies.Done →
-    shownText ordinal (boardServed c a code 128 .reply) (boardOf (eightOf c a code)) ≡ boardText ordinal (boardOf (boardServed c a code 128 .read))
+    shownText ordinal (boardServed c a code 128 .reply) (boardOf (eightOf c a code))
+    ≡ boardText ordinal (boardOf (boardServed c a code 128 .read))
 done-text c a ordinal code d = rw d (ap (λ (x : List ℕ). boardText ordinal (boardOf x)) (sym (eight-read c a code d)))
 
 -- on every card, which has 64 records, what was read are the first eight blocks of the store of the code's first service
