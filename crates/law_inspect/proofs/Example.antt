@@ -33,7 +33,8 @@ use Rattle.board_read.specs.Refresh.{refreshed}
 use Rattle.board_line.specs.Line.{boardLine, boardCode, boardLineText}
 use Rattle.replay_state.specs.declared.Phase.the-variants.{Image}
 use Rattle.replay_state.specs.Phases.{oneMore}
-use Rattle.inspect_line.specs.Inspect.{Seen, seen, laterSort, sortOf, lineSeen, lineSaid}
+use Rattle.inspect_sort.specs.Sort.{laterSort, sortOf}
+use Rattle.inspect_line.specs.Inspect.{Seen, seen, lineSeen, lineSaid}
 use Rattle.law_board.proofs.Example.{card, built, thames, arena, refresh, first, second}
 use Rattle.law_inspect.specs.Looks.{lineDeed, seenAfter, LaneSaid}
 use Rattle.law_inspect.proofs.Shows.{inspect-shows}

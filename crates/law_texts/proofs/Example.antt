@@ -41,7 +41,8 @@ use Rattle.board_read.specs.Refresh.{refreshed}
 use Rattle.board_line.specs.Line.{boardLine, boardCode, boardLineText}
 use Rattle.replay_state.specs.declared.Phase.the-variants.{Requests}
 use Rattle.replay_state.specs.Phases.{oneMore}
-use Rattle.replay_line.specs.Replay.{Held, held, kindOf, lineHeld, lineText}
+use Rattle.replay_kind.specs.Kind.{imageKind, requestKind, kindOf}
+use Rattle.replay_line.specs.Replay.{Held, held, lineHeld, lineText}
 use Rattle.law_terminals.specs.Orders.{one, two, Marked, by, only, answers, told, Undisturbed}
 use Rattle.law_terminals.specs.Two.{arenaAfter, Any, Names, NoneShared}
 use Rattle.law_board.specs.Redraw.{requestIn}
@@ -105,7 +106,7 @@ computed
     : (told lineText lineHeld start order ≡ by two (done 49) ∷ by one (done 50) ∷ by one (missing 51) ∷ by two (given 52) ∷ [])
     × (answers lineText lineHeld start (only one order) ≡ done 49 ∷ missing 50 ∷ [])
     × (answers lineText lineHeld start (only two order) ≡ done 49 ∷ given 50 ∷ [])
-unfolding addService placedOf isDepth parentAt parentFrom openAt firstFrom serviceUnder outside sameKind joinedTo usable newStore mayJoin numberOf attributesOf tableOf decodedOf attributeOf codeKindOf requiresKey unpackAt endsFrom endsAfter elementsFrom part put isRoot allRoots stepOf stepsFrom stepsOf soundOf rowOf modeAllowed attributeCheck serviceCheck rowCheck elementCheck checkedFrom then push runsOf scan walk back within elementBy endBy onStore staged writeJudged readJudged judgedWith planOf blocksRead committed carried serve split hex16 codesField codesOf plain upTo decimal among digitOf digits spelt grouped hexField pairs unhex isLetter isEither requestLine shaped isWrite askOf boardLine boardCode requestIn digitsOf decText capital toHex hexText whereText statusFields refusalFields causeText lineServed requestText refreshed boardLineText kindOf lineHeld lineText oneMore only answers told
+unfolding addService placedOf isDepth parentAt parentFrom openAt firstFrom serviceUnder outside sameKind joinedTo usable newStore mayJoin numberOf attributesOf tableOf decodedOf attributeOf codeKindOf requiresKey unpackAt endsFrom endsAfter elementsFrom part put isRoot allRoots stepOf stepsFrom stepsOf soundOf rowOf modeAllowed attributeCheck serviceCheck rowCheck elementCheck checkedFrom then push runsOf scan walk back within elementBy endBy onStore staged writeJudged readJudged judgedWith planOf blocksRead committed carried serve split hex16 codesField codesOf plain upTo decimal among digitOf digits spelt grouped hexField pairs unhex isLetter isEither requestLine shaped isWrite askOf boardLine boardCode requestIn digitsOf decText capital toHex hexText whereText statusFields refusalFields causeText lineServed requestText refreshed boardLineText imageKind requestKind kindOf lineHeld lineText oneMore only answers told
 computed = (refl, refl, refl)
 
 -- one's lines name 41h, two's 42h
