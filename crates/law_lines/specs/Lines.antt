@@ -28,7 +28,7 @@ Taken Image (line ∷ ls) = asks line ≡ true
 Taken Requests ls = Unit {0}
 Taken Ended ls = ⊥
 
--- At whatever state such an `L` line comes, it prints the board of the store as the arena has it there, or the refusal.
+-- RULES 16.5: at whatever state such an `L` line comes, it prints the board of the store as the arena has it there, or the refusal.
 abbrev pub LinePrints : Type 0
 LinePrints =
     (s : Held) (line : List ℕ) (code : ℕ) → Taken (s .replay .phase) [] → boardCode line ≡ Is code
@@ -43,6 +43,7 @@ pub record Untouched (s : Held) (line : List ℕ) : Type 0 where
   pub work : (lent : List ℕ) → workHeld s lent line ≡ lent
   pub bytes : (lent : List ℕ) → bytesHeld s lent line ≡ lent
 
+-- RULES 16.5
 abbrev pub LeavesAll : Type 0
 LeavesAll = (s : Held) (line : List ℕ) → Taken (s .replay .phase) [] → boardLine line ≡ true → Untouched s line
 
@@ -76,8 +77,8 @@ pub record NoPart (s t : Held) : Type 0 where
   pub arena : s .arena ≡ t .arena
   pub next : (line : List ℕ) → boardLine line ≡ true → SameBoard s t line
 
--- Lines, and the same lines without any of the `L` lines, both taken for requests: an `L` line ends the image, so where it is the first
--- request of all, the line that comes first without it is one too.
+-- RULES 16.5: lines, and the same lines without any of the `L` lines, both taken for requests. An `L` line ends the image, so where it is
+-- the first request of all, the line that comes first without it is one too.
 abbrev pub NoEarlierPart : Type 0
 NoEarlierPart =
     (s : Held) (ls ms : List (List ℕ)) → Taken (s .replay .phase) ls → Taken (s .replay .phase) ms → Without ls ms

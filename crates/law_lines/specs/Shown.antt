@@ -40,8 +40,8 @@ shownText ordinal replies.Done board = boardText ordinal board
 shownText ordinal replies.ShortData board = answerText ordinal replies.ShortData []
 shownText ordinal (replies.Failed i f) board = answerText ordinal (replies.Failed i f) []
 
--- Whatever card and arena stand at an `L` line with a code: it prints the board worked out from the first eight blocks of that code's
--- store as that arena has them, or the refusal.
+-- RULES 16.5: whatever card and arena stand at an `L` line with a code, it prints the board worked out from the first eight blocks of that
+-- code's store as that arena has them, or the refusal.
 abbrev pub PrintsBoard : Type 0
 PrintsBoard =
     (c : Card) (a line : List ℕ) (ordinal code : ℕ) → boardCode line ≡ Is code
@@ -63,6 +63,6 @@ pub record Eight (c : Card) (a : List ℕ) (code : ℕ) : Type 0 where
   -- and has eight blocks or more
   pub blocks : 8 ≤ blocksOf (getD (nodesOf c) node rootNode .entry)
 
--- at the card c
+-- RULES 16.5, at the card c
 abbrev pub ReadsStore : Card → Type 0
 ReadsStore c = (a : List ℕ) (code : ℕ) → boardServed c a code 128 .reply ≡ replies.Done → Eight c a code
