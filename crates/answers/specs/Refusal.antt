@@ -3,7 +3,7 @@ use Prim.Native.Nat.{ℕ}
 use mathlib.Core.Bool.{cond}
 use lib.Dec.{ltb}
 use Rattle.answers.specs.declared.refusal.Refusal.{Refusal}
-use Rattle.answers.specs.declared.refusal.Refusal.the-variants.{TooManyElements, TooManyCodes, ListLength, ShortStaging, ShortOutput, MalformedRequest, ShortArena, NotBuilt, InvalidAreaRange, InvalidRootAreaRange, NodeCodeOutOfRange, InvalidAreaAttribute, ChildAreaForbidden, UndefinedServiceAttribute, ServiceOutOfRange, AreaOutOfRange, OverlapKindMismatch, TableFull, NoParent, NoRoom, NoSuchBlock, CountsDiffer, NotAService, MalformedImage, ParentNoArea, PacketPastEnd, TooManyNodes, NotAMessage}
+use Rattle.answers.specs.declared.refusal.Refusal.the-variants.{TooManyElements, TooManyCodes, ListLength, ShortStaging, ShortOutput, MalformedRequest, ShortArena, NotBuilt, InvalidAreaRange, InvalidRootAreaRange, NodeCodeOutOfRange, InvalidAreaAttribute, ChildAreaForbidden, UndefinedServiceAttribute, ServiceOutOfRange, AreaOutOfRange, OverlapKindMismatch, TableFull, NoParent, NoRoom, NoSuchBlock, CountsDiffer, NotAService, MalformedImage, ParentNoArea, PacketPastEnd, TooManyNodes, NotAMessage, OutputTooShort}
 
 -- 9, 10, 25 to 27, 29 and 31 to 39 are no refusal's; 40 to 43 are a board's (board_lanes)
 abbrev pub refusalNumber : Refusal → ℕ
@@ -35,6 +35,7 @@ refusalNumber ParentNoArea = 44
 refusalNumber PacketPastEnd = 45
 refusalNumber TooManyNodes = 46
 refusalNumber NotAMessage = 47
+refusalNumber OutputTooShort = 48
 
 -- the numbers from 11 on; 0 for a refusal whose number is below
 abbrev pub numberFrom11 : Refusal → ℕ

@@ -51,6 +51,8 @@ pub enum Refusal {
     TooManyNodes,
     // Bytes that are no message.
     NotAMessage,
+    // A buffer lent for a salvaged image, or for its report, is too short.
+    OutputTooShort,
 }
 
 // How a call ended.
@@ -108,6 +110,7 @@ impl Refusal {
             Refusal::PacketPastEnd => 45,
             Refusal::TooManyNodes => 46,
             Refusal::NotAMessage => 47,
+            Refusal::OutputTooShort => 48,
             _ => 0,
         }
     }
