@@ -18,7 +18,7 @@ use Rattle.salvage_rule.specs.declared.Fate.{Fate}
 use Rattle.salvage_rule.specs.declared.Fate.the-variants.{Kept, Parent, Number}
 use Rattle.salvage_rule.specs.Rule.{endedBy, begunBy, stretchAfter, orphanedAfter, deeper}
 use Rattle.salvage_rule.specs.Salvage.{Builder, Between, fresh, takesLine, fateOf, stepped, steppedAll, fatesFrom}
-use Rattle.salvage_rule.specs.Position.{Leaves, NoneKept, AllLeave, Opened, Orphaned}
+use Rattle.salvage_rule.specs.Position.{StaysIn, NoneKept, AllStayIn, Opened, Orphaned}
 use Rattle.salvage_rule.proofs.Report.{parent-taken}
 
 -- the depth of a stretch
@@ -52,7 +52,7 @@ unfolding isKept
 number-dropped n e = false≢true (ap isKept e)
 
 -- a line that is not deep enough to end a stretch leaves it, where a deeper one is taken
-stays : (d : ℕ) (x : Depth) (f : Fate) → Leaves d x → (deeper (Below d) x ≡ true → f ≡ Parent) → stretchAfter f (Below d) x ≡ Below d
+stays : (d : ℕ) (x : Depth) (f : Fate) → StaysIn d x → (deeper (Below d) x ≡ true → f ≡ Parent) → stretchAfter f (Below d) x ≡ Below d
 stays d Flat Kept h k = refl
 stays d Flat Parent h k = refl
 stays d Flat (Number n) h k = refl
@@ -72,7 +72,7 @@ cut-back o own d e =
       | no h ↦ absurd (free-no d (rw (le-ltb o own (omega arith)) at e))
     ]
 
-ended-back : (s : Stretch) (x : Depth) (d : ℕ) → endedBy s x ≡ Below d → (s ≡ Below d) × Leaves d x
+ended-back : (s : Stretch) (x : Depth) (d : ℕ) → endedBy s x ≡ Below d → (s ≡ Below d) × StaysIn d x
 ended-back Free x d e = absurd (free-no d e)
 ended-back (Below o) Flat d e = (e, tt)
 ended-back (Below o) (Area own) d e = cut-back o own d e
@@ -82,7 +82,7 @@ ended-back (Below o) (Service own) d e = cut-back o own d e
 abbrev Began : ℕ → Depth → Fate → Type 0
 Began d x f = (x ≡ Area d) × ((n : ℕ) × (f ≡ Number n))
 
-open-back : (f : Fate) (s : Stretch) (x : Depth) (d : ℕ) → stretchAfter f s x ≡ Below d → ((s ≡ Below d) × Leaves d x) ⊎ Began d x f
+open-back : (f : Fate) (s : Stretch) (x : Depth) (d : ℕ) → stretchAfter f s x ≡ Below d → ((s ≡ Below d) × StaysIn d x) ⊎ Began d x f
 open-back Kept s x d e = inl (ended-back s x d e)
 open-back Parent s x d e = inl (ended-back s x d e)
 open-back (Number n) s Flat d e = inl (ended-back s Flat d e)
@@ -116,16 +116,16 @@ module _ {S : Type 0} (B : Builder S) where
   stepped-on s (p ∷ ps) qs = stepped-on (stepped B s (lineOf p)) ps qs
 
   leaves-line
-      : (s : Between S) (l : List ℕ) (d : ℕ) → s .rules .stretch ≡ Below d → Leaves d (B .depth l) → stepped B s l .rules .stretch ≡ Below d
+      : (s : Between S) (l : List ℕ) (d : ℕ) → s .rules .stretch ≡ Below d → StaysIn d (B .depth l) → stepped B s l .rules .stretch ≡ Below d
   unfolding stepped takesLine
   leaves-line s l d e h =
       ap (λ (x : Stretch). stretchAfter (fateOf B s l) x (B .depth l)) e
       ∙ stays d (B .depth l) (fateOf B s l) h (λ t. parent-taken B s l (rw (e, t)))
 
   leaves-lines
-      : (s : Between S) (ps : List Piece) (d : ℕ) → s .rules .stretch ≡ Below d → AllLeave B d ps
+      : (s : Between S) (ps : List Piece) (d : ℕ) → s .rules .stretch ≡ Below d → AllStayIn B d ps
       → steppedAll B s ps .rules .stretch ≡ Below d
-  unfolding steppedAll AllLeave
+  unfolding steppedAll AllStayIn
   leaves-lines s [] d e h = e
   leaves-lines s (p ∷ ps) d e h = leaves-lines (stepped B s (lineOf p)) ps d (leaves-line s (lineOf p) d e (h .0)) (h .1)
 
@@ -160,8 +160,8 @@ module _ {S : Type 0} (B : Builder S) where
 
   open-opened
       : (s : Between S) (ps : List Piece) (d : ℕ) → steppedAll B s ps .rules .stretch ≡ Below d
-      → ((s .rules .stretch ≡ Below d) × AllLeave B d ps) ⊎ Opened B s ps d
-  unfolding steppedAll AllLeave stepped
+      → ((s .rules .stretch ≡ Below d) × AllStayIn B d ps) ⊎ Opened B s ps d
+  unfolding steppedAll AllStayIn stepped
   open-opened s [] d e = inl (e, tt)
   open-opened s (p ∷ ps) d e =
       ⊎-elim

@@ -11,10 +11,10 @@ use Rattle.salvage_rule.specs.declared.Fate.the-variants.{Kept, Number}
 use Rattle.salvage_rule.specs.Salvage.{Builder, Between, fateOf, steppedAll, fatesFrom}
 
 -- a line that leaves a stretch below depth d: if it has a depth, that is greater
-abbrev pub Leaves : ℕ → Depth → Type 0
-Leaves d Flat = Unit {0}
-Leaves d (Area own) = d < own
-Leaves d (Service own) = d < own
+abbrev pub StaysIn : ℕ → Depth → Type 0
+StaysIn d Flat = Unit {0}
+StaysIn d (Area own) = d < own
+StaysIn d (Service own) = d < own
 
 -- no line of these is kept
 unfoldable pub NoneKept : List Fate → Type 0
@@ -23,9 +23,9 @@ NoneKept (f ∷ fs) = (f ≡ Kept → ⊥) × NoneKept fs
 
 module _ {S : Type 0} (B : Builder S) where
   -- `area` and `svc` lines among these are all deeper than d
-  unfoldable pub AllLeave : ℕ → List Piece → Type 0
-  AllLeave d [] = Unit {0}
-  AllLeave d (p ∷ ps) = Leaves d (B .depth (lineOf p)) × AllLeave d ps
+  unfoldable pub AllStayIn : ℕ → List Piece → Type 0
+  AllStayIn d [] = Unit {0}
+  AllStayIn d (p ∷ ps) = StaysIn d (B .depth (lineOf p)) × AllStayIn d ps
 
   -- some well-formed `area` line of depth d was refused, and deeper `area` and `svc` lines alone follow it
   pub record Opened (s : Between S) (ps : List Piece) (d : ℕ) : Type 0 where
@@ -36,7 +36,7 @@ module _ {S : Type 0} (B : Builder S) where
     pub lines : ps ≡ ahead ++ (area ∷ behind)
     pub depth : B .depth (lineOf area) ≡ Area d
     pub refused : fateOf B (steppedAll B s ahead) (lineOf area) ≡ Number number
-    pub deeper : AllLeave d behind
+    pub deeper : AllStayIn d behind
 
   -- some `svc` line was dropped, and no kept line follows it
   pub record Orphaned (s : Between S) (ps : List Piece) : Type 0 where
