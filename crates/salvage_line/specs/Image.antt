@@ -11,7 +11,8 @@ use Rattle.card_build.specs.declared.card.Card.{Card}
 use Rattle.card_build.specs.Card.{systemOf, newCard}
 use Rattle.line_image.specs.declared.line.Line.{Line}
 use Rattle.line_image.specs.declared.line.Line.the-variants as lines
-use Rattle.line_image.specs.Line.{svcWord, limWord, named, imageLine}
+use Rattle.line_fields.specs.Fields.{named}
+use Rattle.line_image.specs.Line.{svcWord, limWord, imageLine}
 use Rattle.line_build.specs.Image.{Imaged, imageStep}
 use Rattle.salvage_rule.specs.declared.Depth.{Depth}
 use Rattle.salvage_rule.specs.declared.Depth.the-variants.{Flat, Area, Service}

@@ -1,0 +1,2 @@
+-- What only the proofs here cite.
+mod Front
