@@ -1,10 +1,10 @@
-//! The two filters that answer whole texts: the proved programs of each, and what the oracle has for it.
+//! The three filters that answer whole texts: the proved programs of each, and what the oracle has for it.
 
 use crate::counts::Counts;
 use crate::texts::{self, Text};
-use crate::{inspect, inspections, replay};
+use crate::{inspect, inspections, replay, salvage};
 
-/// A filter: `replay`, for cards and requests, or `inspect`, for questions as well.
+/// A filter: `replay`, for cards and requests, `inspect`, for questions as well, or `salvage`, for damaged images.
 pub struct Filter {
     /// The program that answers one text on standard input.
     pub program: &'static str,
@@ -14,6 +14,8 @@ pub struct Filter {
     pub small: (usize, u64),
     /// What the oracle prints for a text.
     pub answer: fn(&[u8]) -> String,
+    /// Of that, what the program for one text prints on standard output.
+    pub output: fn(&Text) -> &str,
     /// The texts of a seed, without end.
     pub texts: fn(u64) -> Box<dyn Iterator<Item = Text>>,
     /// A list of so many texts of a seed, and what they met.
@@ -31,6 +33,7 @@ pub static REPLAY: Filter = Filter {
     stored: "test_traces",
     small: texts::SMALL,
     answer: replay::replay,
+    output: |text| &text.output,
     texts: |seed| Box::new(texts::Texts::new(seed)),
     all: texts::all,
     text: Text::of,
@@ -43,9 +46,23 @@ pub static INSPECT: Filter = Filter {
     stored: "test_inspect",
     small: inspections::SMALL,
     answer: inspect::inspect,
+    output: |text| &text.output,
     texts: |seed| Box::new(inspections::Texts::new(seed)),
     all: inspections::all,
     text: inspections::of,
     count: inspections::count,
     unmet: inspections::unmet,
+};
+
+pub static SALVAGE: Filter = Filter {
+    program: "salvage",
+    stored: "test_salvage",
+    small: salvage::texts::SMALL,
+    answer: salvage::texts::answer,
+    output: salvage::texts::output,
+    texts: |seed| Box::new(salvage::texts::Texts::new(seed)),
+    all: salvage::texts::all,
+    text: salvage::texts::of,
+    count: salvage::texts::count,
+    unmet: salvage::texts::unmet,
 };

@@ -4,7 +4,7 @@
 //! From the bottom up: `felica_standard` is the Rust with our stand-ins around it. What its
 //! emulator hides from the outside is asked through `emulator::doors`. `refusal` has the numbers of
 //! docs/RULES.md, `tree` grows a card by its rules, `request` serves a request on it, `board` works
-//! a lane board out of eight blocks, `replay` answers a whole text, and `inspect` one with questions. `leaves` asks the questions
+//! a lane board out of eight blocks, `replay` answers a whole text, `inspect` one with questions, and `salvage` what is kept of a damaged image. `leaves` asks the questions
 //! that need no card, `trees` those about growing one, `requests` those about requests, `boards`
 //! those about boards, `messages` those about messages, `texts` those about whole texts, `inspections`
 //! those about texts with questions, `terminals` those about two lists of requests on one card,
@@ -33,6 +33,7 @@ pub mod replay;
 pub mod request;
 pub mod requests;
 pub mod resends;
+pub mod salvage;
 pub mod terminals;
 pub mod texts;
 pub mod tree;

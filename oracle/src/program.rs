@@ -2,7 +2,7 @@
 
 use crate::counts::Counts;
 use crate::files;
-use crate::filter::{Filter, INSPECT, REPLAY};
+use crate::filter::{Filter, INSPECT, REPLAY, SALVAGE};
 use std::io::{self, Write};
 use std::path::PathBuf;
 
@@ -23,15 +23,17 @@ pub enum Wanted {
     Counts,
 }
 
-/// The filter that the words are about, and the other words: `inspect` if `--inspect` comes first, else
-/// `replay`.
+/// The filter that the words are about, and the other words: `inspect` if `--inspect` comes first, `salvage` if
+/// `--salvage` does, else `replay`.
 pub fn filter() -> (&'static Filter, Vec<String>) {
     let mut words: Vec<String> = std::env::args().skip(1).collect();
-    if words.first().is_some_and(|word| word == "--inspect") {
-        words.remove(0);
-        return (&INSPECT, words);
-    }
-    (&REPLAY, words)
+    let filter = match words.first().map(String::as_str) {
+        Some("--inspect") => &INSPECT,
+        Some("--salvage") => &SALVAGE,
+        _ => return (&REPLAY, words),
+    };
+    words.remove(0);
+    (filter, words)
 }
 
 /// Reads the words `N SEED [DIR | --counts]`, where `--small` may stand in place of `N SEED` and

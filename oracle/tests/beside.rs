@@ -6,20 +6,22 @@ use std::path::{Path, PathBuf};
 use std::time::Duration;
 use uluvoli_oracle::beside::mutate::Stock;
 use uluvoli_oracle::beside::{Beside, LIMIT, shrink};
-use uluvoli_oracle::filter::{INSPECT, REPLAY};
+use uluvoli_oracle::filter::{INSPECT, REPLAY, SALVAGE};
 use uluvoli_oracle::inspections;
 use uluvoli_oracle::random::Random;
 use uluvoli_oracle::replay::replay;
+use uluvoli_oracle::salvage;
 use uluvoli_oracle::texts::{self, Text};
 
 /// A command that runs the oracle's own programs and puts what they print through a filter.
 fn filtered(name: &str, filter: &str) -> PathBuf {
     let programs = Path::new(env!("CARGO_BIN_EXE_traces")).parent().unwrap();
     let run = std::env::temp_dir().join(format!("uluvoli-{name}-{}", std::process::id()));
-    // The proved programs `test_traces` and `test_inspect` are `traces` here.
+    // The proved programs `test_traces`, `test_inspect` and `test_salvage` are `traces` here.
     let text = format!(
         "#!/bin/sh\ncase $1 in\ntest_traces) set -- traces ;;\n\
-         test_inspect) set -- traces --inspect ;;\nesac\n\
+         test_inspect) set -- traces --inspect ;;\n\
+         test_salvage) set -- traces --salvage ;;\nesac\n\
          name=$1\nshift\n\"{}/$name\" \"$@\" | {filter}\n",
         programs.display()
     );
@@ -48,6 +50,20 @@ fn itself_asked() {
     let run = filtered("asked", "cat");
     let beside = Beside::new(&INSPECT, &run, LIMIT).unwrap();
     let (texts, _) = inspections::all(200, 3);
+    beside.agree(&texts).unwrap();
+    let mut random = Random::new(4);
+    for text in texts.iter().step_by(20) {
+        beside.agree_piped(&mut random, text).unwrap();
+    }
+    fs::remove_file(run).unwrap();
+}
+
+/// So do they for damaged images.
+#[test]
+fn itself_salvaged() {
+    let run = filtered("salvaged", "cat");
+    let beside = Beside::new(&SALVAGE, &run, LIMIT).unwrap();
+    let (texts, _) = salvage::texts::all(200, 3);
     beside.agree(&texts).unwrap();
     let mut random = Random::new(4);
     for text in texts.iter().step_by(20) {

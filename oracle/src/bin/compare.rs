@@ -1,6 +1,7 @@
 //! `compare N SEED RUN`: puts N texts of a seed to the program that `RUN test_traces` runs, and
 //! one in a hundred, in pieces on standard input, to `RUN replay`; `compare --inspect N SEED RUN` texts with
-//! questions to `RUN test_inspect` and `RUN inspect`. Fails at the first that is answered otherwise
+//! questions to `RUN test_inspect` and `RUN inspect`, `compare --salvage N SEED RUN` damaged images to
+//! `RUN test_salvage` and `RUN salvage`. Fails at the first that is answered otherwise
 //! than by the oracle, and prints the smallest text that shows it.
 
 use std::io::{self, Write};
@@ -16,7 +17,8 @@ const PIPED: usize = 100;
 /// Compares batch by batch.
 fn main() -> io::Result<()> {
     let (filter, words) = program::filter();
-    let ([length, seed], run) = program::numbers("compare [--inspect] N SEED RUN", &words)?;
+    let ([length, seed], run) =
+        program::numbers("compare [--inspect | --salvage] N SEED RUN", &words)?;
     let beside = Beside::new(filter, run.as_ref(), LIMIT)?;
     let mut random = Random::new(!seed);
     let mut counts = Counts::default();

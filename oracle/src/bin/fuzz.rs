@@ -18,7 +18,8 @@ const PIPED: usize = 50;
 /// Changes and compares until the time is over.
 fn main() -> io::Result<()> {
     let (filter, words) = program::filter();
-    let ([minutes, seed], run) = program::numbers("fuzz [--inspect] MINUTES SEED RUN", &words)?;
+    let ([minutes, seed], run) =
+        program::numbers("fuzz [--inspect | --salvage] MINUTES SEED RUN", &words)?;
     let beside = Beside::new(filter, run.as_ref(), LIMIT)?;
     let mut stock = Stock::new(filter, seed);
     let mut random = Random::new(!seed);

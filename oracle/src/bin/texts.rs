@@ -2,7 +2,8 @@
 //! as DIR/stdout. `texts N SEED --counts` prints what they met, and fails if they did not meet all
 //! that replay can say; `texts N SEED` prints for each text a line `text NUMBER BYTES BYTES`, then
 //! its bytes, then those printed for it; `--small` in place of `N SEED` is the list that is stored.
-//! `texts --inspect ..` does all this for `inspect` and `test_inspect`.
+//! `texts --inspect ..` does all this for `inspect` and `test_inspect`, `texts --salvage ..` for `salvage` and
+//! `test_salvage`.
 
 use std::io::{self, Write};
 use uluvoli_oracle::beside::heading;
@@ -12,7 +13,7 @@ use uluvoli_oracle::program::{self, Wanted};
 /// Does what the words ask for.
 fn main() -> io::Result<()> {
     let (filter, words) = program::filter();
-    let words = program::words("texts [--inspect]", filter.small, &words)?;
+    let words = program::words("texts [--inspect | --salvage]", filter.small, &words)?;
     let (texts, counts) = (filter.all)(words.length, words.seed);
     let mut out = io::BufWriter::new(io::stdout().lock());
     match words.wanted {

@@ -1,5 +1,5 @@
 //! `traces`: prints for each file 0001.in, 0002.in, .. of the folder it is run in, until one is
-//! missing, a heading and what replay prints; `traces --inspect`: what inspect prints.
+//! missing, a heading and what replay prints; `traces --inspect`: what inspect prints; `traces --salvage`: report and image.
 
 use std::io::{self, Write};
 use uluvoli_oracle::beside::heading;
