@@ -14,8 +14,8 @@ pub struct Filter {
     pub small: (usize, u64),
     /// What the oracle prints for a text.
     pub answer: fn(&[u8]) -> String,
-    /// Of that, what the program for one text prints on standard output.
-    pub output: fn(&Text) -> &str,
+    /// Of that, what the program for one text says on standard error, and what it prints.
+    pub parts: fn(&Text) -> (&str, &str),
     /// The texts of a seed, without end.
     pub texts: fn(u64) -> Box<dyn Iterator<Item = Text>>,
     /// A list of so many texts of a seed, and what they met.
@@ -33,7 +33,7 @@ pub static REPLAY: Filter = Filter {
     stored: "test_traces",
     small: texts::SMALL,
     answer: replay::replay,
-    output: |text| &text.output,
+    parts: |text| ("", &text.output),
     texts: |seed| Box::new(texts::Texts::new(seed)),
     all: texts::all,
     text: Text::of,
@@ -46,7 +46,7 @@ pub static INSPECT: Filter = Filter {
     stored: "test_inspect",
     small: inspections::SMALL,
     answer: inspect::inspect,
-    output: |text| &text.output,
+    parts: |text| ("", &text.output),
     texts: |seed| Box::new(inspections::Texts::new(seed)),
     all: inspections::all,
     text: inspections::of,
@@ -59,7 +59,7 @@ pub static SALVAGE: Filter = Filter {
     stored: "test_salvage",
     small: salvage::texts::SMALL,
     answer: salvage::texts::answer,
-    output: salvage::texts::output,
+    parts: salvage::texts::parts,
     texts: |seed| Box::new(salvage::texts::Texts::new(seed)),
     all: salvage::texts::all,
     text: salvage::texts::of,

@@ -1,7 +1,7 @@
 //! Salvage of damaged images.
 
 use uluvoli_oracle::salvage::cases;
-use uluvoli_oracle::salvage::texts::{Texts, answer, of, output};
+use uluvoli_oracle::salvage::texts::{Texts, answer, of, parts};
 
 /// Each text that has a name comes out as it was worked out by hand.
 #[test]
@@ -18,8 +18,9 @@ fn damaged() {
     assert_eq!(Texts::new(7).take(2_000).count(), 2_000);
 }
 
-/// Of what is printed for a text the image alone is standard output.
+/// Of what is told of a text the report goes to standard error, the image to standard output.
 #[test]
-fn image_alone() {
-    assert_eq!(output(&of(b"svc".to_vec())), "card\t0000\t0000\n");
+fn apart() {
+    let text = of(b"svc".to_vec());
+    assert_eq!(parts(&text), ("0\tadded\n1\t30\n", "card\t0000\t0000\n"));
 }

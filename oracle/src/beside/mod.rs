@@ -92,18 +92,19 @@ impl Beside {
     /// Whether the filter answers this text, which comes in pieces, otherwise than the oracle.
     pub fn piped_wrong(&self, random: &mut Random, text: &Text) -> io::Result<Option<Wrong>> {
         let mut command = Command::new(&self.run);
-        let output = (self.filter.output)(text);
-        let most = output.len() + SURPLUS;
+        let (said, printed) = (self.filter.parts)(text);
+        let most = text.output.len() + SURPLUS;
         let ran = process::run(
             command.arg(self.filter.program),
             cuts::pieces(random, &text.input),
             self.limit,
             most,
         )?;
-        let wrong = ran.fault.is_some() || ran.printed != output.as_bytes();
+        let alike = ran.printed == printed.as_bytes() && ran.said == said.as_bytes();
+        let wrong = ran.fault.is_some() || !alike;
         Ok(wrong.then_some(Wrong {
             at: 0,
-            printed: ran.printed,
+            printed: [ran.said, ran.printed].concat(),
             fault: ran.fault,
         }))
     }

@@ -6,9 +6,11 @@ use std::process::{Child, Command, Stdio};
 use std::thread;
 use std::time::{Duration, Instant};
 
-/// What a process printed, and how it ended where that was not by itself with status 0.
+/// What a process printed, what it said on standard error, and how it ended where that was not by itself with
+/// status 0.
 pub struct Ran {
     pub printed: Vec<u8>,
+    pub said: Vec<u8>,
     pub fault: Option<String>,
 }
 
@@ -17,7 +19,7 @@ pub struct Ran {
 const PAUSE: Duration = Duration::from_millis(2);
 
 /// Runs a command: its input comes in these pieces, it has to end within the limit, and of what
-/// it prints no more than `most` bytes are kept.
+/// it prints and says no more than `most` bytes each are kept.
 pub fn run(
     command: &mut Command,
     pieces: Vec<Vec<u8>>,
@@ -27,10 +29,12 @@ pub fn run(
     let mut child = command
         .stdin(Stdio::piped())
         .stdout(Stdio::piped())
+        .stderr(Stdio::piped())
         .process_group(0)
         .spawn()?;
     let mut input = child.stdin.take().expect("standard input is piped");
     let output = child.stdout.take().expect("standard output is piped");
+    let error = child.stderr.take().expect("standard error is piped");
     thread::spawn(move || {
         for piece in pieces {
             // A program that has seen enough may end before it has read all.
@@ -40,14 +44,21 @@ pub fn run(
             thread::sleep(PAUSE);
         }
     });
-    let reader = thread::spawn(move || {
-        let mut printed = Vec::new();
-        let read = output.take(most as u64).read_to_end(&mut printed);
-        read.map(|_| printed)
-    });
+    let printed = thread::spawn(move || heard(output, most));
+    let said = thread::spawn(move || heard(error, most));
     let fault = wait(&mut child, limit)?;
-    let printed = reader.join().expect("reading does not panic")?;
-    Ok(Ran { printed, fault })
+    Ok(Ran {
+        printed: printed.join().expect("reading does not panic")?,
+        said: said.join().expect("reading does not panic")?,
+        fault,
+    })
+}
+
+/// The first bytes of what is read, no more than `most`.
+fn heard(from: impl Read, most: usize) -> io::Result<Vec<u8>> {
+    let mut bytes = Vec::new();
+    from.take(most as u64).read_to_end(&mut bytes)?;
+    Ok(bytes)
 }
 
 /// Waits until a process ends, or ends it; says how, if that is not with status 0.

@@ -26,10 +26,10 @@ fn shown(salvaged: &Salvaged) -> String {
     salvaged.report() + BETWEEN + image
 }
 
-/// The image alone, which the program prints on standard output.
-pub fn output(text: &Text) -> &str {
-    let image = text.output.split_once(BETWEEN);
-    image.expect("a line parts report and image").1
+/// The report, which the program says on standard error, and the image, which it prints.
+pub fn parts(text: &Text) -> (&str, &str) {
+    let parts = text.output.split_once(BETWEEN);
+    parts.expect("a line parts report and image")
 }
 
 /// A text of no kind in particular, answered.
