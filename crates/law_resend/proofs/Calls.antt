@@ -3,7 +3,7 @@
 use mathlib.Core.Path.{_≡_, refl, sym, ap, _∙_, subst}
 use mathlib.Core.Bool.{Bool, true, false, false≢true}
 use mathlib.Core.List.{List, [], _∷_, map}
-use Prim.Native.Nat.{ℕ, _*_, _≤_}
+use Prim.Native.Nat.{ℕ, _*_}
 use lib.ListN.{length, take}
 use Rattle.block_list.specs.declared.element.BlockListElement.{BlockListElement}
 use Rattle.card_build.specs.declared.card.Card.{Card}
@@ -24,14 +24,14 @@ use Rattle.line_serve.specs.Text.{requestText}
 use Rattle.law_terminals.specs.Orders.{after}
 use Rattle.law_terminals.specs.Two.{Answer, answerOf, arenaAfter, All}
 use Rattle.law_terminals.specs.Last.{arenaThen}
-use Rattle.law_terminals.specs.Runs.{Exchange, Ran, requestsOf, Call, requestOf}
+use Rattle.law_terminals.specs.Runs.{Exchange, Leaves, Ran, requestsOf, Call, requestOf}
 use Rattle.law_calls.specs.Library.{handsetRequest, libraryLeft}
 use Rattle.law_calls.specs.Lines.{LineCall, requestBy, lineRequest, lineLeft}
 use Rattle.law_calls.proofs.Own.{ownLeft, same-reply}
 use Rattle.law_calls.proofs.Library.{decoded-long, zero-asked, write-zero}
 use Rattle.law_calls.proofs.Lines.{told-done, done-told}
-use Rattle.law_resend.specs.Resend.{PursesOnce, RingsOnce, Idle, lending}
-use Rattle.law_resend.specs.Calls.{ResentBy, LineResent}
+use Rattle.law_resend.specs.Resend.{PursesOnce, RingsOnce, AcceptedWrite, Idle, IdleThen, Enough, lending}
+use Rattle.law_resend.specs.Calls.{SeenWrite, NoneSeen, ResentBy, LineResent}
 use Rattle.law_resend.proofs.Resend.{resent}
 
 -- a write reads nothing
@@ -50,25 +50,29 @@ unread c a w t = by-plan (planOf c (length a) w)
 module _ (c : Card) (z : length (c .nodes) ≡ 64) where
   -- the second answer is the first
   pub answered : (a : List ℕ) (w : Request) (rs : List Request) (room : ℕ) → w .write ≡ true → serve c a w .reply ≡ Done → PursesOnce w → RingsOnce w →
-      Idle c (arenaAfter c a w) rs → 16 * c .used ≤ room → let b = arenaThen c a w rs in
+      IdleThen c a w rs → Enough c room → let b = arenaThen c a w rs in
       (answerOf c b (lending room w) ≡ answerOf c a w) × (arenaAfter c b (lending room w) ≡ b) × (b ≡ arenaAfter c a w)
   answered a w rs room t e purses rings idle enough =
-      let h = resent c z a w rs room t e purses rings idle enough in
-      let p = h .accepted ∙ sym e in
+      let h = resent c z a w rs room (t, e) purses rings idle enough in
+      let p = h .done ∙ sym e in
       let q = unread c (arenaThen c a w rs) (lending room w) t ∙ sym (unread c a w t) in
       (λ i. record { reply = p i; read = q i }, h .unchanged, h .kept)
 
   module _ {K L : Type 0} (ask : K → Request) (leave : K → Answer → L) (Seen : L → Type 0)
       (seen-done : (k : K) (x : Answer) → Seen (leave k x) → x .reply ≡ Done)
       (done-seen : (k : K) (x : Answer) → ask k .write ≡ true → x .reply ≡ Done → Seen (leave k x)) where
+    -- the caller is right: the write was accepted
+    seen-write : (a b : List ℕ) (x : Exchange K L) → Leaves c ask leave a (x .call) (x .left) b → SeenWrite ask Seen x → AcceptedWrite c a (ask (x .call))
+    seen-write a b x k s = (s .0, seen-done (x .call) _ (subst Seen (k .0) (s .1)))
+
     -- a run of which its callers see that no write was accepted is idle
-    ran-idle : (xs : List (Exchange K L)) (a e : List ℕ) → Ran c ask leave a xs e → All (λ x. ask (x .call) .write ≡ true → Seen (x .left) → ⊥) xs →
+    ran-idle : (xs : List (Exchange K L)) (a e : List ℕ) → Ran c ask leave a xs e → NoneSeen ask Seen xs →
         Idle c a (requestsOf c ask leave xs) × (e ≡ after (answerOf c) (arenaAfter c) a (requestsOf c ask leave xs))
     unfolding after
     ran-idle [] a e r h = (tt, r)
     ran-idle (x ∷ xs) a e (b, k, r) h =
         let w = rw (k .1) at (ran-idle xs b e r (h .1)) in
-        ((λ t d. h .0 t (subst Seen (sym (k .0)) (done-seen (x .call) _ t d)), w .0), w .1)
+        ((λ (t, d). h .0 (t, subst Seen (sym (k .0)) (done-seen (x .call) _ t d)), w .0), w .1)
 
     -- calls that make requests
     pub resent-by : ResentBy c ask leave Seen
@@ -76,16 +80,16 @@ module _ (c : Card) (z : length (c .nodes) ≡ 64) where
         let w = ask (x .call) in
         let v = ask (y .call) in
         let rs = requestsOf c ask leave xs in
-        let (b, k, r) = h .first in
-        let d : serve c a w .reply ≡ Done = seen-done (x .call) _ (subst Seen (k .0) (h .accepted)) in
-        let i : Idle c (arenaAfter c a w) rs × (m ≡ arenaThen c a w rs) = rw (k .1) at (ran-idle xs b m r (h .idle)) in
-        let f = answered a w rs (v .room) (h .write) d (h .purses) (h .rings) (i .0) (h .room) in
-        let n : answerOf c m v ≡ answerOf c a w = rw (h .same, i .1) (f .0) in
-        let l : y .left ≡ leave (y .call) (answerOf c a w) = h .second .0 ∙ ap (leave (y .call)) n in
+        let (b, k, r) = h .ran in
+        let (t, d) = seen-write a b x k (h .seen) in
+        let i : IdleThen c a w rs × (m ≡ arenaThen c a w rs) = rw (k .1) at (ran-idle xs b m r (h .between)) in
+        let f = answered a w rs (v .room) t d (h .purses-once) (h .rings-once) (i .0) (h .suffices) in
+        let n : answerOf c m v ≡ answerOf c a w = rw (h .repeats, i .1) (f .0) in
+        let l : y .left ≡ leave (y .call) (answerOf c a w) = h .asked .0 ∙ ap (leave (y .call)) n in
         record {
           left = l;
-          accepted = subst Seen (sym l) (done-seen (y .call) (answerOf c a w) (ap (λ (q : Request). q .write) (h .same) ∙ h .write) d);
-          unchanged = h .second .1 ∙ rw (h .same, i .1) (f .1);
+          accepted = subst Seen (sym l) (done-seen (y .call) (answerOf c a w) (ap (λ (q : Request). q .write) (h .repeats) ∙ t) d);
+          unchanged = h .asked .1 ∙ rw (h .repeats, i .1) (f .1);
           kept = i .1 ∙ f .2;
         }
 
@@ -108,7 +112,7 @@ module _ (c : Card) (z : length (c .nodes) ≡ 64) where
     where
       by-ask : (x : Ask) → let w = requestBy (length (k .work)) (k .line) x in
           w .write ≡ true → askServed c a (length (k .work)) (k .line) x .reply ≡ Done →
-          PursesOnce w → RingsOnce w → Idle c (arenaAfter c a w) (map lineRequest ks) →
+          PursesOnce w → RingsOnce w → IdleThen c a w (map lineRequest ks) →
           let b = arenaThen c a w (map lineRequest ks) in
           (askServed c b room (k .line) x .arena ≡ b)
           × ((o : ℕ) → answerText o (askServed c b room (k .line) x .reply) (askServed c b room (k .line) x .read)

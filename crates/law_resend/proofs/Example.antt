@@ -167,8 +167,8 @@ harmful = (
   harms 16 (computed .1) (λ e. omega arith),
   harms 16 (computed .2) (λ e. omega arith),
   harms 80 (computed .4) (λ e. omega arith),
-  λ h. failed (sym (computed .3 .second) ∙ (rw (computed .3 .left) at (h .accepted))),
-  λ h. failed (sym (computed .5 .second) ∙ (rw (computed .5 .left) at (h .accepted))),
+  λ h. failed (sym (computed .3 .second) ∙ (rw (computed .3 .left) at (h .done))),
+  λ h. failed (sym (computed .5 .second) ∙ (rw (computed .5 .left) at (h .done))),
 )
 
 -- where the premises fail: a purse block is named twice, by two codes, by elements that are not neighbours, directly; a ring has two runs
@@ -260,10 +260,10 @@ replies = (refl, refl, refl, refl)
 
 idle : Idle card (arenaAfter card arena every) between
 idle = idle-each card (arenaAfter card arena every) between (rw (computed .0 .left) (
-  λ t d. false≢true t,
+  λ (t, d). false≢true t,
   (
-    λ t d. failed (sym (replies .1) ∙ d),
-    (λ t d. not-served (sym (replies .2) ∙ d), tt),
+    λ (t, d). failed (sym (replies .1) ∙ d),
+    (λ (t, d). not-served (sym (replies .2) ∙ d), tt),
   ),
 ))
 
@@ -275,7 +275,7 @@ needed = (
       let q : getD (serve card left other .arena) 0 0 ≡ getD left 0 0 = ap (λ (l : List ℕ). getD l 0 0) (rw (computed .0 .left) at (h .kept)) in
       let z : _≡_ {A = ℕ} 7 9 = rw (replies .3) at q in
       omega arith,
-  λ h. not-served (sym (replies .2) ∙ (rw (computed .0 .left) at (h .accepted))),
+  λ h. not-served (sym (replies .2) ∙ (rw (computed .0 .left) at (h .done))),
 )
 
 in-use : card .used ≡ 6
@@ -285,6 +285,6 @@ in-use = refl
 -- so the theorem speaks of it, at once and after those, with staging of any length that is enough
 every-harmless : Harmless card arena every [] 96 × Harmless card arena every between 4096
 every-harmless = (
-  built-resent built arena every [] 96 refl (computed .0 .first) every-purses every-rings tt (omega (arith, in-use)),
-  built-resent built arena every between 4096 refl (computed .0 .first) every-purses every-rings idle (omega (arith, in-use)),
+  built-resent built arena every [] 96 (refl, computed .0 .first) every-purses every-rings tt (omega (arith, in-use)),
+  built-resent built arena every between 4096 (refl, computed .0 .first) every-purses every-rings idle (omega (arith, in-use)),
 )

@@ -44,9 +44,9 @@ use Rattle.request_plan.specs.Serve.{Served, committed, carried, planServed, se
 use Rattle.request_plan.proofs.Accepted.{Accepted, accepted, nothing, good-at, counted, each-passed, stores-put, done-or-left, read-leaves}
 use Rattle.law_terminals.specs.Orders.{after}
 use Rattle.law_terminals.specs.Two.{answerOf, arenaAfter, All}
-use Rattle.law_terminals.specs.Last.{elementAt}
+use Rattle.law_terminals.specs.Last.{elementAt, arenaThen}
 use Rattle.law_terminals.proofs.Owned.{ServiceRow, good-service, index-code, one-store, two-stores}
-use Rattle.law_resend.specs.Resend.{Names, PursesOnce, RingsOnce, Idle, lending, Resent}
+use Rattle.law_resend.specs.Resend.{Names, PursesOnce, RingsOnce, AcceptedWrite, Idle, IdleThen, Enough, lending, Resent}
 use Rattle.request_runs.proofs.Steps.{Each, each-map, each-both, pairs-map, stepped}
 use Rattle.request_runs.proofs.WalkSteps.{Step, element, close, indexOf, elementOf, stepsOf, AllFrom, Before, Parted, Stands, steps-each, steps-ordered, flat-runs, runs-stand, runs-parted}
 use Rattle.request_runs.proofs.OwnRuns.{storeOf, Owns, own-steps}
@@ -274,11 +274,11 @@ module _ {c : Card} (b : Built c) (a : List ℕ) (w : Request) (t : w .write ≡
       (rw (s .2) (ap (λ (x : Served). x .reply) z), rw (s .2) (ap (λ (x : Served). x .arena) z))
 
 -- what is no accepted write leaves the arena
-idle-one : (c : Card) (a : List ℕ) (r : Request) → (r .write ≡ true → serve c a r .reply ≡ Done → ⊥) → arenaAfter c a r ≡ a
+idle-one : (c : Card) (a : List ℕ) (r : Request) → (AcceptedWrite c a r → ⊥) → arenaAfter c a r ≡ a
 idle-one c a r h = by-write (r .write) refl
   where
     by-write : (t : Bool) → r .write ≡ t → arenaAfter c a r ≡ a
-    by-write true e = ⊎-elim (λ d. absurd (h e d)) (λ q. q) (done-or-left c a r)
+    by-write true e = ⊎-elim (λ d. absurd (h (e, d))) (λ q. q) (done-or-left c a r)
     by-write false e = read-leaves c a r e
 
 -- so do requests of which no write is accepted
@@ -287,8 +287,12 @@ unfolding after
 idle-leaves c a [] h = refl
 idle-leaves c a (r ∷ rs) h = idle-leaves c (arenaAfter c a r) rs (h .1) ∙ idle-one c a r (h .0)
 
+-- after a write they leave the arena that it left
+then-kept : (c : Card) (a : List ℕ) (w : Request) (rs : List Request) → IdleThen c a w rs → arenaThen c a w rs ≡ arenaAfter c a w
+then-kept c a w rs h = idle-leaves c (arenaAfter c a w) rs h
+
 -- and it is enough to look at each of them on the first arena
-pub idle-each : (c : Card) (a : List ℕ) (rs : List Request) → All (λ r. r .write ≡ true → serve c a r .reply ≡ Done → ⊥) rs → Idle c a rs
+pub idle-each : (c : Card) (a : List ℕ) (rs : List Request) → All (λ r. AcceptedWrite c a r → ⊥) rs → Idle c a rs
 idle-each c a [] h = tt
 idle-each c a (r ∷ rs) h = (h .0, subst (λ (b : List ℕ). Idle c b rs) (sym (idle-one c a r (h .0))) (idle-each c a rs (h .1)))
 
@@ -300,10 +304,10 @@ unfolding judgedWith writeJudged
 enough-judged sound write list used count codes arena «data» room other t h g = rw (t, le-ltb room (16 * used) h, le-ltb other (16 * used) g)
 
 -- a write that was accepted comes to the same with any staging that is long enough
-lent-enough : (c : Card) (a : List ℕ) (w : Request) (room : ℕ) → w .write ≡ true → serve c a w .reply ≡ Done → 16 * c .used ≤ room →
+lent-enough : (c : Card) (a : List ℕ) (w : Request) (room : ℕ) → AcceptedWrite c a w → Enough c room →
     serve c a (lending room w) ≡ serve c a w
 unfolding serve planOf
-lent-enough c a w room t e h =
+lent-enough c a w room (t, e) h =
     ap (λ (j : Judged). planServed c a (lending room w) (judgedPlan c (lending room w) j))
     (enough-judged (isSound c) (w .write) (w .list) (c .used) (w .count) (length (w .codes)) (length a) (length (w .«data»)) room (w .room) t h
     (accepted c a w e .fit .staging t))
@@ -320,16 +324,16 @@ lent-enough c a w room t e h =
 
 -- on every card that accepted additions and limits produce
 pub built-resent : {c : Card} → Built c → Resent c
-built-resent {c} b a w rs room t e purses rings idle enough =
-    let kept = idle-leaves c (arenaAfter c a w) rs idle in
+built-resent {c} b a w rs room (t, e) purses rings idle enough =
+    let kept = then-kept c a w rs idle in
     let once = at-once b a w t e purses rings in
-    let lent = lent-enough c (arenaAfter c a w) w room t (once .0) enough in
+    let lent = lent-enough c (arenaAfter c a w) w room (t, once .0) enough in
     record {
-      accepted = ap (λ (x : List ℕ). serve c x (lending room w) .reply) kept ∙ ap (λ (x : Served). x .reply) lent ∙ once .0;
+      done = ap (λ (x : List ℕ). serve c x (lending room w) .reply) kept ∙ ap (λ (x : Served). x .reply) lent ∙ once .0;
       unchanged = ap (λ (x : List ℕ). serve c x (lending room w) .arena) kept ∙ ap (λ (x : Served). x .arena) lent ∙ once .1 ∙ sym kept;
       kept = kept;
     }
 
 -- so on every card, which has 64 records: one that accepts a write is built
 pub resent : (c : Card) → length (c .nodes) ≡ 64 → Resent c
-resent c z a w rs room t e = built-resent (sound-built c z (accepted c a w e .fit .sound)) a w rs room t e
+resent c z a w rs room k = built-resent (sound-built c z (accepted c a w (k .1) .fit .sound)) a w rs room k

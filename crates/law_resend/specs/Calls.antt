@@ -1,5 +1,5 @@
 -- The same of calls and of request lines, which make requests: the statements.
-use Prim.Native.Nat.{ℕ, _*_, _≤_}
+use Prim.Native.Nat.{ℕ}
 use mathlib.Core.Bool.{true}
 use mathlib.Core.List.{List, _∷_, map}
 use mathlib.Core.Path.{_≡_}
@@ -13,27 +13,35 @@ use Rattle.law_terminals.specs.Two.{Answer, answerOf, arenaAfter, All}
 use Rattle.law_terminals.specs.Last.{arenaThen}
 use Rattle.law_terminals.specs.Runs.{Exchange, Leaves, Ran}
 use Rattle.law_calls.specs.Lines.{LineCall, lineRequest}
-use Rattle.law_resend.specs.Resend.{PursesOnce, RingsOnce, Idle, lending}
+use Rattle.law_resend.specs.Resend.{PursesOnce, RingsOnce, IdleThen, Enough, lending}
 
 -- `ask` says what request a call makes, `leave` what an answer leaves its caller; `Done x`: by what it was left the caller sees that its
 -- request was accepted.
+module _ {K L : Type 0} (ask : K → Request) (Done : L → Type 0) where
+  -- a call that makes a write, of which its caller sees that it was accepted
+  abbrev pub SeenWrite : Exchange K L → Type 0
+  SeenWrite x = (ask (x .call) .write ≡ true) × Done (x .left)
+
+  -- calls of which none is one
+  abbrev pub NoneSeen : List (Exchange K L) → Type 0
+  NoneSeen xs = All (λ x. SeenWrite x → ⊥) xs
+
 module _ (c : Card) {K L : Type 0} (ask : K → Request) (leave : K → Answer → L) (Done : L → Type 0) where
   -- A call x, and calls after it, run from the arena a to the arena m; and the call y on m, which leaves e. x and y make the same request,
   -- a write in which no purse block is named twice and each cyclic number forms a single run.
   pub record SentTwice
       (a : List ℕ) (x : Exchange K L) (xs : List (Exchange K L)) (m : List ℕ) (y : Exchange K L) (e : List ℕ) : Type 0 where
-    pub first : Ran c ask leave a (x ∷ xs) m
-    pub second : Leaves c ask leave m (y .call) (y .left) e
+    pub ran : Ran c ask leave a (x ∷ xs) m
+    pub asked : Leaves c ask leave m (y .call) (y .left) e
     -- but for the length of the staging, which is long enough
-    pub same : ask (y .call) ≡ lending (ask (y .call) .room) (ask (x .call))
-    pub room : 16 * c .used ≤ ask (y .call) .room
+    pub repeats : ask (y .call) ≡ lending (ask (y .call) .room) (ask (x .call))
+    pub suffices : Enough c (ask (y .call) .room)
     -- the first is accepted
-    pub write : ask (x .call) .write ≡ true
-    pub accepted : Done (x .left)
-    pub purses : PursesOnce (ask (x .call))
-    pub rings : RingsOnce (ask (x .call))
+    pub seen : SeenWrite ask Done x
+    pub purses-once : PursesOnce (ask (x .call))
+    pub rings-once : RingsOnce (ask (x .call))
     -- of the calls between no write is accepted
-    pub idle : All (λ z. ask (z .call) .write ≡ true → Done (z .left) → ⊥) xs
+    pub between : NoneSeen ask Done xs
 
   -- The second is left what the first one's answer leaves, and its caller sees that it was accepted.
   pub record AsFirst (a : List ℕ) (x : Exchange K L) (m : List ℕ) (y : Exchange K L) (e : List ℕ) : Type 0 where
@@ -57,8 +65,8 @@ LineResent c =
     → lineServed c a (length (k .work)) (k .line) .reply ≡ Accepted
     → PursesOnce (lineRequest k)
     → RingsOnce (lineRequest k)
-    → Idle c (arenaAfter c a (lineRequest k)) (map lineRequest ks)
-    → 16 * c .used ≤ room
+    → IdleThen c a (lineRequest k) (map lineRequest ks)
+    → Enough c room
     → let b = arenaThen c a (lineRequest k) (map lineRequest ks) in
     -- the second time no stored byte is changed
     (lineServed c b room (k .line) .arena ≡ b)

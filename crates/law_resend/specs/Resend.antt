@@ -31,12 +31,22 @@ PursesOnce r = (n b i j : ℕ) → i < j → Names Purse n b r i → Names Purse
 abbrev pub RingsOnce : Request → Type 0
 RingsOnce r = (n b d i k j : ℕ) → i < k → k < j → Names Cyclic n b r i → Names Cyclic n d r j → numberOf (codeAt r k) ≡ n
 
+-- on an arena, the request is a write, and is accepted
+abbrev pub AcceptedWrite : Card → List ℕ → Request → Type 0
+AcceptedWrite c a r = (r .write ≡ true) × (serve c a r .reply ≡ Done)
+
 -- From an arena on, no write of the list is accepted: each request is a read, as that of a board is, or a write that fails or is refused.
 abbrev pub Idle : Card → List ℕ → List Request → Type 0
 Idle c a [] = Unit {0}
-Idle c a (r ∷ rs) =
-    (r .write ≡ true → serve c a r .reply ≡ Done → ⊥)
-    × Idle c (arenaAfter c a r) rs
+Idle c a (r ∷ rs) = (AcceptedWrite c a r → ⊥) × Idle c (arenaAfter c a r) rs
+
+-- so from the arena that a write leaves
+abbrev pub IdleThen : Card → List ℕ → Request → List Request → Type 0
+IdleThen c a w rs = Idle c (arenaAfter c a w) rs
+
+-- staging of so many bytes is long enough: it has room for all stores
+abbrev pub Enough : Card → ℕ → Type 0
+Enough c room = 16 * c .used ≤ room
 
 -- the same request, with so many bytes lent to it
 abbrev pub lending : ℕ → Request → Request
@@ -53,7 +63,7 @@ lending room r = record {
 -- what the same request comes to when it is sent again, with staging of so many bytes, after the requests that came between
 pub record Harmless (c : Card) (a : List ℕ) (w : Request) (rs : List Request) (room : ℕ) : Type 0 where
   -- it is accepted
-  pub accepted : serve c (arenaThen c a w rs) (lending room w) .reply ≡ Done
+  pub done : serve c (arenaThen c a w rs) (lending room w) .reply ≡ Done
   -- it changes no stored byte
   pub unchanged : arenaAfter c (arenaThen c a w rs) (lending room w) ≡ arenaThen c a w rs
   -- nor did what came between: the arena is as the first one left it
@@ -64,10 +74,9 @@ pub record Harmless (c : Card) (a : List ℕ) (w : Request) (rs : List Request) 
 abbrev pub Resent : Card → Type 0
 Resent c =
     (a : List ℕ) (w : Request) (rs : List Request) (room : ℕ)
-    → w .write ≡ true
-    → serve c a w .reply ≡ Done
+    → AcceptedWrite c a w
     → PursesOnce w
     → RingsOnce w
-    → Idle c (arenaAfter c a w) rs
-    → 16 * c .used ≤ room
+    → IdleThen c a w rs
+    → Enough c room
     → Harmless c a w rs room

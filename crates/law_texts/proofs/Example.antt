@@ -159,7 +159,7 @@ idle : resend.Idle card (arenaAfter card (replicate 32 0) drawing) (map requestI
 unfolding split hex16 codesField codesOf plain upTo decimal among digitOf digits spelt grouped hexField pairs unhex isLetter isEither requestLine shaped isWrite askOf boardLine boardCode requestIn
 idle =
     idle-each card (arenaAfter card (replicate 32 0) drawing) (map requestIn (refresh ∷ look ∷ []))
-    (λ t d. false≢true t, (λ t d. false≢true t, tt))
+    (λ (t, d). false≢true t, (λ (t, d). false≢true t, tt))
 
 drawn : Resending start draw (refresh ∷ look ∷ [])
 drawn = record {
