@@ -12,7 +12,7 @@ use Rattle.law_terminals.specs.Orders.{Terminal, one, two, Marked, by, only, al
 use Rattle.law_terminals.specs.Two.{All}
 use Rattle.law_lines.specs.Lines.{Taken, heldAfter}
 use Rattle.law_lines.proofs.Lines.{taken-none, taken-requests}
-use Rattle.law_texts.specs.Texts.{textOf, OneLine, stateAfter, TwoTexts, TextResent}
+use Rattle.law_texts.specs.Texts.{textOf, OneLine, stateAfter, TextsPrinted, TwoTexts, TextResent}
 use Rattle.law_texts.proofs.States.{taken-all}
 use Rattle.law_texts.proofs.Records.{state-long}
 use Rattle.law_texts.proofs.Lines.{two-lines, written-again, requests-after}
@@ -108,9 +108,10 @@ only-each F [] h = (tt, tt)
 only-each F (by one x ∷ zs) h = let w = only-each F zs (h .1) in ((h .0, w .0), w .1)
 only-each F (by two x ∷ zs) h = let w = only-each F zs (h .1) in (w .0, (h .0, w .1))
 
--- two terminals' lines in a text are apart
-pub two-texts : TwoTexts
-two-texts is zs f g p q none =
+-- what is printed of two terminals' lines in a text
+texts-printed : (is : List (List ℕ)) (zs : List (Marked (List ℕ))) → All OneLine is → All OneLine (all zs) →
+    Taken (stateAfter is .replay .phase) (only one zs) → Taken (stateAfter is .replay .phase) (only two zs) → TextsPrinted is zs
+texts-printed is zs f g p q =
     let s = stateAfter is in
     let own = only-each OneLine zs g in
     record {
@@ -119,8 +120,11 @@ two-texts is zs f g p q none =
           ∙ ap (λ (l : List (List ℕ)). replayOf (textOf is) ++ joined l) (sym (told-all lineText lineHeld zs s));
       first = says is (only one zs) f (own .0) p;
       second = says is (only two zs) f (own .1) q;
-      same = two-lines s (state-long is) zs p q none;
     }
+
+-- they are apart
+pub two-texts : TwoTexts
+two-texts is zs f g p q none = (texts-printed is zs f g p q, two-lines (stateAfter is) (state-long is) zs p q none)
 
 -- a `W` line that stands in a text again
 pub text-resent : TextResent

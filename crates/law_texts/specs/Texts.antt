@@ -23,9 +23,9 @@ OneLine line = All (λ x. x ≡ 10 → ⊥) line
 abbrev pub stateAfter : List (List ℕ) → Held
 stateAfter is = heldAfter atStart is
 
--- A text of the lines `is` and then of both terminals' lines, in the order zs; and the same with one of them silent.
-pub record TextsApart (is : List (List ℕ)) (zs : List (Marked (List ℕ))) : Type 0 where
-  -- what is printed after `is`: of both, line by line what each prints, marked with the terminal that is told it
+-- What a text of the lines `is` and then of both terminals' lines, in the order zs, prints after `is`; and the same with one of them silent.
+pub record TextsPrinted (is : List (List ℕ)) (zs : List (Marked (List ℕ))) : Type 0 where
+  -- of both, line by line what each prints, marked with the terminal that is told it
   pub both : replayOf (textOf (is ++ all zs)) ≡ replayOf (textOf is) ++ joined (all (told lineText lineHeld (stateAfter is) zs))
   -- of one's lines alone
   pub first
@@ -33,8 +33,6 @@ pub record TextsApart (is : List (List ℕ)) (zs : List (Marked (List ℕ))) : T
   -- of two's lines alone
   pub second
       : replayOf (textOf (is ++ only two zs)) ≡ replayOf (textOf is) ++ joined (answers lineText lineHeld (stateAfter is) (only two zs))
-  -- ordinals aside each terminal is told the same in both, and the state ends alike
-  pub same : (n : ℕ) → Undisturbed (textAs n) lineHeld (stateAfter is) zs
 
 abbrev pub TwoTexts : Type 0
 TwoTexts =
@@ -44,7 +42,9 @@ TwoTexts =
     → Taken (stateAfter is .replay .phase) (only one zs)
     → Taken (stateAfter is .replay .phase) (only two zs)
     → NoneShared (stateAfter is .replay .card) (map requestIn (only one zs)) (map requestIn (only two zs))
-    → TextsApart is zs
+    → TextsPrinted is zs
+    -- ordinals aside each terminal is told the same in both, and the state ends alike
+    × ((n : ℕ) → Undisturbed (textAs n) lineHeld (stateAfter is) zs)
 
 -- A text of the lines `is`, a `W` line, the lines ls, and that `W` line again.
 pub record TextAgain (is : List (List ℕ)) (w : List ℕ) (ls : List (List ℕ)) : Type 0 where
