@@ -23,7 +23,7 @@ OneLine line = All (λ x. x ≡ 10 → ⊥) line
 abbrev pub stateAfter : List (List ℕ) → Held
 stateAfter is = heldAfter atStart is
 
--- What a text of the lines `is` and then of both terminals' lines, in the order zs, prints after `is`; and the same with one of them silent.
+-- What a text of the lines `is` and then of both terminals' lines, in the order zs, prints after `is`; and what it prints with one silent.
 pub record TextsPrinted (is : List (List ℕ)) (zs : List (Marked (List ℕ))) : Type 0 where
   -- of both, line by line what each prints, marked with the terminal that is told it
   pub both : replayOf (textOf (is ++ all zs)) ≡ replayOf (textOf is) ++ joined (all (told lineText lineHeld (stateAfter is) zs))
