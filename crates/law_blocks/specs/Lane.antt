@@ -16,9 +16,10 @@ pub record Shows (c : Card) (a : List ℕ) (code k : ℕ) (d : List ℕ) : Type 
   pub block : blockAt (boardServed c a code 128 .read) k ≡ d
   pub lane : (ls : List Lane) → boardOf (boardServed c a code 128 .read) ≡ lanes ls → getD ls k empty ≡ laneOf d
 
--- RULES 16.5, at the card c: after an accepted write whose last element for block k of the random store of number n brings the bytes d, and
+-- At the card c: after an accepted write whose last element for block k of the random store of number n brings the bytes d, and
 -- requests of which no accepted write names that block, a refresh with any code of the number that the card answers 00 00 shows d in
 -- lane k + 1.
+-- RULES 16.5
 abbrev pub BoardShows : Card → Type 0
 BoardShows c =
     (n k : ℕ) (d a : List ℕ) (w : Request) (rs : List Request) (code : ℕ)

@@ -17,8 +17,9 @@ use Rattle.law_terminals.specs.Runs.{Exchange, Call, requestOf, Left, leftBy}
 use Rattle.law_blocks.specs.Deed.{Deed, requested, blockSet, neither, DeedNames, DeedBrings}
 use Rattle.law_lines.specs.Shown.{eightOf}
 
--- RULES 16.5: what a call returns, r, and what it makes of the bytes lent for the records, from `old` to `new`. 0 for a board, and then its
+-- What a call returns, r, and what it makes of the bytes lent for the records, from `old` to `new`. 0 for a board, and then its
 -- records stand in front, worked out from the first eight blocks of the code's store as the arena has them; else all is left as it was.
+-- RULES 16.5
 pub record BoardCall (c : Card) (a : List ℕ) (code : ℕ) (old : List ℕ) (r : ℕ) (new : List ℕ) : Type 0 where
   pub board
       : let ls = lanesOf (eightOf c a code) in
@@ -67,7 +68,8 @@ pub record Drawn (c : Card) (n k : ℕ) (d a : List ℕ) (w : Exchange LibraryCa
   -- of the calls after it no write and no set block that returned 0 names that block
   pub quiet : All (λ x. x .left .reply ≡ 0 → DeedNames n k (callDeed (x .call)) → ⊥) xs
 
--- RULES 16.5, at the card c: a board with any code of that number, that returns 0, has in the record of lane k + 1 what was brought.
+-- At the card c: a board with any code of that number, that returns 0, has in the record of lane k + 1 what was brought.
+-- RULES 16.5
 abbrev pub LibraryShows : Card → Type 0
 LibraryShows c =
     (n k : ℕ) (d a : List ℕ) (w : Exchange LibraryCall (Left ℕ)) (xs : List (Exchange LibraryCall (Left ℕ))) (m : List ℕ) (code : ℕ) (old : List ℕ)

@@ -34,8 +34,9 @@ pub record Prints (s : Held) (line : List ℕ) (code k : ℕ) (d : List ℕ) : T
       : lineText s line
       ≡ boardText (oneMore (s .replay .asked)) (boardOf (boardServed (s .replay .card) (s .arena) code 128 .read))
 
--- RULES 16.5: a `W` line that is taken for a request, whatever lines after it, of which no accepted write names the block, and an `L` line
+-- A `W` line that is taken for a request, whatever lines after it, of which no accepted write names the block, and an `L` line
 -- that the card answers 00 00: it shows in lane k + 1 what the `W` line brought.
+-- RULES 16.5
 abbrev pub LineShows : Held → Type 0
 LineShows s =
     (n k : ℕ) (d w : List ℕ) (ls : List (List ℕ)) (line : List ℕ) (code : ℕ)

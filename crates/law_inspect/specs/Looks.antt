@@ -39,7 +39,8 @@ GoesOn Image = Unit {0}
 GoesOn Requests = Unit {0}
 GoesOn Ended = ⊥
 
--- RULES 16.5: there an `L` line prints the board of the store as the arena has it at that line, or the refusal.
+-- There an `L` line prints the board of the store as the arena has it at that line, or the refusal.
+-- RULES 16.5
 abbrev pub InspectPrints : Type 0
 InspectPrints =
     (s : Seen) (line : List ℕ) (code : ℕ) → GoesOn (s .inspect .replay .phase) → boardCode line ≡ Is code
@@ -54,8 +55,9 @@ pub record LooksOnly (s : Seen) (line : List ℕ) : Type 0 where
   pub work : (lent : List ℕ) → workSeen s lent line ≡ lent
   pub bytes : (lent : List ℕ) → bytesSeen s lent line ≡ lent
 
--- RULES 16.5: there every line that by its first field is neither an image line nor `R` or `W`, `L` lines and questions of any form, writes
+-- There every line that by its first field is neither an image line nor `R` or `W`, `L` lines and questions of any form, writes
 -- nothing.
+-- RULES 16.5
 abbrev pub InspectLeaves : Type 0
 InspectLeaves =
     (s : Seen) (line : List ℕ) → GoesOn (s .inspect .replay .phase) → imageNamed (split 9 line) ≡ false → requestLine line ≡ false
@@ -105,9 +107,10 @@ pub record LaneSaid (s : Seen) (line : List ℕ) (code k : ℕ) (d : List ℕ) :
       : lineSaid s line
       ≡ boardText (oneMore (s .inspect .replay .asked)) (boardOf (boardServed (s .inspect .replay .card) (s .arena) code 128 .read))
 
--- RULES 16.5: a `W` line or a `blk` line that is done and brings sixteen bytes d to block k of the random store of number n; whatever lines
+-- A `W` line or a `blk` line that is done and brings sixteen bytes d to block k of the random store of number n; whatever lines
 -- after it, image lines, requests, refreshes and questions mixed, of which none that is done names that block; and, where no image line
 -- was refused, an `L` line with any code of the number that the card answers 00 00: it shows d in lane k + 1.
+-- RULES 16.5
 abbrev pub InspectShows : Seen → Type 0
 InspectShows s =
     (n k : ℕ) (d w : List ℕ) (ls : List (List ℕ)) (line : List ℕ) (code : ℕ)

@@ -32,7 +32,7 @@ use Rattle.board_lanes.specs.declared.lanes.Judged.the-variants as judged
 use Rattle.board_lanes.specs.Board.{judgedOf, boardOf, boardBy}
 use Rattle.board_read.specs.Refresh.{eightBlocks, boardRequest, boardServed, refreshedBy, refreshedAfter, refreshed}
 use Rattle.board_line.specs.Line.{refreshedText, boardLineText}
-use Rattle.law_lines.specs.Shown.{storeOf, eightOf, boardText, shownText, PrintsBoard, Eight, ReadsStore}
+use Rattle.law_lines.specs.Shown.{codeStore, eightOf, boardText, shownText, PrintsBoard, Eight, ReadsStore}
 
 -- a front, and a front of the rest
 take-more : (n m : ℕ) (s : List ℕ) → take n s ++ take m (drop n s) ≡ take (n + m) s
@@ -63,7 +63,7 @@ module _ (c : Card) (a : List ℕ) (code : ℕ) (e : boardServed c a code 128 .r
   -- the eight blocks that are read are the first of the store
   pub eight-read : boardServed c a code 128 .read ≡ eightOf c a code
   unfolding unpackAt elementsFrom blocksRead blocksFrom
-  eight-read = blocks-given c a (boardRequest code 128) e refl ∙ blocks-part (storeOf c a code) 8 0
+  eight-read = blocks-given c a (boardRequest code 128) e refl ∙ blocks-part (codeStore c a code) 8 0
 
   -- the last of the elements passed its check
   eight-blocks : 8 ≤ rowOf (nodesOf c) code .blocks

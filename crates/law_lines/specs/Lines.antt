@@ -28,7 +28,8 @@ Taken Image (line ∷ ls) = asks line ≡ true
 Taken Requests ls = Unit {0}
 Taken Ended ls = ⊥
 
--- RULES 16.5: at whatever state such an `L` line comes, it prints the board of the store as the arena has it there, or the refusal.
+-- At whatever state such an `L` line comes, it prints the board of the store as the arena has it there, or the refusal.
+-- RULES 16.5
 abbrev pub LinePrints : Type 0
 LinePrints =
     (s : Held) (line : List ℕ) (code : ℕ) → Taken (s .replay .phase) [] → boardCode line ≡ Is code
@@ -77,8 +78,9 @@ pub record NoPart (s t : Held) : Type 0 where
   pub arena : s .arena ≡ t .arena
   pub next : (line : List ℕ) → boardLine line ≡ true → SameBoard s t line
 
--- RULES 16.5: lines, and the same lines without any of the `L` lines, both taken for requests. An `L` line ends the image, so where it is
+-- Lines, and the same lines without any of the `L` lines, both taken for requests. An `L` line ends the image, so where it is
 -- the first request of all, the line that comes first without it is one too.
+-- RULES 16.5
 abbrev pub NoEarlierPart : Type 0
 NoEarlierPart =
     (s : Held) (ls ms : List (List ℕ)) → Taken (s .replay .phase) ls → Taken (s .replay .phase) ms → Without ls ms

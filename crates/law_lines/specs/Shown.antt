@@ -21,12 +21,12 @@ use Rattle.board_read.specs.Refresh.{boardServed}
 use Rattle.board_line.specs.Line.{boardCode, boardLineText}
 
 -- the store of a code, as an arena has it: that of the first service of the code, in tree order
-abbrev pub storeOf : Card → List ℕ → ℕ → List ℕ
-storeOf c a code = storeIn a (rowOf (nodesOf c) code)
+abbrev pub codeStore : Card → List ℕ → ℕ → List ℕ
+codeStore c a code = storeIn a (rowOf (nodesOf c) code)
 
 -- its first eight blocks
 abbrev pub eightOf : Card → List ℕ → ℕ → List ℕ
-eightOf c a code = part (storeOf c a code) 0 128
+eightOf c a code = part (codeStore c a code) 0 128
 
 -- what is printed of a board: its eight lanes, or its refusal with the ordinal
 abbrev pub boardText : ℕ → Board → List ℕ
@@ -40,8 +40,9 @@ shownText ordinal replies.Done board = boardText ordinal board
 shownText ordinal replies.ShortData board = answerText ordinal replies.ShortData []
 shownText ordinal (replies.Failed i f) board = answerText ordinal (replies.Failed i f) []
 
--- RULES 16.5: whatever card and arena stand at an `L` line with a code, it prints the board worked out from the first eight blocks of that
+-- Whatever card and arena stand at an `L` line with a code, it prints the board worked out from the first eight blocks of that
 -- code's store as that arena has them, or the refusal.
+-- RULES 16.5
 abbrev pub PrintsBoard : Type 0
 PrintsBoard =
     (c : Card) (a line : List ℕ) (ordinal code : ℕ) → boardCode line ≡ Is code
@@ -59,10 +60,11 @@ pub record Eight (c : Card) (a : List ℕ) (code : ℕ) : Type 0 where
   pub first : (i : ℕ) → i < node → isServiceOf code (getD (nodesOf c) i rootNode) ≡ false
   pub store
       : let n = getD (nodesOf c) node rootNode .entry in
-      storeOf c a code ≡ part a (16 * startOf n) (16 * blocksOf n)
+      codeStore c a code ≡ part a (16 * startOf n) (16 * blocksOf n)
   -- and has eight blocks or more
   pub blocks : 8 ≤ blocksOf (getD (nodesOf c) node rootNode .entry)
 
--- RULES 16.5, at the card c
+-- at the card c
+-- RULES 16.5
 abbrev pub ReadsStore : Card → Type 0
 ReadsStore c = (a : List ℕ) (code : ℕ) → boardServed c a code 128 .reply ≡ replies.Done → Eight c a code
