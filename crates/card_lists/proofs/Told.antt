@@ -74,12 +74,6 @@ module _ {nodes : List Node} {count : ℕ} (r : Records nodes count) (parent : �
 pub no-area : (ns : List Node) (p : ℕ) {f : Found} → f ≡ Nothing → listRefused ParentNoArea ≡ listFound ns p f
 no-area ns p e = rw e
 
--- what a function gives of a list is read there
-map-read : (f : ℕ → ℕ) (l : List ℕ) (i : ℕ) → i < length l → getD (map f l) i 0 ≡ f (getD l i 0)
-map-read f [] i h = absurd (omega arith)
-map-read f (x ∷ l) zero h = refl
-map-read f (x ∷ l) (suc i) h = map-read f l i (omega arith)
-
 -- block information that an answer refuses, and that is else told
 abbrev unless : Informed → Answer → Informed
 unless rest (Refused r) = informationRefused r
@@ -124,30 +118,18 @@ module _ (c : Card) (arenaLen : ℕ) (asked : List ℕ) where
     info-told e k q = q ∙ ap (λ (n : ℕ). informationOf (nodesOf c) n asked) k ∙ ordered e
 
 -- the counts of the first i nodes, in front of zeros
-abbrev pub counted : (ℕ → ℕ) → List ℕ → ℕ → List ℕ
+abbrev counted : (ℕ → ℕ) → List ℕ → ℕ → List ℕ
 counted f asked i = put (replicate 32 0) 0 i (map f asked)
 
-module _ (f : ℕ → ℕ) (asked : List ℕ) where
-  -- none yet
-  pub none-counted : replicate 32 0 ≡ counted f asked 0
-  none-counted = sym (put-zero (replicate 32 0) 0 (map f asked))
-
-  -- one more
-  pub one-counted : {i x : ℕ} {cells : List ℕ} → i < length asked → cells ≡ counted f asked i → x ≡ f (getD asked i 0) → set cells i x ≡ counted f asked (i + 1)
-  one-counted {i = i} {x = x} h q e =
-      let k : i < length (map f asked) = simp length-map h in
-      rw q (rw (zero-add i) at (put-next (replicate 32 0) 0 (map f asked) i x k (e ∙ sym (map-read f asked i h))))
-
-  -- all of them
-  all-counted : {i : ℕ} → length asked ≤ 32 → i ≡ length asked → counted f asked i ≡ padded 32 (map f asked)
-  all-counted h e = rw e (put-padded 32 (length asked) (map f asked) (length-map asked f) h)
+-- all of them
+all-counted : (f : ℕ → ℕ) (asked : List ℕ) → length asked ≤ 32 → counted f asked (length asked) ≡ padded 32 (map f asked)
+all-counted f asked h = put-padded 32 (length asked) (map f asked) (length-map asked f) h
 
 -- both counts of all nodes
-pub info-all : (ns : List Node) (unused : ℕ) (asked : List ℕ) {i : ℕ} {assigned free : List ℕ} → length asked ≤ 32 → i ≡ length asked →
-    assigned ≡ counted (totalOf ns) asked i → free ≡ counted (freeFor ns unused) asked i →
+pub info-all : (ns : List Node) (unused : ℕ) (asked : List ℕ) {assigned free : List ℕ} → length asked ≤ 32 →
+    assigned ≡ counted (totalOf ns) asked (length asked) → free ≡ counted (freeFor ns unused) asked (length asked) →
     informationTold (record { count = length asked; assigned = assigned; free = free }) ≡ informationOf ns unused asked
-info-all ns unused asked h e a f =
-    rw (a, f, all-counted (totalOf ns) asked h e, all-counted (freeFor ns unused) asked h e)
+info-all ns unused asked h a f = rw (a, f, all-counted (totalOf ns) asked h, all-counted (freeFor ns unused) asked h)
 
 -- an answer as bytes: a refusal, or what the writer makes of the message
 module _ (c : Card) (parent p : ℕ) (out : List ℕ) {x : Listed} (e : x ≡ codeListOf c parent p) where

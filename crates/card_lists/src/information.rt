@@ -1,10 +1,11 @@
 // Block information of nodes: the blocks assigned to each, by its block total, and those free for it.
-use crate::area;
 use answers::refusal::Answer;
 use answers::refusal::Refusal;
 use card_build::card::Card;
+use card_nodes::count;
 use card_nodes::find::Found;
 use card_nodes::node::Node;
+use card_questions::tags;
 use card_questions::totals;
 use node_messages::information;
 use node_messages::information::BlockInformation;
@@ -12,17 +13,35 @@ use node_messages::information::Informed;
 use node_messages::message::Put;
 ghost use mathlib.Core.Path.{_≡_};
 ghost use Prim.Native.Nat.{_≤_, _-_};
+ghost use mathlib.Core.List.{map};
 ghost use lib.ListN.{length, take};
+ghost use Rattle.byte_parts.specs.Part.{put};
+ghost use Rattle.card_questions.specs.Tags.{OfTags};
 ghost use Rattle.card_admit.specs.Admit.{usable};
 ghost use Rattle.card_lists.specs.Information.{freeFor, informationOf, aheadOf, blocksOf, blocksPut, blocksOut};
 
-// The blocks free for the node of `code`: all that are unused for an area, none for any other.
-fn free_for(nodes: [Node; 64], count: usize, unused: u16, code: u16) -> u16
-    ensures { λ r. ⌜ r ≡ freeFor (take count nodes) unused code ⌝ }
+// The blocks free for the node of `code` among nodes of these tags: all that are unused for an area, none for any other.
+fn free_for(tags: &[u32], unused: u16, code: u16) -> u16
+    ensures { λ r. ⌜ OfTags (now (tags .entry)) (λ ns. r ≡ freeFor ns unused code) ⌝ }
 {
-    match area::area_named(nodes, count, code) {
+    if code == 0xffff {
+        return 0;
+    }
+    match tags::area_at(tags, code) {
         Found::At(_) => unused,
         Found::Nothing => 0,
+    }
+}
+
+// Writes the blocks free for each of the nodes `asked` to the first of `to`.
+fn put_free(tags: &[u32], unused: u16, asked: &[u16], to: &mut [u16])
+    requires { ⌜ length (now asked) ≤ length (now to) ⌝ }
+    ensures { λ _. ⌜ OfTags (now (tags .entry)) (λ ns. now (to .exit) ≡ put (now (to .entry)) 0 (length (now (asked .entry))) (map (freeFor ns unused) (now (asked .entry)))) ⌝ }
+{
+    let mut i = 0;
+    while i < asked.len() {
+        to[i] = free_for(tags, unused, asked[i]);
+        i += 1;
     }
 }
 
@@ -43,13 +62,11 @@ fn information_of(nodes: [Node; 64], count: usize, unused: u16, asked: &[u16]) -
     ensures { λ r. ⌜ r ≡ informationOf (take count nodes) unused (now (asked .entry)) ⌝ }
 {
     let mut assigned = [0u16; 32];
+    totals::put_totals(nodes, count, asked, &mut assigned[0..32]);
+    let n = count::taken(count);
+    let tags = tags::tags_of(nodes);
     let mut free = [0u16; 32];
-    let mut i = 0;
-    while i < asked.len() {
-        assigned[i] = totals::block_total(nodes, count, asked[i]);
-        free[i] = free_for(nodes, count, unused, asked[i]);
-        i += 1;
-    }
+    put_free(&tags[0..n], unused, asked, &mut free[0..32]);
     Informed {
         told: BlockInformation {
             count: asked.len(),

@@ -4,10 +4,10 @@ use mathlib.Core.List.{List, [], _∷_, map}
 use mathlib.Core.Bool.{Bool, true, false, cond}
 use lib.Dec.{eqb}
 use mathlib.Core.Logic.{⊎-elim}
-use Prim.Native.Nat.{ℕ, zero, suc, _+_, _-_, _≤_, _<_}
+use Prim.Native.Nat.{ℕ, zero, suc, _+_, _-_, _≤_, _<_, min}
 use native.Mathlib.Numerals.{add-one}
 use native.Mathlib.Omega.{arith}
-use lib.ListN.{length, take, drop, getD, length-take, length-map}
+use lib.ListN.{length, take, drop, getD}
 use Rattle.card_nodes.specs.declared.node.Entry.{Entry}
 use Rattle.card_nodes.specs.declared.node.Entry.the-variants.{Area, Service}
 use Rattle.card_nodes.specs.declared.node.Node.{Node}
@@ -17,7 +17,7 @@ use Rattle.card_questions.specs.declared.table.Column.the-variants.{Dept
 use Rattle.card_laws.specs.Under.{spanUnder, sumUnder}
 use Rattle.card_questions.specs.Directory.{secondOf, pairOf, pairsUnder, directoryOf, listedOf}
 use Rattle.card_questions.specs.Table.{cellOf, spanBelow, pastOf, pairsFrom, ownAt, sumFrom}
-use Rattle.card_laws.proofs.UnderLaws.{le-or-lt, spans, deeper, ends}
+use Rattle.card_laws.proofs.UnderLaws.{le-or-lt, take-most, spans, deeper, ends}
 use Rattle.card_questions.proofs.ListingWorded.{pairs}
 use Rattle.card_laws.proofs.TotalsWorded.{sums}
 
@@ -30,9 +30,13 @@ cells-take f (suc n) (x ∷ ns) = ap (λ (l : List ℕ). f x ∷ l) (cells-take 
 pub column-take : (c : Column) (n : ℕ) (ns : List Node) → take n (map (cellOf c) ns) ≡ map (cellOf c) (take n ns)
 column-take c = cells-take (cellOf c)
 
--- and is as long as there are nodes in it
-pub column-length : (c : Column) (ns : List Node) (n : ℕ) {cells : List ℕ} → cells ≡ map (cellOf c) ns → n ≤ length ns → length (take (n - 0) cells) ≡ n
-column-length c ns n e k = rw (e, length-take, length-map) (omega (arith, k))
+-- what is lent of a column of the 64 records is that column of the nodes
+pub cells-lent : (f : Node → ℕ) (nodes : List Node) (count : ℕ) {n : ℕ} {cells : List ℕ} → length nodes ≡ 64 → n ≡ min count 64 → cells ≡ map f nodes →
+    take (n - 0) cells ≡ map f (take count nodes)
+cells-lent f nodes count {n = n} all p e =
+    let m : n - 0 ≡ n = omega arith in
+    let t : take n nodes ≡ take count nodes = rw p (take-most count 64 nodes all) in
+    rw (e, m, cells-take f n nodes, t)
 
 column-drop : (c : Column) (n : ℕ) (ns : List Node) → drop n (map (cellOf c) ns) ≡ map (cellOf c) (drop n ns)
 column-drop c zero ns = refl

@@ -2,8 +2,9 @@ pub mod ListingWorded
 pub mod BuiltCards
 mod TableLaws
 mod Filled
-mod Columns
-mod TagLaws
+pub mod Columns
+pub mod TagLaws
+pub mod Puts
 mod Answered
 mod Found
 mod Version

@@ -2,10 +2,10 @@
 use mathlib.Core.Path.{_≡_, refl, sym, _∙_, ap}
 use mathlib.Core.Bool.{Bool, true, false, cond, _&&_, and-true, and-false}
 use mathlib.Core.List.{List, [], _∷_, map}
-use Prim.Native.Nat.{ℕ, suc, _+_, _-_, _*_, _<_, min}
+use Prim.Native.Nat.{ℕ, suc, _+_, _*_, _<_}
 use native.Mathlib.Omega.{arith}
 use lib.Dec.{eqb}
-use lib.ListN.{length, take, getD}
+use lib.ListN.{length, getD}
 use lib.Seq.{take-length}
 use borrow.Author.Tests.{eq-eqb, ne-eqb, eqb-true, eqb-false}
 use Rattle.card_nodes.specs.declared.node.Entry.{Entry}
@@ -17,9 +17,7 @@ use Rattle.card_nodes.specs.Node.{isArea, isService}
 use Rattle.card_nodes.specs.Find.{firstFrom, isServiceOf, isAreaOf, serviceOf, areaOf}
 use Rattle.card_nodes.proofs.Scan.{Left, here, turn}
 use Rattle.card_nodes.proofs.Searches.{Below, below-cond, in-range}
-use Rattle.card_laws.proofs.UnderLaws.{take-most}
 use Rattle.card_questions.specs.Tags.{tagAs, tagOf, firstTag}
-use Rattle.card_questions.proofs.Columns.{cells-take}
 
 -- two tags of one kind are equal where their codes are
 equal : (c code : ℕ) (b : Bool) → eqb c code ≡ b → (eqb (2 * c) (2 * code) ≡ b) × (eqb (2 * c + 1) (2 * code + 1) ≡ b)
@@ -56,14 +54,6 @@ module _ (ns : List Node) {tags : List ℕ} (e : tags ≡ map tagOf ns) (code : 
 
   pub tags-area : firstTag (tagAs code false) 0 tags ≡ areaOf ns code
   tags-area = rw e (searched (tagAs code false) (isAreaOf code) (area-tag code) 0 ns)
-
--- the tags of the nodes, of those of the 64 records
-pub tags-lent : (nodes : List Node) (count : ℕ) {n : ℕ} {tags : List ℕ} → length nodes ≡ 64 → n ≡ min count 64 → tags ≡ map tagOf nodes →
-    take (n - 0) tags ≡ map tagOf (take count nodes)
-tags-lent nodes count {n = n} h p e =
-    let m : n - 0 ≡ n = omega arith in
-    let t : take n nodes ≡ take count nodes = rw p (take-most count 64 nodes h) in
-    rw (e, m, cells-take tagOf n nodes, t)
 
 -- the first place of a tag is one of the places
 tag-below : (t i : ℕ) (l : List ℕ) → Below (firstTag t i l) (i + length l)

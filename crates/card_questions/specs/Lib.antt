@@ -1,6 +1,6 @@
 pub mod Directory
-pub mod Table
 pub mod Tags
+pub mod Table
 pub mod ListingWorded
 pub mod Total
 pub mod Keys

@@ -1,6 +1,7 @@
 -- The nodes as columns of numbers, and what a walk over them comes to.
 use Prim.Native.Nat.{ℕ, zero, suc, _+_}
-use mathlib.Core.List.{List, [], _∷_}
+use mathlib.Core.List.{List, [], _∷_, map}
+use mathlib.Core.Path.{_≡_}
 use mathlib.Core.Bool.{cond}
 use lib.Dec.{eqb, leb}
 use lib.ListN.{drop, getD}
@@ -9,6 +10,7 @@ use Rattle.card_nodes.specs.Node.{blocksOf}
 use Rattle.card_questions.specs.declared.table.Column.{Column}
 use Rattle.card_questions.specs.declared.table.Column.the-variants.{Depth, Code, Second, Blocks}
 use Rattle.card_questions.specs.Directory.{secondOf}
+use Rattle.card_questions.specs.Tags.{OfTags}
 
 -- what a column has of a node
 abbrev pub cellOf : Column → Node → ℕ
@@ -39,3 +41,8 @@ ownAt seconds blocks i = cond (eqb (getD seconds i 0) 0xffff) (getD blocks i 0) 
 unfoldable pub sumFrom : List ℕ → List ℕ → ℕ → ℕ → ℕ
 sumFrom seconds blocks i zero = 0
 sumFrom seconds blocks i (suc k) = ownAt seconds blocks i + sumFrom seconds blocks (suc i) k
+
+-- what holds of nodes, of any that have these tags, depths, second numbers and blocks
+abbrev pub OfColumns : List ℕ → List ℕ → List ℕ → List ℕ → (List Node → Type 0) → Type 0
+OfColumns tags depths seconds blocks holds =
+    OfTags tags (λ ns. depths ≡ map (cellOf Depth) ns → seconds ≡ map (cellOf Second) ns → blocks ≡ map (cellOf Blocks) ns → holds ns)

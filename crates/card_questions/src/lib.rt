@@ -2,5 +2,5 @@
 pub mod keys;
 pub mod listing;
 mod table;
-mod tags;
+pub mod tags;
 pub mod totals;

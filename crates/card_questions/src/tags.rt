@@ -24,7 +24,7 @@ fn tag_of(node: Node) -> u32
 }
 
 // The tags of the 64 records.
-pub(crate) fn tags_of(nodes: [Node; 64]) -> [u32; 64]
+pub fn tags_of(nodes: [Node; 64]) -> [u32; 64]
     ensures { λ r. ⌜ r ≡ map tagOf nodes ⌝ }
 {
     let mut tags = [0u32; 64];
@@ -59,7 +59,7 @@ pub(crate) fn service_at(tags: &[u32], code: u16) -> Found
 }
 
 // The first area of `code` among nodes, by their tags.
-pub(crate) fn area_at(tags: &[u32], code: u16) -> Found
+pub fn area_at(tags: &[u32], code: u16) -> Found
     ensures { λ r. ⌜ r ≡ firstTag (tagAs code false) 0 (now (tags .entry)) ⌝ }
 {
     first_tag(tags, tag(code, false))

@@ -8,7 +8,7 @@ use prog.Wp.{Heap}
 use ghost.Atoms.{Atoms}
 use contract.Monad.{Fun}
 use Rattle.law_once.specs.One.{OneAnswer}
-use Rattle.law_once.proofs.Law.{once, of-two, result}
+use Rattle.law_once.proofs.Law.{once, of-one, of-two, result}
 use Rattle.card_nodes.proofs.count.taken as card_nodes·taken
 use Rattle.card_nodes.proofs.find.is_service_of as card_nodes·is-service-of
 use Rattle.card_nodes.proofs.find.find_service as card_nodes·find-service
@@ -34,7 +34,9 @@ use Rattle.card_build.proofs.card.Card.set_limit as card_build·Card·set-limit
 use Rattle.card_build.proofs.card.Card.new as card_build·Card·new
 use Rattle.card_build.proofs.card.Card.is_sound as card_build·Card·is-sound
 use Rattle.card_questions.proofs.listing.directory as card_questions·directory
-use Rattle.card_questions.proofs.totals.block_total as card_questions·block-total
+use Rattle.card_questions.proofs.tags.tags_of as card_questions·tags-of
+use Rattle.card_questions.proofs.tags.area_at as card_questions·area-at
+use Rattle.card_questions.proofs.totals.put_totals as card_questions·put-totals
 use Rattle.card_questions.proofs.totals.block_count_for_node as card_questions·block-count-for-node
 use Rattle.card_questions.proofs.keys.node_key_version as card_questions·node-key-version
 use Rattle.card_questions.proofs.keys.area_list_well_formed as card_questions·area-list-well-formed
@@ -120,8 +122,14 @@ module _ {M : Type 1} (𝓤 : URA M) (H : Heap 𝓤) (A : Atoms 𝓤) (mem : Mem
   pub card_questions·directory-once : OneAnswer 𝓤 card_questions·directory.ended (card_questions·directory.clauses 𝓤 H A mem run)
   card_questions·directory-once κs a g r r′ ws ws′ = of-two 𝓤 (λ p p′ q q′. (once p q, λ i. (tt, (once p′ q′ i, tt))))
 
-  pub card_questions·block-total-once : OneAnswer 𝓤 card_questions·block-total.ended (card_questions·block-total.clauses 𝓤 H A mem run)
-  card_questions·block-total-once κs a g r r′ ws ws′ = result 𝓤 refl
+  pub card_questions·tags-of-once : OneAnswer 𝓤 card_questions·tags-of.ended (card_questions·tags-of.clauses 𝓤 H A mem run)
+  card_questions·tags-of-once κs a g r r′ ws ws′ = result 𝓤 refl
+
+  pub card_questions·area-at-once : OneAnswer 𝓤 card_questions·area-at.ended (card_questions·area-at.clauses 𝓤 H A mem run)
+  card_questions·area-at-once κs a g r r′ ws ws′ = result 𝓤 refl
+
+  pub card_questions·put-totals-once : OneAnswer 𝓤 card_questions·put-totals.ended (card_questions·put-totals.clauses 𝓤 H A mem run)
+  card_questions·put-totals-once κs a g r r′ ws ws′ = of-one 𝓤 (λ p q. (refl, λ i. (tt, (tt, (tt, (once p q i, tt))))))
 
   pub card_questions·block-count-for-node-once : OneAnswer 𝓤 card_questions·block-count-for-node.ended (card_questions·block-count-for-node.clauses 𝓤 H A mem run)
   card_questions·block-count-for-node-once κs a g r r′ ws ws′ = result 𝓤 refl

@@ -2,7 +2,8 @@
 use mathlib.Core.Path.{_≡_}
 use lib.ListN.{length, take}
 use borrow.Author.Needs.{needs}
-use Rattle.card_questions.proofs.TagLaws.{tags-lent}
+use Rattle.card_questions.specs.Tags.{tagOf}
+use Rattle.card_questions.proofs.Columns.{cells-lent}
 use Rattle.card_questions.proofs.keys.area_list.Statement.{statement}
 use Rattle.card_questions.proofs.keys.area_list.Tie as tie
 
@@ -11,7 +12,7 @@ returns c =
     let t = c .before .before .before in
     let a = t .before .before .before .args in
     let all : length (a .nodes) ≡ 64 = search needs in
-    c .areas-tagged .ensures (take (a .count) (a .nodes)) (tags-lent (a .nodes) (a .count) all (t .before .taken .ensures) (t .tags-of .ensures))
+    c .areas-tagged .ensures (take (a .count) (a .nodes)) (cells-lent tagOf (a .nodes) (a .count) all (t .before .taken .ensures) (t .tags-of .ensures))
 
 pub area-list-spec : {M : Type 1} → statement M
 area-list-spec =
