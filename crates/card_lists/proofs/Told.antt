@@ -2,11 +2,10 @@
 use mathlib.Core.Path.{_≡_, refl, sym, _∙_, ap}
 use mathlib.Core.Bool.{Bool, true, false, cond}
 use mathlib.Core.List.{List, [], _∷_, map}
-use Prim.Native.Nat.{ℕ, zero, suc, _+_, _-_, _*_, _≤_, _<_, min}
-use native.Mathlib.Nat.{zero-add}
+use Prim.Native.Nat.{ℕ, _+_, _-_, _*_, _≤_, _<_, min}
 use native.Mathlib.Omega.{arith}
 use lib.Dec.{ltb, leb}
-use lib.ListN.{length, take, drop, getD, set, replicate, length-map}
+use lib.ListN.{length, take, drop, getD, replicate, length-map}
 use borrow.Author.Tests.{ltb-false}
 use Rattle.answers.specs.declared.refusal.Answer.{Answer}
 use Rattle.answers.specs.declared.refusal.Answer.the-variants.{Done, Refused}
@@ -15,8 +14,6 @@ use Rattle.answers.specs.declared.refusal.Refusal.the-variants.{NotBuilt, Short
 use Rattle.byte_parts.specs.Part.{put, padded}
 use Rattle.node_messages.specs.declared.code_list.Listed.{Listed}
 use Rattle.node_messages.specs.declared.information.Informed.{Informed}
-use Rattle.byte_parts.proofs.Part.{put-zero}
-use Rattle.byte_parts.proofs.Put.{put-next}
 use Rattle.node_messages.specs.declared.message.Put.{Put}
 use Rattle.node_messages.specs.declared.message.Put.the-variants.{Refused as NotPut}
 use Rattle.node_messages.specs.Message.{putOf, outputAfter}

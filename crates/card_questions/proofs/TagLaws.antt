@@ -1,6 +1,6 @@
 -- A search by a tag finds what a search among the nodes finds.
-use mathlib.Core.Path.{_≡_, refl, sym, _∙_, ap}
-use mathlib.Core.Bool.{Bool, true, false, cond, _&&_, and-true, and-false}
+use mathlib.Core.Path.{_≡_, refl, sym, _∙_}
+use mathlib.Core.Bool.{Bool, true, false, _&&_, and-true, and-false}
 use mathlib.Core.List.{List, [], _∷_, map}
 use Prim.Native.Nat.{ℕ, suc, _+_, _*_, _<_}
 use native.Mathlib.Omega.{arith}
@@ -12,7 +12,7 @@ use Rattle.card_nodes.specs.declared.node.Entry.{Entry}
 use Rattle.card_nodes.specs.declared.node.Entry.the-variants.{Area, Service}
 use Rattle.card_nodes.specs.declared.node.Node.{Node}
 use Rattle.card_nodes.specs.declared.find.Found.{Found}
-use Rattle.card_nodes.specs.declared.find.Found.the-variants.{At, Nothing}
+use Rattle.card_nodes.specs.declared.find.Found.the-variants.{At}
 use Rattle.card_nodes.specs.Node.{isArea, isService}
 use Rattle.card_nodes.specs.Find.{firstFrom, isServiceOf, isAreaOf, serviceOf, areaOf}
 use Rattle.card_nodes.proofs.Scan.{Left, here, turn}

@@ -1,9 +1,7 @@
 -- What the search of all finds is what that of the tags left finds.
-use mathlib.Core.Path.{_≡_, sym, _∙_}
 use Prim.Native.Nat.{_-_}
 use native.Mathlib.Omega.{arith}
 use lib.ListN.{length}
-use borrow.Author.Needs.{needs}
 use Rattle.card_nodes.proofs.Scan.{done}
 use Rattle.card_questions.specs.Tags.{firstTag}
 use Rattle.card_questions.proofs.TagLaws.{Sought, none-sought, tag-hit, tag-missed}

@@ -1,11 +1,10 @@
 -- After i turns i totals are written.
-use mathlib.Core.Path.{_≡_, refl, sym, _∙_}
+use mathlib.Core.Path.{_≡_, refl, sym}
 use mathlib.Core.List.{map}
 use Prim.Native.Nat.{_-_, _≤_}
 use native.Mathlib.Omega.{arith}
 use lib.ListN.{length, length-set}
 use denote.Ref.{now}
-use borrow.Author.Needs.{needs}
 use Rattle.byte_parts.specs.Part.{put}
 use Rattle.byte_parts.proofs.Part.{put-zero}
 use Rattle.card_questions.specs.Table.{OfColumns}
