@@ -8,3 +8,4 @@ pub mod Lines
 pub mod Inspections
 pub mod Boards
 pub mod Library
+pub mod Salvages
