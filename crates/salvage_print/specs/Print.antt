@@ -16,9 +16,9 @@ use Rattle.salvage_print.specs.declared.Spot.the-variants.{Full, At}
 
 -- why a line is gone: `parent`, or a number; a kept line is not told
 abbrev pub saidOf : ℕ → Fate → List ℕ
-saidOf n Kept = []
-saidOf n Parent = closed 9 (decText n) ++ closed 10 (112 ∷ 97 ∷ 114 ∷ 101 ∷ 110 ∷ 116 ∷ [])
-saidOf n (Number m) = closed 9 (decText n) ++ closed 10 (decText m)
+saidOf line Kept = []
+saidOf line Parent = closed 9 (decText line) ++ closed 10 (112 ∷ 97 ∷ 114 ∷ 101 ∷ 110 ∷ 116 ∷ [])
+saidOf line (Number m) = closed 9 (decText line) ++ closed 10 (decText m)
 
 -- a notice's line: 0 and `added`, or the line's number and why
 abbrev pub noticeText : Notice → List ℕ
