@@ -13,7 +13,7 @@ use Rattle.block_list.specs.declared.element.BlockListElement.{BlockList
 use Rattle.block_list.specs.declared.element.Unpacked.{Unpacked}
 use Rattle.block_list.specs.declared.element.Unpacked.the-variants.{Element, Short}
 use Rattle.block_list.proofs.ListsLaws.{ends-short, ends-element}
-use Rattle.block_list.specs.Read.{placePast}
+use Rattle.block_list.specs.Read.{elementPast}
 
 -- the number left, and one less
 module _ (n : ℕ) where
@@ -68,7 +68,7 @@ module _ (s : List ℕ) (count : ℕ) where
     abbrev pub turned : (e : BlockListElement) (m : ℕ) → Element e m ≡ unpackAt s p → Turn
     turned e m h = record {
       left = n;
-      at = placePast (unpackAt s p) p;
+      at = elementPast (unpackAt s p) p;
       fits = still-fits n fits;
-      same = same ∙ ends-element s p refl (sym h) ∙ ap (λ (u : Unpacked). endsFrom s n (placePast u p)) h;
+      same = same ∙ ends-element s p refl (sym h) ∙ ap (λ (u : Unpacked). endsFrom s n (elementPast u p)) h;
     }

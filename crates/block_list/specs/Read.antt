@@ -10,20 +10,20 @@ use Rattle.block_list.specs.Element.{afterElement, unpackAt}
 use Rattle.block_list.specs.declared.reader.Reader.{Reader}
 
 -- at first nothing is taken
-abbrev pub atStart : RefT (List ℕ) → Reader
-atStart list = record { list = list; at = 0 }
+abbrev pub readerAtStart : RefT (List ℕ) → Reader
+readerAtStart list = record { list = list; at = 0 }
 
 -- the element that stands at the reader's place, or too few bytes for one
 abbrev pub nextOf : Reader → Unpacked
 nextOf r = unpackAt (now (r .list)) (r .at)
 
 -- the place past an element; where there is none, the same place
-abbrev pub placePast : Unpacked → ℕ → ℕ
-placePast u at = afterElement at (λ e next. next) u
+abbrev pub elementPast : Unpacked → ℕ → ℕ
+elementPast u at = afterElement at (λ e next. next) u
 
 -- the same list, with the next element taken
 abbrev pub movedOn : Reader → Reader
-movedOn r = record { list = r .list; at = placePast (nextOf r) (r .at) }
+movedOn r = record { list = r .list; at = elementPast (nextOf r) (r .at) }
 
 -- all bytes are taken
 abbrev pub finished : Reader → Bool

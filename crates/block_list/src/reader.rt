@@ -4,7 +4,7 @@ use crate::element;
 use crate::element::Unpacked;
 ghost use mathlib.Core.Path.{_≡_};
 ghost use Rattle.block_list.specs.Element.{endsAfter};
-ghost use Rattle.block_list.specs.Read.{atStart, nextOf, placePast, movedOn, finished};
+ghost use Rattle.block_list.specs.Read.{readerAtStart, nextOf, elementPast, movedOn, finished};
 
 // The caller's list bytes, and a place in them: all before it is taken.
 pub struct Reader<'a> {
@@ -14,7 +14,7 @@ pub struct Reader<'a> {
 
 // Gives the place past what was taken at `at`; where that was no element, `at` itself.
 fn place_past(taken: Unpacked, at: usize) -> usize
-    ensures { λ r. ⌜ r ≡ placePast taken at ⌝ }
+    ensures { λ r. ⌜ r ≡ elementPast taken at ⌝ }
 {
     match taken {
         Unpacked::Short => at,
@@ -25,7 +25,7 @@ fn place_past(taken: Unpacked, at: usize) -> usize
 impl<'a> Reader<'a> {
     // Starts at the front of a list.
     pub fn new(list: &'a [u8]) -> Reader<'a>
-        ensures { λ r. ⌜ r ≡ atStart (list .entry) ⌝ }
+        ensures { λ r. ⌜ r ≡ readerAtStart (list .entry) ⌝ }
     {
         Reader { list, at: 0 }
     }

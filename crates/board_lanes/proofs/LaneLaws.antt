@@ -12,7 +12,7 @@ use Rattle.board_lanes.specs.declared.lanes.Judged.the-variants.{Sound, 
 use lib.Dec.{eqb}
 use lib.ListN.{length, getD, drop, length-take}
 use Rattle.byte_parts.specs.Part.{part}
-use Rattle.board_lanes.specs.Board.{blockAt, isEmpty, raceOf, areCrew, crewBytes, blockJudged, laneJudged, andThen, lanesJudged, ofRace, sameRace, oneRace, crewLength, crewOf, Lane, empty, filled, laneOf, lanesFrom}
+use Rattle.board_lanes.specs.Board.{blockAt, isEmpty, raceOf, areCrew, crewBytes, filledJudged, laneJudged, andThen, lanesJudged, ofRace, sameRace, oneRace, crewLength, crewOf, Lane, empty, filled, laneOf, lanesFrom}
 
 -- What is judged first, then next, then last.
 pub then-then : (a b c : Judged) → andThen (andThen a b) c ≡ andThen a (andThen b c)
@@ -67,20 +67,20 @@ module _ (bytes : List ℕ) (k : ℕ) where
 
 -- A filled block, by its first test that fails.
 module _ (k : ℕ) (b : List ℕ) where
-  pub block-lane : eqb (getD b 0 0) (k + 1) ≡ false → blockJudged k b ≡ Refused WrongLane
-  unfolding blockJudged
+  pub block-lane : eqb (getD b 0 0) (k + 1) ≡ false → filledJudged k b ≡ Refused WrongLane
+  unfolding filledJudged
   block-lane p = rw p
 
-  pub block-crew : eqb (getD b 0 0) (k + 1) ≡ true → areCrew (crewBytes b) ≡ false → blockJudged k b ≡ Refused BadCrew
-  unfolding blockJudged
+  pub block-crew : eqb (getD b 0 0) (k + 1) ≡ true → areCrew (crewBytes b) ≡ false → filledJudged k b ≡ Refused BadCrew
+  unfolding filledJudged
   block-crew p q = rw (p, q)
 
-  pub block-tail : eqb (getD b 0 0) (k + 1) ≡ true → areCrew (crewBytes b) ≡ true → eqb (getD b 15 0) 0 ≡ false → blockJudged k b ≡ Refused TailNotZero
-  unfolding blockJudged
+  pub block-tail : eqb (getD b 0 0) (k + 1) ≡ true → areCrew (crewBytes b) ≡ true → eqb (getD b 15 0) 0 ≡ false → filledJudged k b ≡ Refused TailNotZero
+  unfolding filledJudged
   block-tail p q r = rw (p, q, r)
 
-  pub block-sound : eqb (getD b 0 0) (k + 1) ≡ true → areCrew (crewBytes b) ≡ true → eqb (getD b 15 0) 0 ≡ true → blockJudged k b ≡ Sound
-  unfolding blockJudged
+  pub block-sound : eqb (getD b 0 0) (k + 1) ≡ true → areCrew (crewBytes b) ≡ true → eqb (getD b 15 0) 0 ≡ true → filledJudged k b ≡ Sound
+  unfolding filledJudged
   block-sound p q r = rw (p, q, r)
 
 -- One lane more.

@@ -9,7 +9,7 @@ use lib.Seq.{length-take-le, take-append-add}
 use Rattle.byte_parts.specs.Part.{put, padded}
 use Rattle.byte_parts.proofs.Put.{put-two, put-append}
 use Rattle.board_lanes.specs.Board.{Lane, empty, filled, blockAt, laneOf, lanesFrom}
-use Rattle.board_lanes.specs.Records.{headOf, laneRecord, lanesRecords}
+use Rattle.board_lanes.specs.Records.{laneHead, laneRecord, lanesRecords}
 use Rattle.board_lanes.proofs.LaneLaws.{lanes-more, lanes-count}
 
 -- One record more.
@@ -58,7 +58,7 @@ padded-long t = length-take-le 12 (t ++ replicate 12 0) (omega (arith, length-ap
 
 record-long : (l : Lane) → length (laneRecord l) ≡ 16
 record-long empty = refl
-record-long (filled race crew) = omega (arith, length-append (headOf race crew) (padded 12 crew), padded-long crew)
+record-long (filled race crew) = omega (arith, length-append (laneHead race crew) (padded 12 crew), padded-long crew)
 
 records-long : (ls : List Lane) → length (lanesRecords ls) ≡ 16 * length ls
 unfolding lanesRecords
@@ -68,11 +68,11 @@ records-long (l ∷ ls) = omega (arith, length-append (laneRecord l) (lanesRecor
 -- A filled lane's record, put in three pieces.
 pub filled-record
     : (d : List ℕ) (at race : ℕ) (crew : List ℕ) {d1 d2 d3 : List ℕ} → length crew ≤ 12
-    → d1 ≡ put d at 4 (headOf race crew) → d2 ≡ put d1 (at + 4) (length crew) crew
+    → d1 ≡ put d at 4 (laneHead race crew) → d2 ≡ put d1 (at + 4) (length crew) crew
     → d3 ≡ put d2 (at + 4 + length crew) (12 - length crew) (replicate (12 - length crew) 0)
-    → d3 ≡ put d at 16 (headOf race crew ++ padded 12 crew)
+    → d3 ≡ put d at 16 (laneHead race crew ++ padded 12 crew)
 filled-record d at race crew {d1} {d2} {d3} most p q r =
-    let h = headOf race crew in
+    let h = laneHead race crew in
     let z = replicate {A = ℕ} (12 - length crew) 0 in
     let n : length z ≡ 12 - length crew = length-replicate (12 - length crew) 0 in
     let a : at + 4 + length crew ≡ at + length (h ++ crew) = omega (arith, length-append h crew) in

@@ -39,15 +39,15 @@ abbrev pub crewBytes : List ℕ → List ℕ
 crewBytes b = part b 3 12
 
 -- a filled block: 41 for another lane's byte, then 42 for its crew, then 43 for its last byte
-unfoldable pub blockJudged : ℕ → List ℕ → Judged
-blockJudged k b =
+unfoldable pub filledJudged : ℕ → List ℕ → Judged
+filledJudged k b =
     cond (not (eqb (getD b 0 0) (k + 1))) (Refused WrongLane)
     (cond (not (areCrew (crewBytes b))) (Refused BadCrew)
     (cond (not (eqb (getD b 15 0) 0)) (Refused TailNotZero)
     Sound))
 
 unfoldable pub laneJudged : ℕ → List ℕ → Judged
-laneJudged k b = cond (isEmpty b) Sound (blockJudged k b)
+laneJudged k b = cond (isEmpty b) Sound (filledJudged k b)
 
 -- what follows, where nothing is wrong so far
 abbrev pub andThen : Judged → Judged → Judged
@@ -79,8 +79,8 @@ unfoldable pub racesJudged : List ℕ → Judged
 racesJudged bytes = cond (oneRace bytes 8 0) Sound (Refused RacesDiffer)
 
 -- 40 comes last
-unfoldable pub judgedOf : List ℕ → Judged
-judgedOf bytes = andThen (lanesJudged bytes 8 0) (racesJudged bytes)
+unfoldable pub boardJudged : List ℕ → Judged
+boardJudged bytes = andThen (lanesJudged bytes 8 0) (racesJudged bytes)
 
 -- how long a crew is without its trailing spaces (32)
 unfoldable pub crewLength : List ℕ → ℕ
@@ -116,4 +116,4 @@ boardBy bytes Sound = lanes (lanesOf bytes)
 boardBy bytes (Refused x) = refused x
 
 unfoldable pub boardOf : List ℕ → Board
-boardOf bytes = boardBy bytes (judgedOf bytes)
+boardOf bytes = boardBy bytes (boardJudged bytes)

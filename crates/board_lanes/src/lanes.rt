@@ -8,7 +8,7 @@ use crate::block::race;
 use crate::refusal::BoardRefusal;
 ghost use mathlib.Core.Path.{_≡_};
 ghost use Prim.Native.Nat.{_-_, _<_};
-ghost use Rattle.board_lanes.specs.Board.{blockJudged, laneJudged, andThen, lanesJudged, ofRace, sameRace, oneRace, racesJudged, judgedOf};
+ghost use Rattle.board_lanes.specs.Board.{filledJudged, laneJudged, andThen, lanesJudged, ofRace, sameRace, oneRace, racesJudged, boardJudged};
 
 // How blocks were judged: they make a board, or not.
 pub enum Judged {
@@ -19,7 +19,7 @@ pub enum Judged {
 // Judges the filled block of lane k + 1: its lane byte, then its crew, then its last byte.
 fn judge_block(b: &[u8], k: usize) -> Judged
     requires { ⌜ k < 8 ⌝ }
-    ensures { λ r. ⌜ r ≡ blockJudged k (now (b .entry)) ⌝ }
+    ensures { λ r. ⌜ r ≡ filledJudged k (now (b .entry)) ⌝ }
 {
     let lane = byte(b, 0) == k as u64 + 1;
     let printed = are_crew(crew(b));
@@ -120,7 +120,7 @@ fn judge_races(bytes: &[u8]) -> Judged
 
 // Judges the eight blocks of a board: each lane, and last the races.
 pub fn judge(bytes: &[u8]) -> Judged
-    ensures { λ r. ⌜ r ≡ judgedOf (now (bytes .entry)) ⌝ }
+    ensures { λ r. ⌜ r ≡ boardJudged (now (bytes .entry)) ⌝ }
 {
     let lanes = judge_lanes(bytes);
     let races = judge_races(bytes);

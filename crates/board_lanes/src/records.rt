@@ -9,12 +9,12 @@ ghost use Prim.Native.Nat.{_+_, _≤_};
 ghost use lib.ListN.{length};
 ghost use Rattle.byte_parts.specs.Part.{put};
 ghost use Rattle.board_lanes.specs.Board.{raceOf, crewOf, laneOf, lanesOf};
-ghost use Rattle.board_lanes.specs.Records.{headOf, laneRecord, lanesRecords};
+ghost use Rattle.board_lanes.specs.Records.{laneHead, laneRecord, lanesRecords};
 
 // Puts the first four bytes of a filled lane's record: 1, the crew's length, and the race low byte first.
 fn put_head(b: &[u8], out: &mut [u8], at: usize)
     requires { ⌜ at + 4 ≤ length (now out) ⌝ }
-    ensures { λ _. ⌜ now (out .exit) ≡ put (now (out .entry)) at 4 (headOf (raceOf (now (b .entry))) (crewOf (now (b .entry)))) ⌝ }
+    ensures { λ _. ⌜ now (out .exit) ≡ put (now (out .entry)) at 4 (laneHead (raceOf (now (b .entry))) (crewOf (now (b .entry)))) ⌝ }
 {
     let number = race(b);
     let n = crew_of(b).len();

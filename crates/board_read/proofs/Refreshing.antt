@@ -15,7 +15,7 @@ use Rattle.request_plan.specs.declared.Reply.{Reply}
 use Rattle.request_plan.specs.declared.Reply.the-variants as replies
 use Rattle.request_plan.specs.Serve.{Served, lengthRead, outputAfter}
 use Rattle.request_plan.proofs.ReadLaws.{ReadSaid, read-said}
-use Rattle.board_lanes.specs.Board.{judgedOf}
+use Rattle.board_lanes.specs.Board.{boardJudged}
 use Rattle.board_read.specs.declared.Refreshed.the-variants.{Board, Card as ByCard}
 use Rattle.board_read.specs.Refresh.{eightBlocks, boardRequest, boardServed, refreshedBy, refreshedAfter, refreshed, blocksAfter}
 
@@ -41,7 +41,7 @@ module _ (card : Card) (arena : List ℕ) (code room : ℕ) where
     by-fault d = rw (sym e ∙ d, d)
 
   -- The blocks were read.
-  pub by-blocks : replied ≡ replies.Done → refreshed card arena code room ≡ refreshedBy (judgedOf (boardServed card arena code room .read))
+  pub by-blocks : replied ≡ replies.Done → refreshed card arena code room ≡ refreshedBy (boardJudged (boardServed card arena code room .read))
   unfolding refreshed
   by-blocks e = rw e
 

@@ -11,7 +11,7 @@ use Rattle.request_plan.specs.Request.{Request, readRequest}
 use Rattle.request_plan.specs.Serve.{Served, serve, outputAfter}
 use Rattle.board_lanes.specs.declared.lanes.Judged.{Judged}
 use Rattle.board_lanes.specs.declared.lanes.Judged.the-variants as judged
-use Rattle.board_lanes.specs.Board.{judgedOf}
+use Rattle.board_lanes.specs.Board.{boardJudged}
 use Rattle.board_read.specs.declared.Refreshed.{Refreshed}
 use Rattle.board_read.specs.declared.Refreshed.the-variants.{Board, NoBoard, Card as ByCard}
 
@@ -34,7 +34,7 @@ refreshedBy (judged.Refused x) = NoBoard x
 -- the card's own answer comes first
 abbrev pub refreshedAfter : Served → Reply → Refreshed
 refreshedAfter served (replies.Refused r) = ByCard (replies.Refused r)
-refreshedAfter served replies.Done = refreshedBy (judgedOf (served .read))
+refreshedAfter served replies.Done = refreshedBy (boardJudged (served .read))
 refreshedAfter served replies.ShortData = ByCard replies.ShortData
 refreshedAfter served (replies.Failed i f) = ByCard (replies.Failed i f)
 

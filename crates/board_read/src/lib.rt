@@ -10,7 +10,7 @@ ghost use mathlib.Core.List.{[], _∷_};
 ghost use lib.ListN.{length};
 ghost use Rattle.request_plan.specs.Request.{readRequest};
 ghost use Rattle.request_plan.specs.Serve.{serve, outputAfter};
-ghost use Rattle.board_lanes.specs.Board.{judgedOf};
+ghost use Rattle.board_lanes.specs.Board.{boardJudged};
 ghost use Rattle.board_read.specs.Refresh.{eightBlocks, refreshedBy, refreshed, blocksAfter};
 
 // What a refresh came to: a board, whose blocks were read; blocks that make none, and why; or the card's own answer, with no block read.
@@ -22,7 +22,7 @@ pub enum Refreshed {
 
 // Tells what eight blocks make.
 fn made(bytes: &[u8]) -> Refreshed
-    ensures { λ r. ⌜ r ≡ refreshedBy (judgedOf (now (bytes .entry))) ⌝ }
+    ensures { λ r. ⌜ r ≡ refreshedBy (boardJudged (now (bytes .entry))) ⌝ }
 {
     match lanes::judge(bytes) {
         Judged::Sound => Refreshed::Board,

@@ -25,7 +25,7 @@ use Rattle.card_build.specs.declared.card.Card.{Card}
 use Rattle.card_build.specs.declared.card.Added.{Added}
 use Rattle.card_build.specs.declared.build.Growth.{Growth}
 use Rattle.card_build.specs.Card.{nodesOf, isSound, grown, accepted, refused}
-use Rattle.card_build.specs.Grow.{nodeAs, growthOf, grownBy, addArea, aheadOf, serviceBy, addService, lastOf, setLimit}
+use Rattle.card_build.specs.Grow.{nodeAs, growthOf, grownBy, addArea, aheadOfService, serviceBy, addService, lastNode, setLimit}
 use Rattle.card_build.specs.Build.{areaAdded, serviceAdded, arenaAdded, limitAdded}
 use Rattle.card_build.proofs.Accepted.{not-done}
 
@@ -63,9 +63,9 @@ unless c rest Done = rest
 
 -- 8, 7 and 20 as one answer
 as-one : (c : Card) (rest : Added) (sound short full : Bool) →
-    unless c rest (aheadOf sound short full)
+    unless c rest (aheadOfService sound short full)
     ≡ cond (not sound) (refused c NotBuilt) (cond short (refused c ShortArena) (cond full (refused c TableFull) rest))
-unfolding aheadOf
+unfolding aheadOfService
 as-one c rest false short full = refl
 as-one c rest true true full = refl
 as-one c rest true false true = refl
@@ -77,9 +77,9 @@ pub record Clear (arenaLen used count : ℕ) : Type 0 where
   pub free : count < 64
 
 -- what the tests say then
-clear : (arenaLen used count : ℕ) (s k f : Bool) → ltb (arenaLen / 16) used ≡ k → leb 64 count ≡ f → aheadOf s k f ≡ Done →
+clear : (arenaLen used count : ℕ) (s k f : Bool) → ltb (arenaLen / 16) used ≡ k → leb 64 count ≡ f → aheadOfService s k f ≡ Done →
     Clear arenaLen used count
-unfolding aheadOf
+unfolding aheadOfService
 clear arenaLen used count false k f a b e = absurd (not-done e)
 clear arenaLen used count true true f a b e = absurd (not-done e)
 clear arenaLen used count true false true a b e = absurd (not-done e)
@@ -97,14 +97,14 @@ module _ (c : Card) (arenaLen depth code blocks version : ℕ) where
   given = agreed (c .system .join) blocks (placedOf (nodesOf c) (c .used) arenaLen depth code blocks)
 
   -- the definition: what is ahead, then the placing
-  ordered : unless c (serviceBy c depth code version given) (aheadOf (isSound c) (ltb (arenaLen / 16) (c .used)) (leb 64 (c .count)))
+  ordered : unless c (serviceBy c depth code version given) (aheadOfService (isSound c) (ltb (arenaLen / 16) (c .used)) (leb 64 (c .count)))
       ≡ serviceAdded c arenaLen depth code blocks version
   unfolding serviceAdded addService
   ordered =
       as-one c (serviceBy c depth code version given) (isSound c) (ltb (arenaLen / 16) (c .used)) (leb 64 (c .count))
       ∙ rw (by-blocks arenaLen (c .used) (ltb (arenaLen / 16) (c .used)) refl)
 
-  module _ {a : Answer} (told : a ≡ aheadOf (isSound c) (ltb (arenaLen / 16) (c .used)) (leb 64 (c .count))) where
+  module _ {a : Answer} (told : a ≡ aheadOfService (isSound c) (ltb (arenaLen / 16) (c .used)) (leb 64 (c .count))) where
     -- once nothing is ahead the arena is long enough, and a record is free
     pub service-clear : a ≡ Done → Clear arenaLen (c .used) (c .count)
     service-clear e =
@@ -150,13 +150,13 @@ module _ (c : Card) (upper lower : ℤ) (generation : ℕ) where
   limit-unsound h = rw h
 
   -- 28 for an area
-  pub limit-refused : {e : ℕ} (n : Node) → isSound c ≡ true → n ≡ lastOf c → n .entry ≡ Area e →
+  pub limit-refused : {e : ℕ} (n : Node) → isSound c ≡ true → n ≡ lastNode c → n .entry ≡ Area e →
       refused c NotAService ≡ limitAdded c upper lower generation
   unfolding limitAdded setLimit
   limit-refused n h k e = rw (h, ← k, e)
 
   -- a service gets the limit, and nothing else is changed
-  pub limit-set : {s b : ℕ} {l : Limit} (n : Node) → isSound c ≡ true → n ≡ lastOf c → n .entry ≡ Service s b l →
+  pub limit-set : {s b : ℕ} {l : Limit} (n : Node) → isSound c ≡ true → n ≡ lastNode c → n .entry ≡ Service s b l →
       with-last c (nodeAs (n .depth) (n .code) (n .version) (Service s b (Limited upper lower generation))) ≡ limitAdded c upper lower generation
   unfolding limitAdded setLimit
   limit-set n h k e = rw (h, ← k, e, ← k)

@@ -45,8 +45,8 @@ addArea c depth code end version =
     (areaBy c (nodeAs depth code version (Area end)) (areaJudged (nodesOf c) depth code end))
 
 -- what comes ahead of a service's own refusals: 8 of a card that is not sound, 7 of an arena that is short, 20 of a card that is full
-unfoldable pub aheadOf : Bool → Bool → Bool → Answer
-aheadOf sound short full =
+unfoldable pub aheadOfService : Bool → Bool → Bool → Answer
+aheadOfService sound short full =
     cond (not sound) (Refused NotBuilt)
     (cond short (Refused ShortArena)
     (cond full (Refused TableFull)
@@ -65,14 +65,14 @@ addService c arenaLen depth code blocks version =
     (serviceBy c depth code version (agreed (c .system .join) blocks (placedOf (nodesOf c) (c .used) arenaLen depth code blocks))))
 
 -- the node added last
-abbrev pub lastOf : Card → Node
-lastOf c = getD (c .nodes) (c .count - 1) rootNode
+abbrev pub lastNode : Card → Node
+lastNode c = getD (c .nodes) (c .count - 1) rootNode
 
 -- 28 for an area
 abbrev pub limitBy : Card → Limit → Entry → Added
 limitBy c l (Area e) = refused c NotAService
 limitBy c l (Service s b old) = accepted (record {
-  nodes = set (c .nodes) (c .count - 1) (nodeAs (lastOf c .depth) (lastOf c .code) (lastOf c .version) (Service s b l));
+  nodes = set (c .nodes) (c .count - 1) (nodeAs (lastNode c .depth) (lastNode c .code) (lastNode c .version) (Service s b l));
   count = c .count;
   used = c .used;
   system = c .system;
@@ -80,4 +80,4 @@ limitBy c l (Service s b old) = accepted (record {
 
 -- a limit goes to the node added last and replaces an earlier one; any two bounds are accepted
 unfoldable pub setLimit : Card → ℤ → ℤ → ℕ → Added
-setLimit c upper lower generation = limitBy c (Limited upper lower generation) (lastOf c .entry)
+setLimit c upper lower generation = limitBy c (Limited upper lower generation) (lastNode c .entry)

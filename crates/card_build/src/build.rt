@@ -17,7 +17,7 @@ ghost use Rattle.service_code.specs.declared.limit.Limit.the-variants.{Limited}
 ghost use Rattle.byte_parts.specs.Part.{put};
 ghost use Rattle.card_nodes.specs.declared.node.Entry.the-variants.{Service};
 ghost use Rattle.card_build.specs.Card.{refused};
-ghost use Rattle.card_build.specs.Grow.{nodeAs, growthOf, grownBy, aheadOf};
+ghost use Rattle.card_build.specs.Grow.{nodeAs, growthOf, grownBy, aheadOfService};
 ghost use Rattle.card_build.specs.Build.{areaAdded, serviceAdded, limitAdded, arenaAdded};
 
 // What an addition makes of a card: its next record, and how many records and blocks are then in use.
@@ -53,7 +53,7 @@ fn is_short(arena_len: usize, used: usize) -> bool
 
 // What is refused ahead of a service's own refusals, in an arena of `arena_len` bytes, or nothing.
 fn ahead(sound: bool, arena_len: usize, used: usize, full: bool) -> Answer
-    ensures { λ r. ⌜ r ≡ aheadOf sound (ltb («arena_len» / 16) used) full ⌝ }
+    ensures { λ r. ⌜ r ≡ aheadOfService sound (ltb («arena_len» / 16) used) full ⌝ }
 {
     // 8
     if !sound {

@@ -7,7 +7,7 @@ use native.Mathlib.Omega.{arith}
 use lib.ListN.{length, take, drop, drop-of-length-le}
 use borrow.Author.Tests.{leb-true, ne-eqb}
 use Rattle.answers.specs.declared.refusal.Refusal.the-variants.{PacketPastEnd}
-use Rattle.node_messages.specs.CodeList.{rangesOf, codesOf, listTold, listRefused}
+use Rattle.node_messages.specs.CodeList.{rangesOf, codesListed, listTold, listRefused}
 use Rattle.card_nodes.specs.declared.node.Node.{Node}
 use Rattle.card_nodes.specs.declared.find.Found.the-variants.{At}
 use Rattle.card_questions.specs.ListingWorded.{pairsOf}
@@ -16,7 +16,7 @@ use Rattle.card_build.specs.Card.{nodesOf}
 use Rattle.card_laws.specs.Built.{Built}
 use Rattle.card_laws.proofs.Built.{built-sound}
 use Rattle.card_laws.specs.Children.{areaNamed, childrenAt}
-use Rattle.card_lists.specs.Packet.{among, rangesAmong, codesAmong, listOf, packetOf, pastEnd, moreAfter, packetTold, codeListOf, joined}
+use Rattle.card_lists.specs.Packet.{among, rangesAmong, codesAmong, listOf, packetOf, pastEnd, moreAfter, packetTold, codeListOf, packetsJoined}
 use Rattle.card_lists.proofs.Packets.{packet-few, list-ranges, list-codes, ranges-all, codes-all}
 
 -- a packet past the end has no child
@@ -37,18 +37,18 @@ told-ranges children p = by (pastEnd p (length children)) refl
     by true e = rw (past-empty children p e)
     by false e = list-ranges (moreAfter p (length children)) (packetOf children p) (packet-few children p)
 
-told-codes : (children : List Node) (p : ℕ) → codesOf (packetTold children p .list) ≡ codesAmong (packetOf children p)
+told-codes : (children : List Node) (p : ℕ) → codesListed (packetTold children p .list) ≡ codesAmong (packetOf children p)
 unfolding packetTold among
 told-codes children p = by (pastEnd p (length children)) refl
   where
     by : (t : Bool) → pastEnd p (length children) ≡ t →
-        codesOf (cond t (listRefused PacketPastEnd) (listTold (listOf (moreAfter p (length children)) (packetOf children p))) .list) ≡ codesAmong (packetOf children p)
+        codesListed (cond t (listRefused PacketPastEnd) (listTold (listOf (moreAfter p (length children)) (packetOf children p))) .list) ≡ codesAmong (packetOf children p)
     by true e = rw (past-empty children p e)
     by false e = list-codes (moreAfter p (length children)) (packetOf children p) (packet-few children p)
 
 -- packets that tell the same are the same one after the other
-same-joined : {A : Type 0} (f g : ℕ → List A) → ((p : ℕ) → f p ≡ g p) → (k : ℕ) → joined f k ≡ joined g k
-unfolding joined
+same-joined : {A : Type 0} (f g : ℕ → List A) → ((p : ℕ) → f p ≡ g p) → (k : ℕ) → packetsJoined f k ≡ packetsJoined g k
+unfolding packetsJoined
 same-joined f g e zero = refl
 same-joined f g e (suc k) = rw (same-joined f g e k, e k)
 
@@ -60,11 +60,11 @@ module _ {c : Card} (b : Built c) (parent : ℕ) {i : ℕ} (found : areaNamed (n
 
   module _ (k : ℕ) (h : length (childrenAt (nodesOf c) i) ≤ 16 * k) where
     -- packets 0 to k - 1 tell every area among the children once, in tree order
-    pub all-areas : joined (λ p. rangesOf (codeListOf c parent p .list)) k ≡ rangesAmong (childrenAt (nodesOf c) i)
+    pub all-areas : packetsJoined (λ p. rangesOf (codeListOf c parent p .list)) k ≡ rangesAmong (childrenAt (nodesOf c) i)
     all-areas =
         same-joined _ _ (λ p. rw (answers p) (told-ranges (childrenAt (nodesOf c) i) p)) k ∙ ranges-all (childrenAt (nodesOf c) i) k h
 
     -- and every service
-    pub all-services : joined (λ p. codesOf (codeListOf c parent p .list)) k ≡ codesAmong (childrenAt (nodesOf c) i)
+    pub all-services : packetsJoined (λ p. codesListed (codeListOf c parent p .list)) k ≡ codesAmong (childrenAt (nodesOf c) i)
     all-services =
         same-joined _ _ (λ p. rw (answers p) (told-codes (childrenAt (nodesOf c) i) p)) k ∙ codes-all (childrenAt (nodesOf c) i) k h

@@ -34,7 +34,7 @@ use Rattle.card_laws.proofs.Built.{built-sound}
 use Rattle.card_laws.specs.Children.{areaNamed, childrenUnder, childrenAt}
 use Rattle.card_lists.specs.Coded.{Coded}
 use Rattle.card_lists.specs.Packet.{among, areasAmong, servicesAmong, rangesAmong, codesAmong, listOf, packetOf, pastEnd, moreAfter, packetTold, listFound, codeListOf}
-use Rattle.card_lists.specs.Information.{freeBy, freeFor, informationOf, blocksOf}
+use Rattle.card_lists.specs.Information.{freeBy, freeFor, informationOf, blocksTold}
 use Rattle.card_lists.proofs.Packets.{packet-few}
 use Rattle.card_lists.proofs.Packets as packets
 
@@ -179,9 +179,9 @@ module _ (ns : List Node) (unused : ℕ) (asked : List ℕ) (h : unused < 2 ^ 16
   info-back = information-back info-fits ∙ ap informationTold (information-whole info-whole)
 
 -- block information that a card tells, written and read, comes back
-pub blocks-back : (c : Card) (arenaLen : ℕ) (asked : List ℕ) → blocksOf c arenaLen asked .answer ≡ Done →
-    readInformation (informationBytes (blocksOf c arenaLen asked .told)) ≡ blocksOf c arenaLen asked
-unfolding blocksOf
+pub blocks-back : (c : Card) (arenaLen : ℕ) (asked : List ℕ) → blocksTold c arenaLen asked .answer ≡ Done →
+    readInformation (informationBytes (blocksTold c arenaLen asked .told)) ≡ blocksTold c arenaLen asked
+unfolding blocksTold
 blocks-back c arenaLen asked = by (isSound c) (ltb arenaLen (16 * c .used)) (ltb 32 (length asked)) refl
   where
     by : (t u v : Bool) → ltb 32 (length asked) ≡ v →

@@ -15,16 +15,16 @@ use Rattle.card_build.specs.declared.card.Card.{Card}
 use Rattle.card_build.specs.Card.{nodesOf, isSound}
 use Rattle.card_laws.specs.Children.{areaNamed}
 use Rattle.card_laws.proofs.Room.{above-free, within-free}
-use Rattle.card_lists.specs.Information.{blocksOf}
+use Rattle.card_lists.specs.Information.{blocksTold}
 
 -- the free count that is told of one node
 abbrev freeTold : Card → ℕ → ℕ → ℕ
-freeTold c arenaLen code = getD (blocksOf c arenaLen (code ∷ []) .told .free) 0 0
+freeTold c arenaLen code = getD (blocksTold c arenaLen (code ∷ []) .told .free) 0 0
 
 module _ (c : Card) (arenaLen code : ℕ) {i : ℕ} (s : isSound c ≡ true) (h : 16 * c .used ≤ arenaLen) (a : areaNamed (nodesOf c) code ≡ At i) where
   -- of an area it is the usable blocks of this arena that are not in use
   free-told : freeTold c arenaLen code ≡ usable arenaLen - c .used
-  unfolding blocksOf padded
+  unfolding blocksTold padded
   free-told = rw (s, le-ltb arenaLen (16 * c .used) h, a)
 
   -- a new store of more is refused with 22

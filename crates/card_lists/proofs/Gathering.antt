@@ -24,7 +24,7 @@ use Rattle.card_questions.specs.ListingWorded.{pairsOf}
 use Rattle.card_laws.proofs.UnderLaws.{le-or-lt}
 use Rattle.card_lists.specs.declared.gather.Gathered.{Gathered}
 use Rattle.card_laws.specs.Children.{childrenUnder}
-use Rattle.card_lists.specs.Gather.{nothingGathered, areaAdded, serviceAdded, childBy, childAdded, nodeAdded, gatheredFrom}
+use Rattle.card_lists.specs.Gather.{nothingGathered, areaGathered, serviceGathered, childBy, childAdded, nodeAdded, gatheredFrom}
 use Rattle.card_lists.specs.Packet.{among, areasAmong, servicesAmong, rangesAmong, codesAmong, listOf}
 use Rattle.card_lists.proofs.Among.{among-append, pairs-append, map-append, pairs-long, all-among, ranges-long, codes-long}
 
@@ -34,7 +34,7 @@ module _ (xs : List Node) (n : Node) (h : length xs < 16) where
   areas-few = omega (arith, all-among xs)
 
   -- an area
-  one-area : (e : ℕ) → n .entry ≡ Area e → areaAdded (listOf false xs) (n .code) e ≡ listOf false (xs ++ (n ∷ []))
+  one-area : (e : ℕ) → n .entry ≡ Area e → areaGathered (listOf false xs) (n .code) e ≡ listOf false (xs ++ (n ∷ []))
   unfolding among pairsOf
   one-area e q =
       let areas : areasAmong (xs ++ (n ∷ [])) ≡ areasAmong xs ++ (n ∷ []) = among-append isArea xs (n ∷ []) ∙ rw q in
@@ -52,7 +52,7 @@ module _ (xs : List Node) (n : Node) (h : length xs < 16) where
       λ i. record { more = false; areas = k i; ranges = r i; services = length (sym services i); codes = padded 16 (map (λ (x : Node). x .code) (sym services i)) }
 
   -- a service
-  one-service : (s b : ℕ) (l : Limit) → n .entry ≡ Service s b l → serviceAdded (listOf false xs) (n .code) ≡ listOf false (xs ++ (n ∷ []))
+  one-service : (s b : ℕ) (l : Limit) → n .entry ≡ Service s b l → serviceGathered (listOf false xs) (n .code) ≡ listOf false (xs ++ (n ∷ []))
   unfolding among
   one-service s b l q =
       let services : servicesAmong (xs ++ (n ∷ [])) ≡ servicesAmong xs ++ (n ∷ []) = among-append isService xs (n ∷ []) ∙ rw q in
@@ -162,11 +162,11 @@ module _ (m : CodeList) (n : Node) where
     pub child-room : (m .areas < 16) × (m .services < 16)
     child-room = let h = leb-false 16 (m .areas + m .services) f in (omega arith, omega arith)
 
-    pub child-area : {e : ℕ} {x : CodeList} → n .entry ≡ Area e → x ≡ areaAdded m (n .code) e → x ≡ childAdded m n
+    pub child-area : {e : ℕ} {x : CodeList} → n .entry ≡ Area e → x ≡ areaGathered m (n .code) e → x ≡ childAdded m n
     unfolding childAdded
     child-area q a = a ∙ rw (f, q)
 
-    pub child-service : {s b : ℕ} {l : Limit} {x : CodeList} → n .entry ≡ Service s b l → x ≡ serviceAdded m (n .code) → x ≡ childAdded m n
+    pub child-service : {s b : ℕ} {l : Limit} {x : CodeList} → n .entry ≡ Service s b l → x ≡ serviceGathered m (n .code) → x ≡ childAdded m n
     unfolding childAdded
     child-service q a = a ∙ rw (f, q)
 

@@ -10,32 +10,32 @@ use lib.ListN.{length, take, drop, length-take, length-drop}
 use lib.Seq.{take-add, take-all}
 use borrow.Author.Tests.{lt-ltb, le-ltb, lt-leb, le-leb, ne-eqb}
 use Rattle.byte_parts.specs.Part.{padded}
-use Rattle.node_messages.specs.CodeList.{rangesOf, codesOf}
+use Rattle.node_messages.specs.CodeList.{rangesOf, codesListed}
 use Rattle.node_messages.specs.Kept.{ListWhole}
 use Rattle.node_messages.proofs.NumberLaws.{padded-front}
 use Rattle.card_nodes.specs.declared.node.Node.{Node}
 use Rattle.card_questions.specs.ListingWorded.{pairsOf}
-use Rattle.card_lists.specs.Packet.{among, areasAmong, servicesAmong, rangesAmong, codesAmong, listOf, packetOf, pastEnd, moreAfter, joined}
+use Rattle.card_lists.specs.Packet.{among, areasAmong, servicesAmong, rangesAmong, codesAmong, listOf, packetOf, pastEnd, moreAfter, packetsJoined}
 use Rattle.card_lists.proofs.Among.{all-among, ranges-append, codes-append, ranges-long, codes-long}
 
 -- the first k packets hold the first 16 k children
-pub packets-first : (children : List Node) (k : ℕ) → joined (packetOf children) k ≡ take (16 * k) children
-unfolding joined
+pub packets-first : (children : List Node) (k : ℕ) → packetsJoined (packetOf children) k ≡ take (16 * k) children
+unfolding packetsJoined
 packets-first children zero = refl
 packets-first children (suc k) =
     let e : 16 * suc k ≡ 16 * k + 16 = omega arith in
     rw (packets-first children k, e) (sym (take-add (16 * k) 16 children))
 
 -- and all of them once none is left
-pub packets-all : (children : List Node) (k : ℕ) → length children ≤ 16 * k → joined (packetOf children) k ≡ children
+pub packets-all : (children : List Node) (k : ℕ) → length children ≤ 16 * k → packetsJoined (packetOf children) k ≡ children
 packets-all children k h = packets-first children k ∙ take-all (16 * k) children h
 
 -- what is taken of each packet is taken of all of them
 joined-by : (f : List Node → List ℕ) → f [] ≡ [] → ((xs ys : List Node) → f (xs ++ ys) ≡ f xs ++ f ys) → (packet : ℕ → List Node) (k : ℕ) →
-    joined (λ p. f (packet p)) k ≡ f (joined packet k)
-unfolding joined
+    packetsJoined (λ p. f (packet p)) k ≡ f (packetsJoined packet k)
+unfolding packetsJoined
 joined-by f nil app packet zero = sym nil
-joined-by f nil app packet (suc k) = rw (joined-by f nil app packet k) (sym (app (joined packet k) (packet k)))
+joined-by f nil app packet (suc k) = rw (joined-by f nil app packet k) (sym (app (packetsJoined packet k) (packet k)))
 
 -- a packet has at most sixteen
 pub packet-few : (children : List Node) (p : ℕ) → length (packetOf children p) ≤ 16
@@ -57,18 +57,18 @@ module _ (more : Bool) (xs : List Node) (h : length xs ≤ 16) where
       let e : min (length (areasAmong xs)) 16 ≡ length (areasAmong xs) = omega (arith, all-among xs) in
       rw e ranges-front
 
-  pub list-codes : codesOf (listOf more xs) ≡ codesAmong xs
+  pub list-codes : codesListed (listOf more xs) ≡ codesAmong xs
   list-codes =
       let a : min (length (areasAmong xs)) 16 ≡ length (areasAmong xs) = omega (arith, all-among xs) in
       let e : min (length (servicesAmong xs)) (16 - length (areasAmong xs)) ≡ length (servicesAmong xs) = omega (arith, all-among xs) in
       rw (a, e) codes-front
 
 -- the areas of all packets are those of all children, and so are the services
-pub ranges-all : (children : List Node) (k : ℕ) → length children ≤ 16 * k → joined (λ p. rangesAmong (packetOf children p)) k ≡ rangesAmong children
+pub ranges-all : (children : List Node) (k : ℕ) → length children ≤ 16 * k → packetsJoined (λ p. rangesAmong (packetOf children p)) k ≡ rangesAmong children
 unfolding among pairsOf
 ranges-all children k h = joined-by rangesAmong refl ranges-append (packetOf children) k ∙ ap rangesAmong (packets-all children k h)
 
-pub codes-all : (children : List Node) (k : ℕ) → length children ≤ 16 * k → joined (λ p. codesAmong (packetOf children p)) k ≡ codesAmong children
+pub codes-all : (children : List Node) (k : ℕ) → length children ≤ 16 * k → packetsJoined (λ p. codesAmong (packetOf children p)) k ≡ codesAmong children
 unfolding among
 codes-all children k h = joined-by codesAmong refl codes-append (packetOf children) k ∙ ap codesAmong (packets-all children k h)
 

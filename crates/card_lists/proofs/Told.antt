@@ -16,7 +16,7 @@ use Rattle.node_messages.specs.declared.code_list.Listed.{Listed}
 use Rattle.node_messages.specs.declared.information.Informed.{Informed}
 use Rattle.node_messages.specs.declared.message.Put.{Put}
 use Rattle.node_messages.specs.declared.message.Put.the-variants.{Refused as NotPut}
-use Rattle.node_messages.specs.Message.{putOf, outputAfter}
+use Rattle.node_messages.specs.Message.{messagePut, messageAfter}
 use Rattle.node_messages.specs.CodeList.{listRefused, codeListBytes}
 use Rattle.node_messages.specs.Information.{informationTold, informationRefused, informationBytes}
 use Rattle.node_messages.proofs.NumberLaws.{put-padded}
@@ -34,7 +34,7 @@ use Rattle.card_lists.specs.declared.gather.Gathered.{Gathered}
 use Rattle.card_laws.specs.Children.{areaNamed, childrenAt}
 use Rattle.card_lists.specs.Gather.{nothingGathered, gatheredFrom}
 use Rattle.card_lists.specs.Packet.{pastEnd, moreAfter, listMore, packetTold, listFound, codeListOf, codeListPut, codeListOut}
-use Rattle.card_lists.specs.Information.{freeFor, informationOf, aheadOf, blocksOf, blocksPut, blocksOut}
+use Rattle.card_lists.specs.Information.{freeFor, informationOf, aheadOf, blocksTold, blocksPut, blocksOut}
 use Rattle.card_laws.proofs.ChildLaws.{named}
 use Rattle.card_lists.proofs.Gathering.{stateOf, gathered-all}
 
@@ -92,26 +92,26 @@ few false false e = refl
 
 -- block information: 8, what is ahead, the counts
 module _ (c : Card) (arenaLen : ℕ) (asked : List ℕ) where
-  pub info-unsound : isSound c ≡ false → informationRefused NotBuilt ≡ blocksOf c arenaLen asked
-  unfolding blocksOf
+  pub info-unsound : isSound c ≡ false → informationRefused NotBuilt ≡ blocksTold c arenaLen asked
+  unfolding blocksTold
   info-unsound s = rw s
 
   module _ (s : isSound c ≡ true) {a : Answer} (told : a ≡ aheadOf arenaLen (c .used) (length asked)) where
-    ordered : {b : Answer} → a ≡ b → unless (informationOf (nodesOf c) (usable arenaLen - c .used) asked) b ≡ blocksOf c arenaLen asked
-    unfolding blocksOf aheadOf
+    ordered : {b : Answer} → a ≡ b → unless (informationOf (nodesOf c) (usable arenaLen - c .used) asked) b ≡ blocksTold c arenaLen asked
+    unfolding blocksTold aheadOf
     ordered e =
         ap (unless (informationOf (nodesOf c) (usable arenaLen - c .used) asked)) (sym e ∙ told)
         ∙ as-one (informationOf (nodesOf c) (usable arenaLen - c .used) asked) (ltb arenaLen (16 * c .used)) (ltb 32 (length asked))
         ∙ rw s
 
-    pub info-refused : {r : Refusal} → a ≡ Refused r → informationRefused r ≡ blocksOf c arenaLen asked
+    pub info-refused : {r : Refusal} → a ≡ Refused r → informationRefused r ≡ blocksTold c arenaLen asked
     info-refused e = ordered e
 
     pub info-few : a ≡ Done → length asked ≤ 32
     unfolding aheadOf
     info-few e = ltb-false 32 (length asked) (few (ltb arenaLen (16 * c .used)) (ltb 32 (length asked)) (sym told ∙ e))
 
-    pub info-told : {u : ℕ} {x : Informed} → a ≡ Done → u ≡ usable arenaLen - c .used → x ≡ informationOf (nodesOf c) u asked → x ≡ blocksOf c arenaLen asked
+    pub info-told : {u : ℕ} {x : Informed} → a ≡ Done → u ≡ usable arenaLen - c .used → x ≡ informationOf (nodesOf c) u asked → x ≡ blocksTold c arenaLen asked
     info-told e k q = q ∙ ap (λ (n : ℕ). informationOf (nodesOf c) n asked) k ∙ ordered e
 
 -- the counts of the first i nodes, in front of zeros
@@ -137,20 +137,20 @@ module _ (c : Card) (parent p : ℕ) (out : List ℕ) {x : Listed} (e : x ≡ co
   unfolding codeListPut codeListOut
   list-refused q = (rw (answer-list q), rw (answer-list q))
 
-  pub list-written : {said : Put} {after : List ℕ} → x .answer ≡ Done → said ≡ putOf (codeListBytes (x .list)) (length out) → after ≡ outputAfter (codeListBytes (x .list)) out →
+  pub list-written : {said : Put} {after : List ℕ} → x .answer ≡ Done → said ≡ messagePut (codeListBytes (x .list)) (length out) → after ≡ messageAfter (codeListBytes (x .list)) out →
       (said ≡ codeListPut c parent p (length out)) × (after ≡ codeListOut c parent p out)
   unfolding codeListPut codeListOut
   list-written q s a = (s ∙ rw (answer-list q, e), a ∙ rw (answer-list q, e))
 
-module _ (c : Card) (arenaLen : ℕ) (asked out : List ℕ) {x : Informed} (e : x ≡ blocksOf c arenaLen asked) where
-  answer-blocks : {a : Answer} → x .answer ≡ a → blocksOf c arenaLen asked .answer ≡ a
+module _ (c : Card) (arenaLen : ℕ) (asked out : List ℕ) {x : Informed} (e : x ≡ blocksTold c arenaLen asked) where
+  answer-blocks : {a : Answer} → x .answer ≡ a → blocksTold c arenaLen asked .answer ≡ a
   answer-blocks q = ap (λ (l : Informed). l .answer) (sym e) ∙ q
 
   pub blocks-refused : {r : Refusal} → x .answer ≡ Refused r → (NotPut r ≡ blocksPut c arenaLen asked (length out)) × (out ≡ blocksOut c arenaLen asked out)
   unfolding blocksPut blocksOut
   blocks-refused q = (rw (answer-blocks q), rw (answer-blocks q))
 
-  pub blocks-written : {said : Put} {after : List ℕ} → x .answer ≡ Done → said ≡ putOf (informationBytes (x .told)) (length out) → after ≡ outputAfter (informationBytes (x .told)) out →
+  pub blocks-written : {said : Put} {after : List ℕ} → x .answer ≡ Done → said ≡ messagePut (informationBytes (x .told)) (length out) → after ≡ messageAfter (informationBytes (x .told)) out →
       (said ≡ blocksPut c arenaLen asked (length out)) × (after ≡ blocksOut c arenaLen asked out)
   unfolding blocksPut blocksOut
   blocks-written q s a = (s ∙ rw (answer-blocks q, e), a ∙ rw (answer-blocks q, e))

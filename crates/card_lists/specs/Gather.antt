@@ -14,8 +14,8 @@ use Rattle.card_lists.specs.declared.gather.Gathered.{Gathered}
 abbrev pub nothingGathered : Gathered
 nothingGathered = record { list = emptyList; children = 0 }
 
-abbrev pub areaAdded : CodeList → ℕ → ℕ → CodeList
-areaAdded m code end = record {
+abbrev pub areaGathered : CodeList → ℕ → ℕ → CodeList
+areaGathered m code end = record {
   more = m .more;
   areas = m .areas + 1;
   ranges = set (set (m .ranges) (2 * m .areas) code) (2 * m .areas + 1) end;
@@ -23,8 +23,8 @@ areaAdded m code end = record {
   codes = m .codes;
 }
 
-abbrev pub serviceAdded : CodeList → ℕ → CodeList
-serviceAdded m code = record {
+abbrev pub serviceGathered : CodeList → ℕ → CodeList
+serviceGathered m code = record {
   more = m .more;
   areas = m .areas;
   ranges = m .ranges;
@@ -33,8 +33,8 @@ serviceAdded m code = record {
 }
 
 abbrev pub childBy : CodeList → ℕ → Entry → CodeList
-childBy m code (Area end) = areaAdded m code end
-childBy m code (Service s b l) = serviceAdded m code
+childBy m code (Area end) = areaGathered m code end
+childBy m code (Service s b l) = serviceGathered m code
 
 -- a packet that is full takes no child
 unfoldable pub childAdded : CodeList → Node → CodeList

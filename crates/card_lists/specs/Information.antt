@@ -45,8 +45,8 @@ aheadOf arenaLen used many =
     Done)
 
 -- what a card answers: 8, then 7 and 46
-unfoldable pub blocksOf : Card → ℕ → List ℕ → Informed
-blocksOf c arenaLen asked =
+unfoldable pub blocksTold : Card → ℕ → List ℕ → Informed
+blocksTold c arenaLen asked =
     cond (not (isSound c)) (informationRefused NotBuilt)
     (cond (ltb arenaLen (16 * c .used)) (informationRefused ShortArena)
     (cond (ltb mostNodes (length asked)) (informationRefused TooManyNodes)
@@ -54,7 +54,7 @@ blocksOf c arenaLen asked =
 
 -- as bytes: 5 comes last
 unfoldable pub blocksPut : Card → ℕ → List ℕ → ℕ → Put
-blocksPut c arenaLen asked room = putAnswered (blocksOf c arenaLen asked .answer) (informationBytes (blocksOf c arenaLen asked .told)) room
+blocksPut c arenaLen asked room = putAnswered (blocksTold c arenaLen asked .answer) (informationBytes (blocksTold c arenaLen asked .told)) room
 
 unfoldable pub blocksOut : Card → ℕ → List ℕ → List ℕ → List ℕ
-blocksOut c arenaLen asked out = outAnswered (blocksOf c arenaLen asked .answer) (informationBytes (blocksOf c arenaLen asked .told)) out
+blocksOut c arenaLen asked out = outAnswered (blocksTold c arenaLen asked .answer) (informationBytes (blocksTold c arenaLen asked .told)) out

@@ -12,7 +12,7 @@ use Rattle.node_messages.specs.declared.code_list.CodeList.{CodeList}
 use Rattle.node_messages.specs.declared.code_list.Listed.{Listed}
 use Rattle.node_messages.specs.declared.message.Put.{Put}
 use Rattle.node_messages.specs.declared.message.Put.the-variants.{Refused as NotPut}
-use Rattle.node_messages.specs.Message.{putOf, outputAfter}
+use Rattle.node_messages.specs.Message.{messagePut, messageAfter}
 use Rattle.node_messages.specs.CodeList.{mostEntries, listTold, listRefused, codeListBytes}
 use Rattle.card_nodes.specs.declared.node.Entry.{Entry}
 use Rattle.card_nodes.specs.declared.node.Node.{Node}
@@ -85,11 +85,11 @@ codeListOf c parent p = cond (not (isSound c)) (listRefused NotBuilt) (listFound
 
 -- an answer as bytes: 5 comes last
 abbrev pub putAnswered : Answer → List ℕ → ℕ → Put
-putAnswered Done message room = putOf message room
+putAnswered Done message room = messagePut message room
 putAnswered (Refused r) message room = NotPut r
 
 abbrev pub outAnswered : Answer → List ℕ → List ℕ → List ℕ
-outAnswered Done message out = outputAfter message out
+outAnswered Done message out = messageAfter message out
 outAnswered (Refused r) message out = out
 
 unfoldable pub codeListPut : Card → ℕ → ℕ → ℕ → Put
@@ -99,6 +99,6 @@ unfoldable pub codeListOut : Card → ℕ → ℕ → List ℕ → List ℕ
 codeListOut c parent p out = outAnswered (codeListOf c parent p .answer) (codeListBytes (codeListOf c parent p .list)) out
 
 -- what packets 0, 1, .. k - 1 hold, one after the other
-unfoldable pub joined : {A : Type 0} → (ℕ → List A) → ℕ → List A
-joined packet zero = []
-joined packet (suc k) = joined packet k ++ packet k
+unfoldable pub packetsJoined : {A : Type 0} → (ℕ → List A) → ℕ → List A
+packetsJoined packet zero = []
+packetsJoined packet (suc k) = packetsJoined packet k ++ packet k

@@ -8,7 +8,7 @@ ghost use Prim.Native.Nat.{_+_, _<_, min};
 ghost use lib.Dec.{leb};
 ghost use lib.ListN.{take, drop, getD};
 ghost use Rattle.card_nodes.specs.Node.{rootNode};
-ghost use Rattle.card_lists.specs.Gather.{nothingGathered, areaAdded, serviceAdded, childAdded, nodeAdded, gatheredFrom};
+ghost use Rattle.card_lists.specs.Gather.{nothingGathered, areaGathered, serviceGathered, childAdded, nodeAdded, gatheredFrom};
 
 // The children gathered for a packet, and how many children were seen.
 pub struct Gathered {
@@ -29,7 +29,7 @@ fn is_full(areas: usize, services: usize) -> bool
 // Adds an area to a packet: its code and its end.
 fn add_area(mut list: CodeList, code: u16, end: u16) -> CodeList
     requires { ⌜ list .areas < 16 ⌝ }
-    ensures { λ r. ⌜ r ≡ areaAdded list code end ⌝ }
+    ensures { λ r. ⌜ r ≡ areaGathered list code end ⌝ }
 {
     let at = 2 * list.areas;
     list.ranges[at] = code;
@@ -41,7 +41,7 @@ fn add_area(mut list: CodeList, code: u16, end: u16) -> CodeList
 // Adds a service to a packet.
 fn add_service(mut list: CodeList, code: u16) -> CodeList
     requires { ⌜ list .services < 16 ⌝ }
-    ensures { λ r. ⌜ r ≡ serviceAdded list code ⌝ }
+    ensures { λ r. ⌜ r ≡ serviceGathered list code ⌝ }
 {
     let at = list.services;
     list.codes[at] = code;

@@ -18,7 +18,7 @@ ghost use lib.ListN.{length, take};
 ghost use Rattle.byte_parts.specs.Part.{put};
 ghost use Rattle.card_questions.specs.Tags.{OfTags};
 ghost use Rattle.card_admit.specs.Admit.{usable};
-ghost use Rattle.card_lists.specs.Information.{freeFor, informationOf, aheadOf, blocksOf, blocksPut, blocksOut};
+ghost use Rattle.card_lists.specs.Information.{freeFor, informationOf, aheadOf, blocksTold, blocksPut, blocksOut};
 
 // The blocks free for the node of `code` among nodes of these tags: all that are unused for an area, none for any other.
 fn free_for(tags: &[u32], unused: u16, code: u16) -> u16
@@ -94,7 +94,7 @@ fn ahead(arena_len: usize, used: usize, many: usize) -> Answer
 
 // The blocks of the nodes `asked`: assigned counts by the block total, and free counts. Refusals 8, 7, 46.
 pub fn block_information(card: Card, arena: &[u8], asked: &[u16]) -> Informed
-    ensures { λ r. ⌜ r ≡ blocksOf card (length (now (arena .entry))) (now (asked .entry)) ⌝ }
+    ensures { λ r. ⌜ r ≡ blocksTold card (length (now (arena .entry))) (now (asked .entry)) ⌝ }
 {
     // 8
     if !card.is_sound() {

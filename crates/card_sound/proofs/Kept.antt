@@ -22,7 +22,7 @@ use Rattle.card_admit.specs.declared.First.the-variants.{There, Missing}
 use Rattle.card_admit.specs.Admit.{isDepth, parentAt, firstIn}
 use Rattle.card_admit.proofs.Growth.{depth-deep, deep-depth}
 use Rattle.card_sound.proofs.Laws.{passed}
-use Rattle.card_sound.specs.Walk.{isOpen, deepestBy, firstBy, firstAfter}
+use Rattle.card_sound.specs.Walk.{depthOpen, deepestBy, firstBy, firstAfter}
 
 -- where a node may come: at a depth from 1 to 8, down to the deepest
 pub record Within (d deepest : ℕ) : Type 0 where
@@ -31,16 +31,16 @@ pub record Within (d deepest : ℕ) : Type 0 where
   pub left : d ≤ deepest
 
 module _ (d deepest : ℕ) where
-  pub open-within : isOpen d deepest ≡ true → Within d deepest
-  unfolding isOpen
+  pub open-within : depthOpen d deepest ≡ true → Within d deepest
+  unfolding depthOpen
   open-within e =
       let b = passed (not (isDepth d)) _ e in
       let t = depth-deep d (not-false (isDepth d) (b .0)) in
       record { some = t .low; most = t .high; left = leb-true d deepest (b .1) }
 
   -- at those depths the deepest alone decides
-  pub open-by : 1 ≤ d → d ≤ 8 → isOpen d deepest ≡ leb d deepest
-  unfolding isOpen
+  pub open-by : 1 ≤ d → d ≤ 8 → depthOpen d deepest ≡ leb d deepest
+  unfolding depthOpen
   open-by h k = rw (deep-depth d h k)
 
 -- the deepest that a node leaves open is its own depth or the next
@@ -54,11 +54,11 @@ deepest-most d (Service s b l) = omega arith
 
 -- the parents that are kept say where a new node comes
 pub record Parents (ns : List Node) (parents : List ℕ) (deepest : ℕ) : Type 0 where
-  pub says : (d : ℕ) → parentAt ns d ≡ cond (isOpen d deepest) (At (getD parents d 0)) Nothing
+  pub says : (d : ℕ) → parentAt ns d ≡ cond (depthOpen d deepest) (At (getD parents d 0)) Nothing
 
 -- before the first node none may come
 pub no-parents : (parents : List ℕ) → Parents [] parents 0
-unfolding parentAt parentFrom isOpen
+unfolding parentAt parentFrom depthOpen
 no-parents parents = record { says = λ d. go d (isDepth d) refl }
   where
     go : (d : ℕ) (a : Bool) → isDepth d ≡ a →
@@ -112,15 +112,15 @@ module _
 
       by-depth : 1 ≤ d → d ≤ 8 →
           parentAt (ns ++ (n ∷ [])) d
-          ≡ cond (isOpen d (deepestBy (n .depth) (n .entry))) (At (getD (set parents (n .depth + 1) (length ns)) d 0)) Nothing
+          ≡ cond (depthOpen d (deepestBy (n .depth) (n .entry))) (At (getD (set parents (n .depth + 1) (length ns)) d 0)) Nothing
       by-depth some most =
           rw (open-by d (deepestBy (n .depth) (n .entry)) some most) (last d some most ∙ decided some most (ltb (n .depth) d) refl)
 
       -- at any other depth none may come
       either : (a : Bool) → isDepth d ≡ a →
           parentAt (ns ++ (n ∷ [])) d
-          ≡ cond (isOpen d (deepestBy (n .depth) (n .entry))) (At (getD (set parents (n .depth + 1) (length ns)) d 0)) Nothing
-      unfolding parentAt isOpen
+          ≡ cond (depthOpen d (deepestBy (n .depth) (n .entry))) (At (getD (set parents (n .depth + 1) (length ns)) d 0)) Nothing
+      unfolding parentAt depthOpen
       either false e = rw e
       either true e = let t = depth-deep d e in by-depth (t .low) (t .high)
 

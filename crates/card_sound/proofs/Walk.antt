@@ -24,7 +24,7 @@ use Rattle.card_admit.proofs.Growth.{parent-at-below}
 use Rattle.card_sound.specs.declared.Step.{Step}
 use Rattle.card_sound.specs.declared.Step.the-variants.{Goes, Stops}
 use Rattle.card_sound.specs.Sound.{isRoot, rootEnd, allRoots, stepOf, stepsOf, endsAt, soundOf}
-use Rattle.card_sound.specs.Walk.{starting, isOpen, deepestBy, firstBy, firstAfter, stepUnder}
+use Rattle.card_sound.specs.Walk.{starting, depthOpen, deepestBy, firstBy, firstAfter, stepUnder}
 use Rattle.card_sound.proofs.Laws.{passed}
 use Rattle.card_sound.proofs.Kept.{Parents, Firsts, indexIn, open-within, no-parents, parents-next, firsts-next, first-index, first-there}
 use Rattle.card_sound.proofs.Turns.{Stepped, stepped, stops, goes, orphan, under}
@@ -140,11 +140,11 @@ module _
           ∙ rw own (first-there (w .first) (getD nodes i z .code) (omega arith) root-read)
 
     -- a record that may not come there ends the walk
-    pub closed : isOpen (getD nodes i z .depth) deepest ≡ false → Stops ≡ stepsOf (take count nodes)
+    pub closed : depthOpen (getD nodes i z .depth) deepest ≡ false → Stops ≡ stepsOf (take count nodes)
     closed e =
         stops used z (w .left) h (orphan (take i nodes) used (getD nodes i z) (w .above .says (getD nodes i z .depth) ∙ rw e))
 
-    module _ (e : isOpen (getD nodes i z .depth) deepest ≡ true) where
+    module _ (e : depthOpen (getD nodes i z .depth) deepest ≡ true) where
       -- its parent is the one that is kept
       parent : parentAt (take i nodes) (getD nodes i z .depth) ≡ At (getD parents (getD nodes i z .depth) 0)
       parent = w .above .says (getD nodes i z .depth) ∙ rw e

@@ -16,8 +16,8 @@ unfoldable pub starting : ℕ → Node → Bool
 starting count root = cond (eqb count 0) false (cond (ltb 64 count) false (isRoot root))
 
 -- a node may come at a depth from 1 to 8, down to the deepest that the nodes before it leave open
-unfoldable pub isOpen : ℕ → ℕ → Bool
-isOpen depth deepest = cond (not (isDepth depth)) false (leb depth deepest)
+unfoldable pub depthOpen : ℕ → ℕ → Bool
+depthOpen depth deepest = cond (not (isDepth depth)) false (leb depth deepest)
 
 -- the deepest that a node leaves open: under an area, beside a service
 abbrev pub deepestBy : ℕ → Entry → ℕ

@@ -10,7 +10,7 @@ ghost use Prim.Native.Nat.{_<_, _≤_};
 ghost use lib.ListN.{drop};
 ghost use Rattle.service_code.specs.Code.{numberOf};
 ghost use Rattle.card_sound.specs.Sound.{isRoot, allRoots, areaStep, serviceStep, soundOf};
-ghost use Rattle.card_sound.specs.Walk.{starting, isOpen, deepestBy, firstBy, firstAfter, stepUnder};
+ghost use Rattle.card_sound.specs.Walk.{starting, depthOpen, deepestBy, firstBy, firstAfter, stepUnder};
 
 // The blocks in use after a record, or that no accepted addition makes it.
 pub enum Step {
@@ -76,7 +76,7 @@ fn service_step(start: u16, blocks: u16, placed: Placed) -> Step
 
 // Whether a node may come at `depth`: from 1 to 8, and no deeper than those before it leave open.
 fn is_open(depth: usize, deepest: usize) -> bool
-    ensures { λ r. ⌜ r ≡ isOpen depth deepest ⌝ }
+    ensures { λ r. ⌜ r ≡ depthOpen depth deepest ⌝ }
 {
     if !card_admit::is_depth(depth) {
         return false;

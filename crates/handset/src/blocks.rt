@@ -8,9 +8,9 @@ use request_check::table;
 ghost use mathlib.Core.Path.{_≡_};
 ghost use lib.ListN.{length};
 ghost use Rattle.request_block.specs.Block.{blockJudged};
-ghost use Rattle.handset_bytes.specs.Card.{decodedOf};
+ghost use Rattle.handset_bytes.specs.Card.{cardDecoded};
 ghost use Rattle.handset_words.specs.Outcome.{answerAs};
-ghost use Rattle.handset_words.specs.Block.{unfitAfter, setAnswer, setAfter, placeAfter};
+ghost use Rattle.handset_words.specs.Block.{unfitAfter, setAnswer, setAfter, blockPlaceAfter};
 
 // The number that setting a block of another length than sixteen returns: 30, after the refusals in `answer` that the call
 // gives for a block of sixteen.
@@ -42,8 +42,8 @@ pub extern "C" fn uluvoli_set_block(
     number: u32,
     block: &[u8],
 ) -> u32
-    ensures { λ r. ⌜ r ≡ answerAs (setAnswer (decodedOf (now (card .entry))) (length (now (arena .entry))) code number (now (block .entry))) ⌝ }
-    ensures { λ _. ⌜ now (arena .exit) ≡ setAfter (decodedOf (now (card .entry))) (now (arena .entry)) code number (now (block .entry)) ⌝ }
+    ensures { λ r. ⌜ r ≡ answerAs (setAnswer (cardDecoded (now (card .entry))) (length (now (arena .entry))) code number (now (block .entry))) ⌝ }
+    ensures { λ _. ⌜ now (arena .exit) ≡ setAfter (cardDecoded (now (card .entry))) (now (arena .entry)) code number (now (block .entry)) ⌝ }
 {
     let own = decoding::decode(card);
     if block.len() != 16 {
@@ -62,8 +62,8 @@ pub extern "C" fn uluvoli_stored_block(
     number: u32,
     offset: &mut usize,
 ) -> u32
-    ensures { λ r. ⌜ r ≡ answerAs (blockJudged (decodedOf (now (card .entry))) (length (now (arena .entry))) code number) ⌝ }
-    ensures { λ _. ⌜ now (offset .exit) ≡ placeAfter (now (offset .entry)) (decodedOf (now (card .entry))) (length (now (arena .entry))) code number ⌝ }
+    ensures { λ r. ⌜ r ≡ answerAs (blockJudged (cardDecoded (now (card .entry))) (length (now (arena .entry))) code number) ⌝ }
+    ensures { λ _. ⌜ now (offset .exit) ≡ blockPlaceAfter (now (offset .entry)) (cardDecoded (now (card .entry))) (length (now (arena .entry))) code number ⌝ }
 {
     let own = decoding::decode(card);
     match request_block::judge_block(own, arena.len(), code, number) {

@@ -9,7 +9,7 @@ ghost use mathlib.Core.Path.{_≡_};
 ghost use Prim.Native.Nat.{_≤_};
 ghost use lib.ListN.{length};
 ghost use Rattle.board_read.specs.Refresh.{boardServed, refreshed};
-ghost use Rattle.handset_bytes.specs.Card.{decodedOf};
+ghost use Rattle.handset_bytes.specs.Card.{cardDecoded};
 ghost use Rattle.handset_words.specs.Board.{refreshedAs, boardRoom, boardMade, recordsBy, recordsAfter};
 
 // How many of 128 bytes the read is lent, where `len` bytes are there for the records.
@@ -38,8 +38,8 @@ fn filled(card: Card, arena: &[u8], code: u16, bytes: &mut [u8], lanes: &mut [u8
 // Reads the eight lanes of the service `code`, in a session, and writes their records to the front of `lanes`, 16 bytes each.
 #[no_mangle]
 pub extern "C" fn uluvoli_board(card: &[u8], arena: &[u8], code: u16, lanes: &mut [u8]) -> u32
-    ensures { λ r. ⌜ r ≡ refreshedAs (boardMade (decodedOf (now (card .entry))) (now (arena .entry)) code (now (lanes .entry))) ⌝ }
-    ensures { λ _. ⌜ now (lanes .exit) ≡ recordsAfter (decodedOf (now (card .entry))) (now (arena .entry)) code (now (lanes .entry)) ⌝ }
+    ensures { λ r. ⌜ r ≡ refreshedAs (boardMade (cardDecoded (now (card .entry))) (now (arena .entry)) code (now (lanes .entry))) ⌝ }
+    ensures { λ _. ⌜ now (lanes .exit) ≡ recordsAfter (cardDecoded (now (card .entry))) (now (arena .entry)) code (now (lanes .entry)) ⌝ }
 {
     let own = decoding::decode(card);
     let mut bytes = [0u8; 128];

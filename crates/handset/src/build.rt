@@ -16,7 +16,7 @@ ghost use Rattle.answers.specs.declared.refusal.Refusal.the-variants.{NotBuilt}
 ghost use Rattle.card_build.specs.Card.{systemOf, newCard};
 ghost use Rattle.card_build.specs.Build.{areaAdded, serviceAdded, arenaAdded, limitAdded};
 ghost use Rattle.handset_bytes.specs.Layout.{cardSize};
-ghost use Rattle.handset_bytes.specs.Card.{cardPut, decodedOf};
+ghost use Rattle.handset_bytes.specs.Card.{cardPut, cardDecoded};
 ghost use Rattle.handset_words.specs.Outcome.{refusedAs, answerAs};
 ghost use Rattle.handset_words.specs.Kept.{cardAfter};
 
@@ -68,8 +68,8 @@ pub extern "C" fn uluvoli_add_area(
     end: u16,
     version: u16,
 ) -> u32
-    ensures { λ r. ⌜ r ≡ answerAs (areaAdded (decodedOf (now (card .entry))) depth code end version .answer) ⌝ }
-    ensures { λ _. ⌜ now (card .exit) ≡ cardAfter (now (card .entry)) (areaAdded (decodedOf (now (card .entry))) depth code end version) ⌝ }
+    ensures { λ r. ⌜ r ≡ answerAs (areaAdded (cardDecoded (now (card .entry))) depth code end version .answer) ⌝ }
+    ensures { λ _. ⌜ now (card .exit) ≡ cardAfter (now (card .entry)) (areaAdded (cardDecoded (now (card .entry))) depth code end version) ⌝ }
 {
     let own = decoding::decode(card);
     kept(own.add_area(depth, code, end, version), card)
@@ -85,9 +85,9 @@ pub extern "C" fn uluvoli_add_service(
     blocks: u32,
     version: u16,
 ) -> u32
-    ensures { λ r. ⌜ r ≡ answerAs (serviceAdded (decodedOf (now (card .entry))) (length (now (arena .entry))) depth code blocks version .answer) ⌝ }
-    ensures { λ _. ⌜ now (card .exit) ≡ cardAfter (now (card .entry)) (serviceAdded (decodedOf (now (card .entry))) (length (now (arena .entry))) depth code blocks version) ⌝ }
-    ensures { λ _. ⌜ now (arena .exit) ≡ arenaAdded (decodedOf (now (card .entry))) (serviceAdded (decodedOf (now (card .entry))) (length (now (arena .entry))) depth code blocks version) (now (arena .entry)) ⌝ }
+    ensures { λ r. ⌜ r ≡ answerAs (serviceAdded (cardDecoded (now (card .entry))) (length (now (arena .entry))) depth code blocks version .answer) ⌝ }
+    ensures { λ _. ⌜ now (card .exit) ≡ cardAfter (now (card .entry)) (serviceAdded (cardDecoded (now (card .entry))) (length (now (arena .entry))) depth code blocks version) ⌝ }
+    ensures { λ _. ⌜ now (arena .exit) ≡ arenaAdded (cardDecoded (now (card .entry))) (serviceAdded (cardDecoded (now (card .entry))) (length (now (arena .entry))) depth code blocks version) (now (arena .entry)) ⌝ }
 {
     let own = decoding::decode(card);
     kept(own.add_service(arena, depth, code, blocks, version), card)
@@ -96,8 +96,8 @@ pub extern "C" fn uluvoli_add_service(
 // Sets the limits of the node added last, which must be a service.
 #[no_mangle]
 pub extern "C" fn uluvoli_set_limit(card: &mut [u8], upper: i32, lower: i32, generation: u8) -> u32
-    ensures { λ r. ⌜ r ≡ answerAs (limitAdded (decodedOf (now (card .entry))) upper lower generation .answer) ⌝ }
-    ensures { λ _. ⌜ now (card .exit) ≡ cardAfter (now (card .entry)) (limitAdded (decodedOf (now (card .entry))) upper lower generation) ⌝ }
+    ensures { λ r. ⌜ r ≡ answerAs (limitAdded (cardDecoded (now (card .entry))) upper lower generation .answer) ⌝ }
+    ensures { λ _. ⌜ now (card .exit) ≡ cardAfter (now (card .entry)) (limitAdded (cardDecoded (now (card .entry))) upper lower generation) ⌝ }
 {
     let own = decoding::decode(card);
     kept(own.set_limit(upper, lower, generation), card)

@@ -8,7 +8,7 @@ ghost use mathlib.Core.Path.{_≡_};
 ghost use lib.ListN.{length};
 ghost use Rattle.card_lists.specs.Packet.{codeListPut, codeListOut};
 ghost use Rattle.card_lists.specs.Information.{blocksPut, blocksOut};
-ghost use Rattle.handset_bytes.specs.Card.{decodedOf};
+ghost use Rattle.handset_bytes.specs.Card.{cardDecoded};
 ghost use Rattle.handset_words.specs.Message.{putAs, putAfter};
 
 // Writes to `out` how many bytes a message has, unless it was refused, and gives what the call returns.
@@ -34,9 +34,9 @@ pub extern "C" fn uluvoli_code_list(
     out: &mut [u8],
     bytes: &mut usize,
 ) -> u32
-    ensures { λ r. ⌜ r ≡ putAs (codeListPut (decodedOf (now (card .entry))) parent packet (length (now (out .entry)))) ⌝ }
-    ensures { λ _. ⌜ now (out .exit) ≡ codeListOut (decodedOf (now (card .entry))) parent packet (now (out .entry)) ⌝ }
-    ensures { λ _. ⌜ now (bytes .exit) ≡ putAfter (now (bytes .entry)) (codeListPut (decodedOf (now (card .entry))) parent packet (length (now (out .entry)))) ⌝ }
+    ensures { λ r. ⌜ r ≡ putAs (codeListPut (cardDecoded (now (card .entry))) parent packet (length (now (out .entry)))) ⌝ }
+    ensures { λ _. ⌜ now (out .exit) ≡ codeListOut (cardDecoded (now (card .entry))) parent packet (now (out .entry)) ⌝ }
+    ensures { λ _. ⌜ now (bytes .exit) ≡ putAfter (now (bytes .entry)) (codeListPut (cardDecoded (now (card .entry))) parent packet (length (now (out .entry)))) ⌝ }
 {
     let own = decoding::decode(card);
     sized(packet::put_code_list(own, parent, packet, out), bytes)
@@ -51,9 +51,9 @@ pub extern "C" fn uluvoli_block_information(
     out: &mut [u8],
     bytes: &mut usize,
 ) -> u32
-    ensures { λ r. ⌜ r ≡ putAs (blocksPut (decodedOf (now (card .entry))) (length (now (arena .entry))) (now (codes .entry)) (length (now (out .entry)))) ⌝ }
-    ensures { λ _. ⌜ now (out .exit) ≡ blocksOut (decodedOf (now (card .entry))) (length (now (arena .entry))) (now (codes .entry)) (now (out .entry)) ⌝ }
-    ensures { λ _. ⌜ now (bytes .exit) ≡ putAfter (now (bytes .entry)) (blocksPut (decodedOf (now (card .entry))) (length (now (arena .entry))) (now (codes .entry)) (length (now (out .entry)))) ⌝ }
+    ensures { λ r. ⌜ r ≡ putAs (blocksPut (cardDecoded (now (card .entry))) (length (now (arena .entry))) (now (codes .entry)) (length (now (out .entry)))) ⌝ }
+    ensures { λ _. ⌜ now (out .exit) ≡ blocksOut (cardDecoded (now (card .entry))) (length (now (arena .entry))) (now (codes .entry)) (now (out .entry)) ⌝ }
+    ensures { λ _. ⌜ now (bytes .exit) ≡ putAfter (now (bytes .entry)) (blocksPut (cardDecoded (now (card .entry))) (length (now (arena .entry))) (now (codes .entry)) (length (now (out .entry)))) ⌝ }
 {
     let own = decoding::decode(card);
     sized(

@@ -11,7 +11,7 @@ ghost use lib.ListN.{length};
 ghost use Rattle.card_questions.specs.Directory.{directoryAnswer, directoryOut};
 ghost use Rattle.card_questions.specs.Total.{totalAnswer};
 ghost use Rattle.card_questions.specs.Keys.{versionAnswer};
-ghost use Rattle.handset_bytes.specs.Card.{decodedOf};
+ghost use Rattle.handset_bytes.specs.Card.{cardDecoded};
 ghost use Rattle.handset_words.specs.Told.{toldAs, toldAfter, listedAs, listedAfter};
 
 // Writes to `out` how many nodes a directory lists, unless it was refused, and gives what the call returns.
@@ -31,9 +31,9 @@ fn listed(answer: Listing, out: &mut usize) -> u32
 // Writes the directory to the front of `out`, a pair of numbers a node, and to `nodes` how many nodes it lists.
 #[no_mangle]
 pub extern "C" fn uluvoli_directory(card: &[u8], out: &mut [u16], nodes: &mut usize) -> u32
-    ensures { λ r. ⌜ r ≡ listedAs (directoryAnswer (decodedOf (now (card .entry))) (length (now (out .entry)))) ⌝ }
-    ensures { λ _. ⌜ now (out .exit) ≡ directoryOut (decodedOf (now (card .entry))) (now (out .entry)) ⌝ }
-    ensures { λ _. ⌜ now (nodes .exit) ≡ listedAfter (now (nodes .entry)) (directoryAnswer (decodedOf (now (card .entry))) (length (now (out .entry)))) ⌝ }
+    ensures { λ r. ⌜ r ≡ listedAs (directoryAnswer (cardDecoded (now (card .entry))) (length (now (out .entry)))) ⌝ }
+    ensures { λ _. ⌜ now (out .exit) ≡ directoryOut (cardDecoded (now (card .entry))) (now (out .entry)) ⌝ }
+    ensures { λ _. ⌜ now (nodes .exit) ≡ listedAfter (now (nodes .entry)) (directoryAnswer (cardDecoded (now (card .entry))) (length (now (out .entry)))) ⌝ }
 {
     let own = decoding::decode(card);
     listed(listing::directory(own, out), nodes)
@@ -56,8 +56,8 @@ fn told(answer: Told, out: &mut u16) -> u32
 // Tells in `blocks` the block total of the node `code`.
 #[no_mangle]
 pub extern "C" fn uluvoli_total(card: &[u8], code: u16, blocks: &mut u16) -> u32
-    ensures { λ r. ⌜ r ≡ toldAs (totalAnswer (decodedOf (now (card .entry))) code) ⌝ }
-    ensures { λ _. ⌜ now (blocks .exit) ≡ toldAfter (now (blocks .entry)) (totalAnswer (decodedOf (now (card .entry))) code) ⌝ }
+    ensures { λ r. ⌜ r ≡ toldAs (totalAnswer (cardDecoded (now (card .entry))) code) ⌝ }
+    ensures { λ _. ⌜ now (blocks .exit) ≡ toldAfter (now (blocks .entry)) (totalAnswer (cardDecoded (now (card .entry))) code) ⌝ }
 {
     let own = decoding::decode(card);
     told(totals::block_count_for_node(own, code), blocks)
@@ -66,8 +66,8 @@ pub extern "C" fn uluvoli_total(card: &[u8], code: u16, blocks: &mut u16) -> u32
 // Tells in `version` the key version of the node `code`.
 #[no_mangle]
 pub extern "C" fn uluvoli_key_version(card: &[u8], code: u16, version: &mut u16) -> u32
-    ensures { λ r. ⌜ r ≡ toldAs (versionAnswer (decodedOf (now (card .entry))) code) ⌝ }
-    ensures { λ _. ⌜ now (version .exit) ≡ toldAfter (now (version .entry)) (versionAnswer (decodedOf (now (card .entry))) code) ⌝ }
+    ensures { λ r. ⌜ r ≡ toldAs (versionAnswer (cardDecoded (now (card .entry))) code) ⌝ }
+    ensures { λ _. ⌜ now (version .exit) ≡ toldAfter (now (version .entry)) (versionAnswer (cardDecoded (now (card .entry))) code) ⌝ }
 {
     let own = decoding::decode(card);
     told(keys::node_key_version(own, code), version)

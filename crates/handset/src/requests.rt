@@ -10,7 +10,7 @@ ghost use Prim.Native.Nat.{_*_};
 ghost use lib.ListN.{length};
 ghost use Rattle.request_plan.specs.Request.{readRequest, writeRequest};
 ghost use Rattle.request_plan.specs.Serve.{serve, outputAfter, stagingBy};
-ghost use Rattle.handset_bytes.specs.Card.{decodedOf};
+ghost use Rattle.handset_bytes.specs.Card.{cardDecoded};
 ghost use Rattle.request_plan.specs.declared.Response.the-variants.{Pair};
 ghost use Rattle.handset_words.specs.Reply.{responseAs, replyAs};
 
@@ -43,8 +43,8 @@ pub extern "C" fn uluvoli_read(
     count: u32,
     list: &[u8],
 ) -> u32
-    ensures { λ r. ⌜ r ≡ replyAs (serve (decodedOf (now (card .entry))) (now (arena .entry)) (readRequest «open» (now (codes .entry)) count (now (list .entry)) (length (now (out .entry)))) .reply) ⌝ }
-    ensures { λ _. ⌜ now (out .exit) ≡ outputAfter (now (out .entry)) (serve (decodedOf (now (card .entry))) (now (arena .entry)) (readRequest «open» (now (codes .entry)) count (now (list .entry)) (length (now (out .entry))))) ⌝ }
+    ensures { λ r. ⌜ r ≡ replyAs (serve (cardDecoded (now (card .entry))) (now (arena .entry)) (readRequest «open» (now (codes .entry)) count (now (list .entry)) (length (now (out .entry)))) .reply) ⌝ }
+    ensures { λ _. ⌜ now (out .exit) ≡ outputAfter (now (out .entry)) (serve (cardDecoded (now (card .entry))) (now (arena .entry)) (readRequest «open» (now (codes .entry)) count (now (list .entry)) (length (now (out .entry))))) ⌝ }
 {
     let own = decoding::decode(card);
     replied(reading::read(own, arena, out, open, codes, count, list))
@@ -62,9 +62,9 @@ pub extern "C" fn uluvoli_write(
     list: &[u8],
     data: &[u8],
 ) -> u32
-    ensures { λ r. ⌜ r ≡ replyAs (serve (decodedOf (now (card .entry))) (now (arena .entry)) (writeRequest «open» (now (codes .entry)) count (now (list .entry)) (now («data» .entry)) (length (now (staging .entry)))) .reply) ⌝ }
-    ensures { λ _. ⌜ now (arena .exit) ≡ serve (decodedOf (now (card .entry))) (now (arena .entry)) (writeRequest «open» (now (codes .entry)) count (now (list .entry)) (now («data» .entry)) (length (now (staging .entry)))) .arena ⌝ }
-    ensures { λ _. ⌜ now (staging .exit) ≡ stagingBy (serve (decodedOf (now (card .entry))) (now (arena .entry)) (writeRequest «open» (now (codes .entry)) count (now (list .entry)) (now («data» .entry)) (length (now (staging .entry)))) .reply) (16 * decodedOf (now (card .entry)) .used) (now (staging .entry)) ⌝ }
+    ensures { λ r. ⌜ r ≡ replyAs (serve (cardDecoded (now (card .entry))) (now (arena .entry)) (writeRequest «open» (now (codes .entry)) count (now (list .entry)) (now («data» .entry)) (length (now (staging .entry)))) .reply) ⌝ }
+    ensures { λ _. ⌜ now (arena .exit) ≡ serve (cardDecoded (now (card .entry))) (now (arena .entry)) (writeRequest «open» (now (codes .entry)) count (now (list .entry)) (now («data» .entry)) (length (now (staging .entry)))) .arena ⌝ }
+    ensures { λ _. ⌜ now (staging .exit) ≡ stagingBy (serve (cardDecoded (now (card .entry))) (now (arena .entry)) (writeRequest «open» (now (codes .entry)) count (now (list .entry)) (now («data» .entry)) (length (now (staging .entry)))) .reply) (16 * cardDecoded (now (card .entry)) .used) (now (staging .entry)) ⌝ }
 {
     let own = decoding::decode(card);
     replied(writing::write(own, arena, staging, open, codes, count, list, data))

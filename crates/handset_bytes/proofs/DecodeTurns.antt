@@ -15,7 +15,7 @@ use Rattle.byte_parts.specs.Half.{halfAt}
 use Rattle.card_build.specs.declared.card.System.{System}
 use Rattle.handset_bytes.specs.Layout.{headSize, recordSize, cardSize}
 use Rattle.handset_bytes.specs.Node.{nodeIn, isRecord}
-use Rattle.handset_bytes.specs.Card.{nodesIn, areRecords, systemIn, cardIn, isHeaded, isCard, noCard, decodedOf}
+use Rattle.handset_bytes.specs.Card.{nodesIn, areRecords, systemIn, cardIn, isHeaded, isCard, noCard, cardDecoded}
 use Rattle.handset_bytes.proofs.Long.{at, ownOf, one-long}
 
 -- after i records that were read: what is left decides the rest
@@ -35,8 +35,8 @@ begun s nodes h k =
     record { most = omega arith; size = eqb-true (length s) cardSize (b .0); flag = leb-true (halfAt s 8) 1 (b .1); long = k; whole = refl; same = refl }
 
 -- another length, or neither yes nor no
-pub unheaded : (s : List ℕ) → isHeaded s ≡ false → decodedOf s ≡ noCard
-unfolding decodedOf isCard isHeaded
+pub unheaded : (s : List ℕ) → isHeaded s ≡ false → cardDecoded s ≡ noCard
+unfolding cardDecoded isCard isHeaded
 unheaded s e = by (eqb (length s) cardSize) (leb (halfAt s 8) 1) e
   where
     by : (t u : Bool) → (t && u) ≡ false → cond (t && (u && areRecords 64 (drop headSize s))) (cardIn s) noCard ≡ noCard
@@ -57,8 +57,8 @@ module _ {s : List ℕ} {nodes : List Node} {i : ℕ} (k : Reading s nodes i) wh
     next = let a : at i + recordSize ≡ at (i + 1) = omega arith in drop-drop recordSize (at i) s ∙ rw a
 
     -- it is no record
-    pub bad : isRecord (ownOf s i) ≡ false → decodedOf s ≡ noCard
-    unfolding decodedOf isCard areRecords
+    pub bad : isRecord (ownOf s i) ≡ false → cardDecoded s ≡ noCard
+    unfolding cardDecoded isCard areRecords
     bad r = rw (eq-eqb (length s) cardSize (k .size), le-leb (halfAt s 8) 1 (k .flag), k .whole, left, own, r)
 
     -- it is one, and read
@@ -81,8 +81,8 @@ module _ {s : List ℕ} {nodes : List Node} {i : ℕ} (k : Reading s nodes i) wh
 
   -- all were read
   pub read-all : {a b : ℕ} {y : System} → 64 ≤ i → a ≡ halfAt s 0 → b ≡ halfAt s 2 → y ≡ systemIn s →
-      _≡_ {A = Card} (record { nodes = nodes; count = a; used = b; system = y }) (decodedOf s)
-  unfolding decodedOf isCard areRecords nodesIn
+      _≡_ {A = Card} (record { nodes = nodes; count = a; used = b; system = y }) (cardDecoded s)
+  unfolding cardDecoded isCard areRecords nodesIn
   read-all h x y z =
       let none : 64 - i ≡ 0 = omega arith in
       let ok : areRecords 64 (drop headSize s) ≡ true = k .whole ∙ rw none in

@@ -17,7 +17,7 @@ use Rattle.card_build.specs.declared.card.System.{System}
 use Rattle.card_build.specs.Grow.{nodeAs}
 use Rattle.byte_parts.specs.Half.{halfBytes}
 use Rattle.handset_bytes.specs.Layout.{headSize, recordSize}
-use Rattle.handset_bytes.specs.Node.{kindOf, limitBytes, entryBytes, nodeBytes}
+use Rattle.handset_bytes.specs.Node.{kindByte, limitBytes, entryBytes, nodeBytes}
 use Rattle.handset_bytes.specs.Card.{flagOf, headBytes}
 use Rattle.handset_bytes.proofs.Long.{node-long}
 
@@ -48,7 +48,7 @@ whole s vs h k =
     sets-eq vs s 0 (omega arith) ∙ rw (drop-of-length-le s most) (append-nil vs)
 
 -- a record
-pub node-put : (n : Node) (s t u v : List ℕ) (k : ℕ) → length s ≡ recordSize → k ≡ kindOf (n .entry) →
+pub node-put : (n : Node) (s t u v : List ℕ) (k : ℕ) → length s ≡ recordSize → k ≡ kindByte (n .entry) →
     t ≡ put (set (set s 0 k) 1 (n .depth)) 2 2 (halfBytes (n .code)) → u ≡ put t 4 2 (halfBytes (n .version)) →
     v ≡ put u 6 14 (entryBytes (n .entry)) → v ≡ nodeBytes n
 unfolding put halfBytes wordBytes nodeBytes
@@ -56,7 +56,7 @@ node-put n s t u v k h x p q r =
     rw (r, q, p, x) (by (n .depth) (n .code) (n .version) (n .entry)) ∙ whole s (nodeBytes n) h (node-long n)
   where
     by : (depth code version : ℕ) (e : Entry) →
-        put (put (put (set (set s 0 (kindOf e)) 1 depth) 2 2 (halfBytes code)) 4 2 (halfBytes version)) 6 14 (entryBytes e)
+        put (put (put (set (set s 0 (kindByte e)) 1 depth) 2 2 (halfBytes code)) 4 2 (halfBytes version)) 6 14 (entryBytes e)
         ≡ sets s 0 (nodeBytes (nodeAs depth code version e))
     by depth code version (Area end) = refl
     by depth code version (Service start blocks Unlimited) = refl

@@ -67,5 +67,5 @@ isCard s = eqb (length s) cardSize && (leb (halfAt s 8) 1 && areRecords 64 (drop
 abbrev pub noCard : Card
 noCard = record { nodes = replicate 64 rootNode; count = 0; used = 0; system = systemOf 0 0 false }
 
-unfoldable pub decodedOf : List ℕ → Card
-decodedOf s = cond (isCard s) (cardIn s) noCard
+unfoldable pub cardDecoded : List ℕ → Card
+cardDecoded s = cond (isCard s) (cardIn s) noCard

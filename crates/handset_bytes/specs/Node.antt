@@ -16,10 +16,10 @@ use Rattle.card_nodes.specs.declared.node.Entry.{Entry}
 use Rattle.card_nodes.specs.declared.node.Entry.the-variants.{Area, Service}
 use Rattle.card_nodes.specs.declared.node.Node.{Node}
 
-abbrev pub kindOf : Entry → ℕ
-kindOf (Area end) = 0
-kindOf (Service start blocks Unlimited) = 1
-kindOf (Service start blocks (Limited upper lower generation)) = 2
+abbrev pub kindByte : Entry → ℕ
+kindByte (Area end) = 0
+kindByte (Service start blocks Unlimited) = 1
+kindByte (Service start blocks (Limited upper lower generation)) = 2
 
 -- bytes 10 to 19
 abbrev pub limitBytes : Limit → List ℕ
@@ -32,7 +32,7 @@ entryBytes (Area end) = halfBytes end ++ replicate 12 0
 entryBytes (Service start blocks limit) = halfBytes start ++ halfBytes blocks ++ limitBytes limit
 
 unfoldable pub nodeBytes : Node → List ℕ
-nodeBytes n = kindOf (n .entry) ∷ n .depth ∷ halfBytes (n .code) ++ halfBytes (n .version) ++ entryBytes (n .entry)
+nodeBytes n = kindByte (n .entry) ∷ n .depth ∷ halfBytes (n .code) ++ halfBytes (n .version) ++ entryBytes (n .entry)
 
 -- what a record's bytes read as
 abbrev pub limitIn : List ℕ → Limit

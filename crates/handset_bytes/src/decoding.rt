@@ -9,7 +9,7 @@ ghost use mathlib.Core.Path.{_≡_};
 ghost use Prim.Native.Nat.{_≤_};
 ghost use lib.ListN.{length};
 ghost use Rattle.handset_bytes.specs.Layout.{headSize};
-ghost use Rattle.handset_bytes.specs.Card.{systemIn, isHeaded, noCard, decodedOf};
+ghost use Rattle.handset_bytes.specs.Card.{systemIn, isHeaded, noCard, cardDecoded};
 
 // What stands for the card of bytes that encode none. It has not even a root, so that every call on it is refusal 8.
 fn none() -> Card
@@ -52,7 +52,7 @@ fn system_in(bytes: &[u8]) -> System
 
 // The card that `bytes` encode: a card's header, each record a node's. Whether accepted calls build it is not looked at here.
 pub fn decode(bytes: &[u8]) -> Card
-    ensures { λ r. ⌜ r ≡ decodedOf (now (bytes .entry)) ⌝ }
+    ensures { λ r. ⌜ r ≡ cardDecoded (now (bytes .entry)) ⌝ }
 {
     if !is_headed(bytes) {
         return none();

@@ -10,7 +10,7 @@ ghost use lib.ListN.{length};
 ghost use Rattle.byte_parts.specs.Part.{put};
 ghost use Rattle.byte_parts.specs.Word.{wordOf};
 ghost use Rattle.handset_bytes.specs.Layout.{recordSize};
-ghost use Rattle.handset_bytes.specs.Node.{isRecord, limitIn, entryIn, nodeIn, kindOf, limitBytes, entryBytes, nodeBytes};
+ghost use Rattle.handset_bytes.specs.Node.{isRecord, limitIn, entryIn, nodeIn, kindByte, limitBytes, entryBytes, nodeBytes};
 
 // Whether the record `r` is a node's: a kind that there is, and zeros where that kind has no field.
 pub(crate) fn is_record(r: &[u8]) -> bool
@@ -83,7 +83,7 @@ pub(crate) fn read(r: &[u8]) -> Node
 
 // The byte that says what kind of record `entry` makes: 0 an area, 1 a service, 2 a service with a limit.
 fn kind(entry: Entry) -> u8
-    ensures { λ x. ⌜ x ≡ kindOf entry ⌝ }
+    ensures { λ x. ⌜ x ≡ kindByte entry ⌝ }
 {
     match entry {
         Entry::Area { end: _ } => 0,

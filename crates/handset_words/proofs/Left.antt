@@ -32,11 +32,11 @@ use Rattle.card_questions.specs.declared.keys.Checked.the-variants.{WellFormed,
 use Rattle.card_questions.specs.Directory.{directoryOf, listedOf, listingOf, outAfter, directoryAnswer, directoryOut}
 use Rattle.node_messages.specs.declared.message.Put.{Put}
 use Rattle.node_messages.specs.declared.message.Put.the-variants.{Bytes, Refused as NotPut}
-use Rattle.node_messages.specs.Message.{putOf, outputAfter as messageAfter}
+use Rattle.node_messages.specs.Message.{messagePut, messageAfter}
 use Rattle.node_messages.specs.CodeList.{codeListBytes}
 use Rattle.node_messages.specs.Information.{informationBytes}
 use Rattle.card_lists.specs.Packet.{putAnswered, outAnswered, codeListOf, codeListPut, codeListOut}
-use Rattle.card_lists.specs.Information.{blocksOf, blocksPut, blocksOut}
+use Rattle.card_lists.specs.Information.{blocksTold, blocksPut, blocksOut}
 use Rattle.request_check.specs.Row.{rowOf}
 use Rattle.request_runs.specs.Runs.{Walked, bad, good}
 use Rattle.request_runs.specs.Staged.{staged}
@@ -55,7 +55,7 @@ use Rattle.handset_words.specs.Told.{toldAs, toldAfter, listedAs, listed
 use Rattle.handset_words.specs.Message.{putAs, putAfter, toldBy, numbersTold}
 use Rattle.handset_words.specs.Checked.{checkedAs, checkedAfter}
 use Rattle.handset_words.specs.Board.{refreshedAs, boardRoom, boardMade, recordsBy, recordsAfter}
-use Rattle.handset_words.specs.Block.{unfitAfter, setAnswer, setAfter, placeBy, placeAfter}
+use Rattle.handset_words.specs.Block.{unfitAfter, setAnswer, setAfter, placeBy, blockPlaceAfter}
 
 -- the number of a question
 pub told-left : (old : ℕ) (a : Told) → (toldAs a ≡ 0 → ⊥) → toldAfter old a ≡ old
@@ -83,8 +83,8 @@ card-left s a h = by (a .answer) h
 
 -- where a block lies
 pub place-left : (old : ℕ) (c : Card) (arenaLen code number : ℕ) →
-    (answerAs (blockJudged c arenaLen code number) ≡ 0 → ⊥) → placeAfter old c arenaLen code number ≡ old
-unfolding placeAfter
+    (answerAs (blockJudged c arenaLen code number) ≡ 0 → ⊥) → blockPlaceAfter old c arenaLen code number ≡ old
+unfolding blockPlaceAfter
 place-left old c arenaLen code number h = by (blockJudged c arenaLen code number) h
   where
     by : (x : Answer) → (answerAs x ≡ 0 → ⊥) → placeBy old (blockPlace (rowOf (nodesOf c) code) number) x ≡ old
@@ -121,7 +121,7 @@ put-left old (NotPut r) h = refl
 
 -- the output of a message
 answered-left : (a : Answer) (message out : List ℕ) → (putAs (putAnswered a message (length out)) ≡ 0 → ⊥) → outAnswered a message out ≡ out
-unfolding putOf messageAfter
+unfolding messagePut messageAfter
 answered-left (Refused r) message out h = refl
 answered-left Accepted message out h = by (ltb (length out) (length message)) h
   where
@@ -135,7 +135,7 @@ code-list-left c parent p out h = answered-left (codeListOf c parent p .answer) 
 
 pub information-left : (c : Card) (arenaLen : ℕ) (asked out : List ℕ) → (putAs (blocksPut c arenaLen asked (length out)) ≡ 0 → ⊥) → blocksOut c arenaLen asked out ≡ out
 unfolding blocksPut blocksOut
-information-left c arenaLen asked out h = answered-left (blocksOf c arenaLen asked .answer) (informationBytes (blocksOf c arenaLen asked .told)) out h
+information-left c arenaLen asked out h = answered-left (blocksTold c arenaLen asked .answer) (informationBytes (blocksTold c arenaLen asked .told)) out h
 
 -- what a reader tells, beside its lists and in them
 pub read-left : {A : Type 0} (a : Answer) (old new : A) → (answerAs a ≡ 0 → ⊥) → toldBy a old new ≡ old

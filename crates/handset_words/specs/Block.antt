@@ -29,5 +29,5 @@ abbrev pub placeBy : ℕ → ℕ → Answer → ℕ
 placeBy old place Done = place
 placeBy old place (Refused r) = old
 
-unfoldable pub placeAfter : ℕ → Card → ℕ → ℕ → ℕ → ℕ
-placeAfter old c arenaLen code number = placeBy old (blockPlace (rowOf (nodesOf c) code) number) (blockJudged c arenaLen code number)
+unfoldable pub blockPlaceAfter : ℕ → Card → ℕ → ℕ → ℕ → ℕ
+blockPlaceAfter old c arenaLen code number = placeBy old (blockPlace (rowOf (nodesOf c) code) number) (blockJudged c arenaLen code number)

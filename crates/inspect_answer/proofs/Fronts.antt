@@ -12,7 +12,7 @@ use Rattle.answers.specs.declared.refusal.Answer.the-variants as answers
 use Rattle.byte_parts.specs.Part.{part}
 use Rattle.text_numbers.specs.Hex.{hexText}
 use Rattle.node_messages.specs.declared.message.Put.{Put}
-use Rattle.node_messages.specs.Message.{putOf, outputAfter}
+use Rattle.node_messages.specs.Message.{messagePut, messageAfter}
 use Rattle.node_messages.proofs.Beyond.{stands}
 use Rattle.card_build.specs.declared.card.Card.{Card}
 use Rattle.card_build.specs.Card.{nodesOf}
@@ -26,8 +26,8 @@ use Rattle.inspect_answer.specs.Fields.{putFields, sizeOf}
 abbrev pub Tells : Put → List ℕ → ℕ → List ℕ → Type 0
 Tells put after room fields = (sizeOf put ≤ room) × (putFields (take (sizeOf put) after) put ≡ fields)
 
-put-shown : (message out : List ℕ) → let put = putOf message (length out) in Tells put (outputAfter message out) (length out) (putFields message put)
-unfolding putOf
+put-shown : (message out : List ℕ) → let put = messagePut message (length out) in Tells put (messageAfter message out) (length out) (putFields message put)
+unfolding messagePut
 put-shown message out =
     elim (decLt (length out) (length message)) [
       | yes h ↦ rw (lt-ltb (length out) (length message) h) (omega arith, refl)

@@ -20,7 +20,7 @@ use Rattle.inspect_ask.specs.declared.Asked.the-variants as asks
 use Rattle.inspect_ask.specs.declared.Single.the-variants as singles
 use Rattle.inspect_ask.specs.declared.Question.{Question}
 use Rattle.inspect_ask.specs.declared.Question.the-variants.{Unknown, Of, Room, Arena}
-use Rattle.inspect_ask.specs.Question.{listName, infoName, readlistName, readinfoName, totalName, verName, dirName, areasName, svcsName, blockName, usedName, attrName, roomName, arenaName, listLine, blockLine, codeLine, codesLine, bytesLine, roomLine, arenaLine, lentAsked, storedAsked, listsAsked, cardAsked, bytesAsked, messageAsked, questionOf}
+use Rattle.inspect_ask.specs.Question.{listName, infoName, readlistName, readinfoName, totalName, verName, dirName, areasName, svcsName, blockName, usedName, attrName, roomName, arenaName, listLine, blockQuestion, codeLine, codesLine, bytesLine, roomLine, arenaLine, lentAsked, storedAsked, listsAsked, cardAsked, bytesAsked, messageAsked, questionOf}
 use Rattle.inspect_ask.proofs.Asking.{asked-short}
 use Rattle.inspect_answer.specs.Answer.{fieldZero, nameOf}
 
@@ -58,9 +58,9 @@ module _ (fs : List (List ℕ)) where
       (by arenaName 2 (arenaLine fs) Unknown (λ e. on-number (Named first) Unknown tt (numberAt fs 1 65536) Arena (λ n. tt)) tt)
 
   on-stored : Named first (storedAsked fs)
-  unfolding storedAsked blockLine codeLine
+  unfolding storedAsked blockQuestion codeLine
   on-stored =
-      by blockName 3 (blockLine fs) _ (λ e. on-code (Named first) Unknown tt (codeAt fs 1) _ (λ n. on-number (Named first) Unknown tt (numberAt fs 2 4294967295) _ (λ m. e)))
+      by blockName 3 (blockQuestion fs) _ (λ e. on-code (Named first) Unknown tt (codeAt fs 1) _ (λ n. on-number (Named first) Unknown tt (numberAt fs 2 4294967295) _ (λ m. e)))
       (by usedName 1 (Of asks.Used) _ (λ e. e)
       (by attrName 2 (codeLine singles.Attribute fs) (lentAsked fs) (λ e. on-code (Named first) Unknown tt (codeAt fs 1) _ (λ n. e)) on-lent))
 

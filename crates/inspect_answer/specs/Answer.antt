@@ -52,8 +52,8 @@ fieldsOf c a room line asks.Used = usedFields c
 fieldsOf c a room line (asks.Attribute code) = attributeFields code
 
 -- lent are the first bytes of the arena, and of an output of 4,096 bytes
-unfoldable pub answerText : Card → List ℕ → ℕ → ℕ → List ℕ → Asked → List ℕ
-answerText c arena lent room line asked = closed 9 (nameOf asked) ++ fieldsOf c (take lent arena) (min room mostRoom) line asked
+unfoldable pub toldText : Card → List ℕ → ℕ → ℕ → List ℕ → Asked → List ℕ
+toldText c arena lent room line asked = closed 9 (nameOf asked) ++ fieldsOf c (take lent arena) (min room mostRoom) line asked
 
 -- `?` (63), line number
 unfoldable pub unknownText : ℕ → List ℕ

@@ -21,14 +21,14 @@ use Rattle.card_questions.specs.Total.{totalAnswer}
 use Rattle.card_questions.specs.Keys.{versionAnswer, areaListAnswer, serviceListAnswer}
 use Rattle.card_questions.specs.Directory.{directoryOf, directoryAnswer}
 use Rattle.card_lists.specs.Packet.{codeListOf, codeListPut}
-use Rattle.card_lists.specs.Information.{blocksOf, blocksPut}
+use Rattle.card_lists.specs.Information.{blocksTold, blocksPut}
 use Rattle.request_block.specs.Block.{storedBlock}
-use Rattle.inspect_fields.specs.Fields.{refusalFields}
+use Rattle.inspect_fields.specs.Fields.{refusalTold}
 
 -- `list`, `info`: the message's bytes, where the writer wrote them
 abbrev pub putFields : List ℕ → Put → List ℕ
 putFields message (puts.Bytes n) = closed 10 (hexText message)
-putFields message (puts.Refused refusal) = refusalFields refusal
+putFields message (puts.Refused refusal) = refusalTold refusal
 
 -- how many bytes it wrote
 abbrev pub sizeOf : Put → ℕ
@@ -39,7 +39,7 @@ unfoldable pub listFields : Card → ℕ → ℕ → ℕ → List ℕ
 listFields c parent p room = putFields (codeListBytes (codeListOf c parent p .list)) (codeListPut c parent p room)
 
 unfoldable pub infoFields : Card → ℕ → List ℕ → ℕ → List ℕ
-infoFields c arenaLen asked room = putFields (informationBytes (blocksOf c arenaLen asked .told)) (blocksPut c arenaLen asked room)
+infoFields c arenaLen asked room = putFields (informationBytes (blocksTold c arenaLen asked .told)) (blocksPut c arenaLen asked room)
 
 -- `ver`, `total`: the key version, or the total, of a code
 abbrev pub toldAnswer : Bool → Card → ℕ → Told
@@ -53,12 +53,12 @@ countText false n = decText n
 
 abbrev pub toldFields : Bool → Told → List ℕ
 toldFields version (tolds.Number n) = closed 10 (countText version n)
-toldFields version (tolds.Refused refusal) = refusalFields refusal
+toldFields version (tolds.Refused refusal) = refusalTold refusal
 
 -- `dir`: pairs, where an output of so many numbers has room for one of each node
 abbrev pub listingFields : List ℕ → Listing → List ℕ
 listingFields pairs (listings.Listed n) = closed 10 (fourDigits pairs)
-listingFields pairs (listings.Refused refusal) = refusalFields refusal
+listingFields pairs (listings.Refused refusal) = refusalTold refusal
 
 unfoldable pub directoryFields : Card → ℕ → List ℕ
 directoryFields c numbers = listingFields (directoryOf (nodesOf c)) (directoryAnswer c numbers)
@@ -71,7 +71,7 @@ listAnswer false c codes = serviceListAnswer c codes
 abbrev pub checkedFields : Checked → List ℕ
 checkedFields checks.WellFormed = closed 10 (121 ∷ 101 ∷ 115 ∷ [])
 checkedFields checks.Malformed = closed 10 (110 ∷ 111 ∷ [])
-checkedFields (checks.Refused refusal) = refusalFields refusal
+checkedFields (checks.Refused refusal) = refusalTold refusal
 
 -- `block`: the stored block, `-` if there is none
 abbrev pub blockFields : Card → List ℕ → ℕ → ℕ → List ℕ

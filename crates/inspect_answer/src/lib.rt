@@ -19,7 +19,7 @@ ghost use Rattle.text_print.specs.Print.{closed};
 ghost use Rattle.inspect_ask.specs.declared.Question.the-variants.{Of};
 ghost use Rattle.inspect_ask.specs.Question.{mostRoom, questionOf};
 ghost use Rattle.inspect_fields.specs.Fields.{mostFields};
-ghost use Rattle.inspect_answer.specs.Answer.{fieldZero, fieldsOf, answerText, unknownText};
+ghost use Rattle.inspect_answer.specs.Answer.{fieldZero, fieldsOf, toldText, unknownText};
 
 // Puts the name of a question, the first field of its line, and a tab into `out` from `at` on, and answers the place after them.
 fn put_name(line: &[u8], out: &mut [u8], at: usize) -> usize
@@ -73,7 +73,7 @@ pub fn put_answer(
     at: usize,
 ) -> usize
     requires { ⌜ (questionOf (now line) ≡ Of asked) × (at + mostPrinted ≤ length (now out)) ⌝ }
-    ensures { λ r. ⌜ Written (now (out .entry)) at (answerText card (now (arena .entry)) lent room (now (line .entry)) asked) r (now (out .exit)) × (r ≤ at + mostPrinted) ⌝ }
+    ensures { λ r. ⌜ Written (now (out .entry)) at (toldText card (now (arena .entry)) lent room (now (line .entry)) asked) r (now (out .exit)) × (r ≤ at + mostPrinted) ⌝ }
 {
     let next = put_name(line, out, at);
     let n = least(lent, arena.len());

@@ -18,7 +18,7 @@ use Rattle.inspect_ask.specs.declared.Asked.the-variants as asks
 use Rattle.inspect_ask.specs.declared.Single.the-variants as singles
 use Rattle.inspect_ask.specs.declared.Question.{Question}
 use Rattle.inspect_ask.specs.declared.Question.the-variants.{Unknown, Of, Room, Arena}
-use Rattle.inspect_ask.specs.Question.{listName, infoName, readlistName, readinfoName, totalName, verName, dirName, areasName, svcsName, blockName, usedName, attrName, roomName, arenaName, listLine, blockLine, codeLine, codesLine, bytesLine, roomLine, arenaLine, lentAsked, storedAsked, listsAsked, cardAsked, bytesAsked, messageAsked, questionOf}
+use Rattle.inspect_ask.specs.Question.{listName, infoName, readlistName, readinfoName, totalName, verName, dirName, areasName, svcsName, blockName, usedName, attrName, roomName, arenaName, listLine, blockQuestion, codeLine, codesLine, bytesLine, roomLine, arenaLine, lentAsked, storedAsked, listsAsked, cardAsked, bytesAsked, messageAsked, questionOf}
 
 -- whether field 1 is codes, and whether it is bytes
 abbrev pub Wants : Bool → Bool → Asked → Type 0
@@ -72,9 +72,9 @@ module _ (fs : List (List ℕ)) where
       (either Its (form arenaName 2 fs) (arenaLine fs) Unknown (on-number Its Unknown tt (numberAt fs 1 65536) Arena (λ n. tt)) tt)
 
   on-stored : Its (storedAsked fs)
-  unfolding storedAsked blockLine codeLine
+  unfolding storedAsked blockQuestion codeLine
   on-stored =
-      either Its (form blockName 3 fs) (blockLine fs) _ (on-code Its Unknown tt (codeAt fs 1) _ (λ n. on-number Its Unknown tt (numberAt fs 2 4294967295) _ (λ m. tt)))
+      either Its (form blockName 3 fs) (blockQuestion fs) _ (on-code Its Unknown tt (codeAt fs 1) _ (λ n. on-number Its Unknown tt (numberAt fs 2 4294967295) _ (λ m. tt)))
       (either Its (form usedName 1 fs) (Of asks.Used) _ tt
       (either Its (form attrName 2 fs) (codeLine singles.Attribute fs) (lentAsked fs) (on-code Its Unknown tt (codeAt fs 1) _ (λ n. tt)) on-lent))
 

@@ -3,14 +3,14 @@ use mathlib.Core.Path.{_≡_, refl}
 use mathlib.Core.List.{[], _∷_}
 use Rattle.byte_parts.specs.Part.{sameBytes}
 use Rattle.text_fields.specs.Field.{split}
-use Rattle.text_numbers.specs.Digit.{among, digitOf, digits, spelt}
+use Rattle.text_numbers.specs.Digit.{isBetween, digitOf, digits, spelt}
 use Rattle.text_numbers.specs.Hex.{grouped, hexField}
 use Rattle.text_numbers.specs.Codes.{hex16, codesField}
 use Rattle.text_numbers.specs.Decimal.{plain, upTo, decimal}
 use Rattle.line_fields.specs.Fields.{named, form}
 use Rattle.inspect_ask.specs.declared.Asked.the-variants as asks
 use Rattle.inspect_ask.specs.declared.Question.the-variants.{Unknown, Of, Room, Arena}
-use Rattle.inspect_ask.specs.Question.{listLine, blockLine, codeLine, codesLine, bytesLine, roomLine, arenaLine, lentAsked, storedAsked, listsAsked, cardAsked, bytesAsked, messageAsked, questionOf}
+use Rattle.inspect_ask.specs.Question.{listLine, blockQuestion, codeLine, codesLine, bytesLine, roomLine, arenaLine, lentAsked, storedAsked, listsAsked, cardAsked, bytesAsked, messageAsked, questionOf}
 
 -- `list 1000` and a packet number: 0, and those at 8, 16 and 32 bits.
 pub packet-rows
@@ -20,7 +20,7 @@ pub packet-rows
     × (questionOf (108 ∷ 105 ∷ 115 ∷ 116 ∷ 9 ∷ 49 ∷ 48 ∷ 48 ∷ 48 ∷ 9 ∷ 54 ∷ 53 ∷ 53 ∷ 51 ∷ 53 ∷ []) ≡ Of (asks.List 0x1000 65535))
     × (questionOf (108 ∷ 105 ∷ 115 ∷ 116 ∷ 9 ∷ 49 ∷ 48 ∷ 48 ∷ 48 ∷ 9 ∷ 54 ∷ 53 ∷ 53 ∷ 51 ∷ 54 ∷ []) ≡ Of (asks.List 0x1000 65536))
     × (questionOf (108 ∷ 105 ∷ 115 ∷ 116 ∷ 9 ∷ 49 ∷ 48 ∷ 48 ∷ 48 ∷ 9 ∷ 52 ∷ 50 ∷ 57 ∷ 52 ∷ 57 ∷ 54 ∷ 55 ∷ 50 ∷ 57 ∷ 53 ∷ []) ≡ Of (asks.List 0x1000 4294967295))
-unfolding questionOf messageAsked bytesAsked cardAsked listsAsked storedAsked lentAsked listLine blockLine codeLine codesLine bytesLine roomLine arenaLine form named sameBytes split hex16 codesField hexField grouped decimal plain upTo spelt digits digitOf among
+unfolding questionOf messageAsked bytesAsked cardAsked listsAsked storedAsked lentAsked listLine blockQuestion codeLine codesLine bytesLine roomLine arenaLine form named sameBytes split hex16 codesField hexField grouped decimal plain upTo spelt digits digitOf isBetween
 packet-rows = (refl, refl, refl, refl, refl, refl)
 
 -- What is no `list`: a packet number of over 32 bits, no packet, a tab more, half a code, a sign.
@@ -30,7 +30,7 @@ pub no-list-rows
     × (questionOf (108 ∷ 105 ∷ 115 ∷ 116 ∷ 9 ∷ 49 ∷ 48 ∷ 48 ∷ 48 ∷ 9 ∷ 48 ∷ 9 ∷ []) ≡ Unknown)
     × (questionOf (108 ∷ 105 ∷ 115 ∷ 116 ∷ 9 ∷ 49 ∷ 48 ∷ 48 ∷ 9 ∷ 48 ∷ []) ≡ Unknown)
     × (questionOf (108 ∷ 105 ∷ 115 ∷ 116 ∷ 9 ∷ 49 ∷ 48 ∷ 48 ∷ 48 ∷ 9 ∷ 45 ∷ 49 ∷ []) ≡ Unknown)
-unfolding questionOf messageAsked bytesAsked cardAsked listsAsked storedAsked lentAsked listLine blockLine codeLine codesLine bytesLine roomLine arenaLine form named sameBytes split hex16 codesField hexField grouped decimal plain upTo spelt digits digitOf among
+unfolding questionOf messageAsked bytesAsked cardAsked listsAsked storedAsked lentAsked listLine blockQuestion codeLine codesLine bytesLine roomLine arenaLine form named sameBytes split hex16 codesField hexField grouped decimal plain upTo spelt digits digitOf isBetween
 no-list-rows = (refl, refl, refl, refl, refl)
 
 -- Every other question: `info 1000104B`, `info -`, `readlist 000000`, `readinfo 00`, `total 1000`, `ver FFFF`, `dir`, `areas 0000FFFF`,
@@ -51,7 +51,7 @@ pub question-rows
     × (questionOf (97 ∷ 116 ∷ 116 ∷ 114 ∷ 9 ∷ 49 ∷ 48 ∷ 52 ∷ 66 ∷ []) ≡ Of (asks.Attribute 0x104b))
     × (questionOf (114 ∷ 111 ∷ 111 ∷ 109 ∷ 9 ∷ 52 ∷ 48 ∷ 57 ∷ 54 ∷ []) ≡ Room 4096)
     × (questionOf (97 ∷ 114 ∷ 101 ∷ 110 ∷ 97 ∷ 9 ∷ 54 ∷ 53 ∷ 53 ∷ 51 ∷ 54 ∷ []) ≡ Arena 65536)
-unfolding questionOf messageAsked bytesAsked cardAsked listsAsked storedAsked lentAsked listLine blockLine codeLine codesLine bytesLine roomLine arenaLine form named sameBytes split hex16 codesField hexField grouped decimal plain upTo spelt digits digitOf among
+unfolding questionOf messageAsked bytesAsked cardAsked listsAsked storedAsked lentAsked listLine blockQuestion codeLine codesLine bytesLine roomLine arenaLine form named sameBytes split hex16 codesField hexField grouped decimal plain upTo spelt digits digitOf isBetween
 question-rows = (refl, refl, refl, refl, refl, refl, refl, refl, refl, refl, refl, refl, refl, refl, refl)
 
 -- Messages, codes and lists with a malformed field, and with a field too few or too many.
@@ -71,7 +71,7 @@ pub unknown-rows
     × (questionOf (97 ∷ 114 ∷ 101 ∷ 97 ∷ 115 ∷ []) ≡ Unknown)
     × (questionOf (115 ∷ 118 ∷ 99 ∷ 115 ∷ 9 ∷ 49 ∷ 48 ∷ 52 ∷ 66 ∷ 9 ∷ []) ≡ Unknown)
     × (questionOf (115 ∷ 118 ∷ 99 ∷ 115 ∷ 9 ∷ 49 ∷ 48 ∷ 45 ∷ 66 ∷ []) ≡ Unknown)
-unfolding questionOf messageAsked bytesAsked cardAsked listsAsked storedAsked lentAsked listLine blockLine codeLine codesLine bytesLine roomLine arenaLine form named sameBytes split hex16 codesField hexField grouped decimal plain upTo spelt digits digitOf among
+unfolding questionOf messageAsked bytesAsked cardAsked listsAsked storedAsked lentAsked listLine blockQuestion codeLine codesLine bytesLine roomLine arenaLine form named sameBytes split hex16 codesField hexField grouped decimal plain upTo spelt digits digitOf isBetween
 unknown-rows = (refl, refl, refl, refl, refl, refl, refl, refl, refl, refl, refl, refl, refl, refl, refl)
 
 -- Blocks, attributes and lengths likewise; a capital; and an empty line.
@@ -88,5 +88,5 @@ pub unknown-block-rows
     × (questionOf (97 ∷ 114 ∷ 101 ∷ 110 ∷ 97 ∷ 9 ∷ 49 ∷ 9 ∷ 49 ∷ []) ≡ Unknown)
     × (questionOf (76 ∷ 105 ∷ 115 ∷ 116 ∷ 9 ∷ 49 ∷ 48 ∷ 48 ∷ 48 ∷ 9 ∷ 48 ∷ []) ≡ Unknown)
     × (questionOf [] ≡ Unknown)
-unfolding questionOf messageAsked bytesAsked cardAsked listsAsked storedAsked lentAsked listLine blockLine codeLine codesLine bytesLine roomLine arenaLine form named sameBytes split hex16 codesField hexField grouped decimal plain upTo spelt digits digitOf among
+unfolding questionOf messageAsked bytesAsked cardAsked listsAsked storedAsked lentAsked listLine blockQuestion codeLine codesLine bytesLine roomLine arenaLine form named sameBytes split hex16 codesField hexField grouped decimal plain upTo spelt digits digitOf isBetween
 unknown-block-rows = (refl, refl, refl, refl, refl, refl, refl, refl, refl, refl, refl, refl)

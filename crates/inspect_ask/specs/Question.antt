@@ -73,8 +73,8 @@ listLine fs =
     Of (asks.List parent packet)))
 
 -- `block` code number, of 32 bits
-unfoldable pub blockLine : List (List ℕ) → Question
-blockLine fs =
+unfoldable pub blockQuestion : List (List ℕ) → Question
+blockQuestion fs =
     withCode Unknown (codeAt fs 1) (λ code.
     withNumber Unknown (numberAt fs 2 4294967295) (λ number.
     Of (asks.Block code number)))
@@ -110,7 +110,7 @@ lentAsked fs =
 
 unfoldable pub storedAsked : List (List ℕ) → Question
 storedAsked fs =
-    cond (form blockName 3 fs) (blockLine fs)
+    cond (form blockName 3 fs) (blockQuestion fs)
     (cond (form usedName 1 fs) (Of asks.Used)
     (cond (form attrName 2 fs) (codeLine singles.Attribute fs) (lentAsked fs)))
 

@@ -10,7 +10,7 @@ use text_numbers::codes::Code;
 use text_numbers::decimals::Number;
 ghost use mathlib.Core.Path.{_≡_};
 ghost use Rattle.text_fields.specs.Field.{split, endsOf};
-ghost use Rattle.inspect_ask.specs.Question.{listLine, blockLine, singleOf, codeLine, codesLine, bytesLine, roomLine, arenaLine, lentAsked, storedAsked, listsAsked, cardAsked, bytesAsked, messageAsked, questionOf};
+ghost use Rattle.inspect_ask.specs.Question.{listLine, blockQuestion, singleOf, codeLine, codesLine, bytesLine, roomLine, arenaLine, lentAsked, storedAsked, listsAsked, cardAsked, bytesAsked, messageAsked, questionOf};
 
 // What is asked of a card. Codes and bytes of a question stand in the line's field 1.
 pub enum Asked {
@@ -60,7 +60,7 @@ fn list_line(line: &[u8], ends: Ends) -> Question
 // Reads a line `block`: code, number.
 fn block_line(line: &[u8], ends: Ends) -> Question
     requires { ⌜ ends ≡ endsOf 9 (now line) ⌝ }
-    ensures { λ r. ⌜ r ≡ blockLine (split 9 (now (line .entry))) ⌝ }
+    ensures { λ r. ⌜ r ≡ blockQuestion (split 9 (now (line .entry))) ⌝ }
 {
     let Code::Is(code) = code_at(line, ends, 1) else {
         return Question::Unknown;

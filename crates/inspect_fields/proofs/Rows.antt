@@ -11,7 +11,7 @@ use Rattle.node_messages.specs.Numbers.{numbersIn}
 use Rattle.node_messages.specs.CodeList.{isCounted, isCodeList, readCodeList}
 use Rattle.node_messages.specs.Information.{isInformation, readInformation}
 use Rattle.inspect_fields.specs.Attribute.{attributeFields}
-use Rattle.inspect_fields.specs.Fields.{refusalFields, readListFields, readInfoFields}
+use Rattle.inspect_fields.specs.Fields.{refusalTold, readListFields, readInfoFields}
 
 -- `1 random read-write key` and `free`, `1 random read-only free`, `1 cyclic read-write key`, `1 cyclic read-only free`, `1 purse direct key`,
 -- `cashback`, `decrement` and `read-only free`; and `1 - - -`, where the attribute is undefined.
@@ -36,7 +36,7 @@ pub list-rows
     × (readListFields (0x00 ∷ 0x00 ∷ 0x00 ∷ []) ≡ 48 ∷ 9 ∷ 45 ∷ 9 ∷ 45 ∷ 10 ∷ [])
     × (readListFields (0x02 ∷ 0x00 ∷ 0x00 ∷ []) ≡ 33 ∷ 9 ∷ 52 ∷ 55 ∷ 10 ∷ [])
     × (readListFields (0x00 ∷ 0x00 ∷ []) ≡ 33 ∷ 9 ∷ 52 ∷ 55 ∷ 10 ∷ [])
-unfolding readListFields refusalFields readCodeList isCodeList isCounted numbersIn halfAt padded highFirst hexText toHex capital decText digitsOf
+unfolding readListFields refusalTold readCodeList isCodeList isCounted numbersIn halfAt padded highFirst hexText toHex capital decText digitsOf
 list-rows = (refl, refl, refl, refl)
 
 -- Information on two nodes, 8 blocks and none assigned, 4096 and none free; on no node, `- -`; a byte left over and 33 nodes, `! 47`.
@@ -45,5 +45,5 @@ pub information-rows
     × (readInfoFields (0x00 ∷ []) ≡ 45 ∷ 9 ∷ 45 ∷ 10 ∷ [])
     × (readInfoFields (0x00 ∷ 0x00 ∷ []) ≡ 33 ∷ 9 ∷ 52 ∷ 55 ∷ 10 ∷ [])
     × (readInfoFields (0x21 ∷ 0x00 ∷ 0x00 ∷ 0x00 ∷ 0x00 ∷ []) ≡ 33 ∷ 9 ∷ 52 ∷ 55 ∷ 10 ∷ [])
-unfolding readInfoFields refusalFields readInformation isInformation numbersIn halfAt padded highFirst hexText toHex capital decText digitsOf
+unfolding readInfoFields refusalTold readInformation isInformation numbersIn halfAt padded highFirst hexText toHex capital decText digitsOf
 information-rows = (refl, refl, refl, refl)

@@ -12,8 +12,8 @@ use Rattle.text_numbers.specs.Decimal.{decText}
 use Rattle.text_print.specs.Print.{closed, fourDigits}
 use Rattle.node_messages.specs.declared.code_list.CodeList.{CodeList}
 use Rattle.node_messages.specs.declared.information.BlockInformation.{BlockInformation}
-use Rattle.node_messages.specs.CodeList.{rangesOf, codesOf, readCodeList}
-use Rattle.node_messages.specs.Information.{nodesOf, readInformation}
+use Rattle.node_messages.specs.CodeList.{rangesOf, codesListed, readCodeList}
+use Rattle.node_messages.specs.Information.{nodeCount, readInformation}
 
 -- codes and bytes of a question stand in field 1
 abbrev pub fieldOne : List ℕ → List ℕ
@@ -24,8 +24,8 @@ abbrev pub mostFields : ℕ
 mostFields = 8256
 
 -- refused: `!` (33), the refusal's number
-unfoldable pub refusalFields : Refusal → List ℕ
-refusalFields refusal = closed 9 (33 ∷ []) ++ closed 10 (decText (refusalNumber refusal))
+unfoldable pub refusalTold : Refusal → List ℕ
+refusalTold refusal = closed 9 (33 ∷ []) ++ closed 10 (decText (refusalNumber refusal))
 
 -- `readlist`: flag, areas (code and end), services
 abbrev pub flagText : Bool → List ℕ
@@ -33,22 +33,22 @@ flagText true = 49 ∷ []
 flagText false = 48 ∷ []
 
 abbrev pub codeListFields : CodeList → List ℕ
-codeListFields m = closed 9 (flagText (m .more)) ++ closed 9 (fourDigits (rangesOf m)) ++ closed 10 (fourDigits (codesOf m))
+codeListFields m = closed 9 (flagText (m .more)) ++ closed 9 (fourDigits (rangesOf m)) ++ closed 10 (fourDigits (codesListed m))
 
 abbrev pub listedFields : CodeList → Answer → List ℕ
 listedFields m answers.Done = codeListFields m
-listedFields m (answers.Refused refusal) = refusalFields refusal
+listedFields m (answers.Refused refusal) = refusalTold refusal
 
 unfoldable pub readListFields : List ℕ → List ℕ
 readListFields s = listedFields (readCodeList s .list) (readCodeList s .answer)
 
 -- `readinfo`: assigned, free
 abbrev pub informationFields : BlockInformation → List ℕ
-informationFields m = closed 9 (fourDigits (take (nodesOf m) (m .assigned))) ++ closed 10 (fourDigits (take (nodesOf m) (m .free)))
+informationFields m = closed 9 (fourDigits (take (nodeCount m) (m .assigned))) ++ closed 10 (fourDigits (take (nodeCount m) (m .free)))
 
 abbrev pub informedFields : BlockInformation → Answer → List ℕ
 informedFields m answers.Done = informationFields m
-informedFields m (answers.Refused refusal) = refusalFields refusal
+informedFields m (answers.Refused refusal) = refusalTold refusal
 
 unfoldable pub readInfoFields : List ℕ → List ℕ
 readInfoFields s = informedFields (readInformation s .told) (readInformation s .answer)

@@ -5,12 +5,12 @@ use lib.ListN.{replicate}
 use Rattle.card_build.specs.declared.card.Card.{Card}
 use Rattle.text_stream.specs.Stream.{Machine, saysOf}
 use Rattle.replay_state.specs.declared.Replay.{Replay}
-use Rattle.replay_state.specs.Phases.{startOf, oneMore, finishText}
-use Rattle.replay_line.specs.Replay.{Held, held, heldBy, textBy, workBy, bytesBy, lentBytes}
+use Rattle.replay_state.specs.Phases.{replayStart, oneMore, finishText}
+use Rattle.replay_line.specs.Replay.{Held, held, heldBy, textBy, workTaken, bytesBy, lentBytes}
 use Rattle.inspect_ask.specs.declared.Question.{Question}
 use Rattle.inspect_ask.specs.declared.Question.the-variants as questions
 use Rattle.inspect_ask.specs.Question.{mostRoom, mostArena}
-use Rattle.inspect_answer.specs.Answer.{answerText, unknownText}
+use Rattle.inspect_answer.specs.Answer.{toldText, unknownText}
 use Rattle.inspect_line.specs.declared.Inspect.{Inspect}
 use Rattle.inspect_sort.specs.declared.Sort.{Sort}
 use Rattle.inspect_sort.specs.declared.Sort.the-variants as sorts
@@ -26,7 +26,7 @@ seen p arena = record { inspect = p; arena = arena }
 
 -- at first the whole output and the whole arena are lent
 abbrev pub beginsWith : Inspect
-beginsWith = record { replay = startOf; room = mostRoom; lent = mostArena }
+beginsWith = record { replay = replayStart; room = mostRoom; lent = mostArena }
 
 -- the line number counts every line
 abbrev pub numbered : ℕ → Replay → Replay
@@ -59,7 +59,7 @@ questionSeen s q =
 -- what it prints
 abbrev pub questionText : Card → List ℕ → ℕ → ℕ → ℕ → List ℕ → Question → List ℕ
 questionText c arena lent room number line questions.Unknown = unknownText number
-questionText c arena lent room number line (questions.Of asked) = answerText c arena lent room line asked
+questionText c arena lent room number line (questions.Of asked) = toldText c arena lent room line asked
 questionText c arena lent room number line (questions.Room n) = []
 questionText c arena lent room number line (questions.Arena n) = []
 
@@ -89,16 +89,16 @@ abbrev pub inspectMachine : Machine Seen
 inspectMachine = record { line = lineSeen; text = lineSaid; end = endSaid }
 
 -- ahead of the first line the arena is zero
-abbrev pub atStart : Seen
-atStart = seen beginsWith (replicate lentBytes 0)
+abbrev pub seenAtStart : Seen
+seenAtStart = seen beginsWith (replicate lentBytes 0)
 
 -- what is printed of a text
 unfoldable pub inspectOf : List ℕ → List ℕ
-inspectOf text = saysOf inspectMachine atStart text
+inspectOf text = saysOf inspectMachine seenAtStart text
 
 -- the buffers lent to a request, after a line
 abbrev pub sortWork : Sort → Seen → List ℕ → List ℕ → List ℕ
-sortWork (sorts.Replayed kind) s work line = workBy kind (held (s .inspect .replay) (s .arena)) work line
+sortWork (sorts.Replayed kind) s work line = workTaken kind (held (s .inspect .replay) (s .arena)) work line
 sortWork (sorts.Asked q) s work line = work
 sortWork sorts.Nothing s work line = work
 

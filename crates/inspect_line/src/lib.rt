@@ -11,7 +11,7 @@ ghost use lib.ListN.{length};
 ghost use Rattle.text_stream.specs.Stream.{Written};
 ghost use Rattle.line_serve.specs.Text.{mostSpelled, mostPrinted};
 ghost use Rattle.replay_state.specs.Phases.{oneMore};
-ghost use Rattle.replay_line.specs.Replay.{lentBytes, held, heldBy, textBy, workBy, bytesBy};
+ghost use Rattle.replay_line.specs.Replay.{lentBytes, held, heldBy, textBy, workTaken, bytesBy};
 ghost use Rattle.inspect_ask.specs.Question.{questionOf};
 ghost use Rattle.inspect_line.specs.Inspect.{seen, beginsWith, numbered, replayedSeen, questionSeen, roomAfter, lentAfter, questionText, sortWork, sortBytes, lineSeen, lineSaid, workSeen, bytesSeen};
 
@@ -92,7 +92,7 @@ fn replayed_line(
     requires { ⌜ (length (now work) ≡ lentBytes) × (mostSpelled ≤ length (now bytes)) × (at + mostPrinted ≤ length (now out)) ⌝ }
     ensures { λ r. ⌜ seen (r .inspect) (now (arena .exit)) ≡ replayedSeen inspect (heldBy kind (held (inspect .replay) (now (arena .entry))) (now (line .entry))) ⌝ }
     ensures { λ r. ⌜ Written (now (out .entry)) at (textBy kind (held (inspect .replay) (now (arena .entry))) (now (line .entry))) (r .at) (now (out .exit)) × (r .at ≤ at + mostPrinted) ⌝ }
-    ensures { λ _. ⌜ now (work .exit) ≡ workBy kind (held (inspect .replay) (now (arena .entry))) (now (work .entry)) (now (line .entry)) ⌝ }
+    ensures { λ _. ⌜ now (work .exit) ≡ workTaken kind (held (inspect .replay) (now (arena .entry))) (now (work .entry)) (now (line .entry)) ⌝ }
     ensures { λ _. ⌜ now (bytes .exit) ≡ bytesBy kind (now (bytes .entry)) (now (line .entry)) ⌝ }
 {
     let replay = inspect.replay;

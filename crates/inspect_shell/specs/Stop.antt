@@ -1,8 +1,8 @@
--- When inspection stops reading.
+-- When inspection seenStops reading.
 use mathlib.Core.Bool.{Bool}
 use Rattle.replay_state.specs.Phases.{stopsIn}
 use Rattle.inspect_line.specs.Inspect.{Seen}
 
 -- RULES 11.11: a refused image line ends the run, as it ends a replay
-abbrev pub stops : Seen → Bool
-stops s = stopsIn (s .inspect .replay .phase)
+abbrev pub seenStops : Seen → Bool
+seenStops s = stopsIn (s .inspect .replay .phase)

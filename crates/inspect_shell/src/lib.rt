@@ -9,8 +9,8 @@ ghost use Rattle.text_stream.specs.Stream.{saysOf};
 ghost use Rattle.text_pull.specs.Pull.{Answered, Next, Flushed, Ran};
 ghost use Rattle.line_serve.specs.Text.{mostSpelled, mostPrinted};
 ghost use Rattle.replay_line.specs.Replay.{lentBytes};
-ghost use Rattle.inspect_line.specs.Inspect.{beginsWith, seen, inspectMachine, atStart};
-ghost use Rattle.inspect_shell.specs.Stop.{stops};
+ghost use Rattle.inspect_line.specs.Inspect.{beginsWith, seen, inspectMachine, seenAtStart};
+ghost use Rattle.inspect_shell.specs.Stop.{seenStops};
 
 // An inspection, and where the reading is.
 struct Moved {
@@ -29,7 +29,7 @@ fn answer(
     out: &mut [u8],
 ) -> Moved
     requires { ⌜ (length (now work) ≡ lentBytes) × (mostSpelled ≤ length (now bytes)) × (flow .len ≤ length (now line)) × (flow .made + mostPrinted ≤ length (now out)) ⌝ }
-    ensures { λ r. ⌜ Answered inspectMachine stops mostPrinted flow (seen inspect (now (arena .entry))) (now (line .entry)) (now (out .entry)) (r .flow) (seen (r .inspect) (now (arena .exit))) (now (out .exit)) ⌝ }
+    ensures { λ r. ⌜ Answered inspectMachine seenStops mostPrinted flow (seen inspect (now (arena .entry))) (now (line .entry)) (now (out .entry)) (r .flow) (seen (r .inspect) (now (arena .exit))) (now (out .exit)) ⌝ }
 {
     if text_pull::is_line(flow) {
         let made = text_pull::made(flow);
@@ -58,7 +58,7 @@ fn answer(
 // Writes what was printed, where it is due: it is what a text of the length read prints next.
 fn flush(flow: Flow, out: &[u8]) -> Flow
     requires { ⌜ (flow .made ≤ length (now out)) × (flow .written + flow .made < 18446744073709551616) ⌝ }
-    requires { ⌜ Next (saysOf inspectMachine atStart) flow (take (flow .made) (now out)) ⌝ }
+    requires { ⌜ Next (saysOf inspectMachine seenAtStart) flow (take (flow .made) (now out)) ⌝ }
     ensures { λ r. ⌜ Flushed mostPrinted (length (now (out .entry))) flow r ⌝ }
 {
     text_pull::writing::flush(flow, out, MOST_PRINTED)
@@ -77,7 +77,7 @@ fn run(
 ) -> Flow
     requires { ⌜ (now arena ≡ replicate lentBytes 0) × (inspect ≡ beginsWith) ⌝ }
     requires { ⌜ (length (now work) ≡ lentBytes) × (mostSpelled ≤ length (now bytes)) × (length (now chunk) ≡ 65536) × (length (now line) ≡ 32769) × (length (now out) ≡ 65536) ⌝ }
-    ensures { λ r. ⌜ Ran inspectMachine atStart r ⌝ }
+    ensures { λ r. ⌜ Ran inspectMachine seenAtStart r ⌝ }
 {
     let mut moved = Moved {
         inspect,
@@ -95,7 +95,7 @@ fn run(
 fn lend(fd: i32, arena: &mut [u8], work: &mut [u8], bytes: &mut [u8]) -> Flow
     requires { ⌜ now arena ≡ replicate lentBytes 0 ⌝ }
     requires { ⌜ (length (now work) ≡ lentBytes) × (mostSpelled ≤ length (now bytes)) ⌝ }
-    ensures { λ r. ⌜ Ran inspectMachine atStart r ⌝ }
+    ensures { λ r. ⌜ Ran inspectMachine seenAtStart r ⌝ }
 {
     let start = inspect_line::start();
     let mut chunk = [0u8; 65536];
@@ -115,7 +115,7 @@ fn lend(fd: i32, arena: &mut [u8], work: &mut [u8], bytes: &mut [u8]) -> Flow
 
 // Inspects what the descriptor has, to standard output, and answers where the reading is then.
 pub fn inspect(fd: i32) -> Flow
-    ensures { λ r. ⌜ Ran inspectMachine atStart r ⌝ }
+    ensures { λ r. ⌜ Ran inspectMachine seenAtStart r ⌝ }
 {
     let mut arena = [0u8; 65536];
     let mut work = [0u8; 65536];

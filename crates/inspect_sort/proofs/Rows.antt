@@ -4,7 +4,7 @@ use mathlib.Core.Bool.{true, false}
 use mathlib.Core.List.{[], _∷_}
 use Rattle.byte_parts.specs.Part.{sameBytes}
 use Rattle.text_fields.specs.Field.{split}
-use Rattle.text_numbers.specs.Digit.{among, digitOf, digits, spelt}
+use Rattle.text_numbers.specs.Digit.{isBetween, digitOf, digits, spelt}
 use Rattle.text_numbers.specs.Hex.{grouped}
 use Rattle.text_numbers.specs.Codes.{codesField}
 use Rattle.text_numbers.specs.Decimal.{plain, upTo, decimal}
@@ -44,5 +44,5 @@ pub sort-rows
     × (sortOf Requests [] ≡ sorts.Asked Unknown)
     × (sortOf Ended (117 ∷ 115 ∷ 101 ∷ 100 ∷ []) ≡ sorts.Nothing)
     × (sortOf Ended (82 ∷ []) ≡ sorts.Nothing)
-unfolding sortOf laterSort imageNamed requestLine isEither isLetter boardLine questionOf messageAsked bytesAsked cardAsked listsAsked storedAsked lentAsked codesLine roomLine arenaLine form named sameBytes split codesField grouped decimal plain upTo spelt digits digitOf among
+unfolding sortOf laterSort imageNamed requestLine isEither isLetter boardLine questionOf messageAsked bytesAsked cardAsked listsAsked storedAsked lentAsked codesLine roomLine arenaLine form named sameBytes split codesField grouped decimal plain upTo spelt digits digitOf isBetween
 sort-rows = (refl, refl, refl, refl, refl, refl, refl, refl, refl, refl, refl, refl, refl, refl, refl, refl, refl, refl, refl, refl, refl)

@@ -16,7 +16,7 @@ use Rattle.law_terminals.specs.Last.{elementAt, NamesBlock, arenaThen}
 use Rattle.law_terminals.proofs.Last.{tower-given}
 use Rattle.board_lanes.specs.declared.lanes.Judged.{Judged}
 use Rattle.board_lanes.specs.declared.lanes.Judged.the-variants as judged
-use Rattle.board_lanes.specs.Board.{blockAt, Lane, empty, laneOf, lanesFrom, lanesOf, lanes, judgedOf, boardBy, boardOf}
+use Rattle.board_lanes.specs.Board.{blockAt, Lane, empty, laneOf, lanesFrom, lanesOf, lanes, boardJudged, boardBy, boardOf}
 use Rattle.board_read.specs.Refresh.{boardRequest, boardServed}
 use Rattle.law_blocks.specs.Lane.{Shows, BoardShows}
 use Rattle.law_blocks.proofs.Holding.{BlockHolds, read-gives}
@@ -61,7 +61,7 @@ lane-at bytes (suc n) j (suc k) h =
 -- lane k of a board
 pub board-lane : (bytes : List ℕ) (k : ℕ) (ls : List Lane) → k < 8 → boardOf bytes ≡ lanes ls → getD ls k empty ≡ laneOf (blockAt bytes k)
 unfolding boardOf
-board-lane bytes k ls h = by-judged (judgedOf bytes)
+board-lane bytes k ls h = by-judged (boardJudged bytes)
   where
     by-judged : (j : Judged) → boardBy bytes j ≡ lanes ls → getD ls k empty ≡ laneOf (blockAt bytes k)
     by-judged judged.Sound e =

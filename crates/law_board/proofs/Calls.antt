@@ -17,7 +17,7 @@ use Rattle.board_line.specs.Line.{boardLine, boardLineText}
 use Rattle.replay_state.specs.Phases.{oneMore}
 use Rattle.replay_line.specs.Replay.{Held, held}
 use Rattle.card_build.specs.declared.card.Card.{Card}
-use Rattle.handset_bytes.specs.Card.{decodedOf}
+use Rattle.handset_bytes.specs.Card.{cardDecoded}
 use Rattle.law_terminals.specs.Runs.{Call, Left, Leaves}
 use Rattle.law_calls.specs.Promise.{Promises}
 use Rattle.law_calls.specs.Library.{request, handsetRequest, libraryLeft}
@@ -62,21 +62,21 @@ module _ {M : Type 1} (𝓤 : URA M) (H : Heap 𝓤) (A : Atoms 𝓤) (mem : Mem
   pub board-leaves
       : Promises 𝓤 board.ended (board.clauses 𝓤 H A mem run) (λ κs a r ws.
       let (card, (arena, (code, (lanes, _)))) = a in
-      BoardCall (decodedOf (now card)) (now arena) code (now lanes) r (ws .1 .1 .1 .0))
+      BoardCall (cardDecoded (now card)) (now arena) code (now lanes) r (ws .1 .1 .1 .0))
   board-leaves κs a g r ws = of-two 𝓤 (λ p q.
       let (card, (arena, (code, (lanes, _)))) = a in
-      board-call (decodedOf (now card)) (decoded-long (now card)) (now arena) code (now lanes) p q)
+      board-call (cardDecoded (now card)) (decoded-long (now card)) (now arena) code (now lanes) p q)
 
   -- so is a board
   pub board-is-call
       : Promises 𝓤 board.ended (board.clauses 𝓤 H A mem run) (λ κs a r ws.
       let (card, (arena, (code, (lanes, _)))) = a in
-      CallLeaves (decodedOf (now card)) (now arena) (boards code (now lanes)) (record { reply = r; buffer = ws .1 .1 .1 .0 }) (now arena))
+      CallLeaves (cardDecoded (now card)) (now arena) (boards code (now lanes)) (record { reply = r; buffer = ws .1 .1 .1 .0 }) (now arena))
   board-is-call κs a g r ws = of-two 𝓤 (λ p q. (λ i. record { reply = p i; buffer = q i }, refl))
 
   -- and a set block
   pub set-is-call
       : Promises 𝓤 setting.ended (setting.clauses 𝓤 H A mem run) (λ κs a r ws.
       let (card, (arena, (code, (number, (bytes, _))))) = a in
-      CallLeaves (decodedOf (now card)) (now arena) (sets code number (now bytes)) (record { reply = r; buffer = [] }) (ws .1 .0))
+      CallLeaves (cardDecoded (now card)) (now arena) (sets code number (now bytes)) (record { reply = r; buffer = [] }) (ws .1 .0))
   set-is-call κs a g r ws = of-two 𝓤 (λ p q. (λ i. record { reply = p i; buffer = [] }, q))

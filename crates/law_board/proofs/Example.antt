@@ -9,7 +9,7 @@ use Rattle.service_code.specs.Code.{numberOf, attributesOf, tableOf, decodedOf,
 use Rattle.block_list.specs.Element.{unpackAt, endsFrom, endsAfter, elementsFrom}
 use Rattle.byte_parts.specs.Part.{part, put}
 use Rattle.text_fields.specs.Field.{split}
-use Rattle.text_numbers.specs.Digit.{among, digitOf, digits, spelt}
+use Rattle.text_numbers.specs.Digit.{isBetween, digitOf, digits, spelt}
 use Rattle.text_numbers.specs.Hex.{grouped, hexField, pairs, unhex}
 use Rattle.text_numbers.specs.Codes.{hex16, codesField, codesOf}
 use Rattle.text_numbers.specs.Decimal.{plain, upTo, decimal, digitsOf, decText}
@@ -33,13 +33,13 @@ use Rattle.line_request.specs.Ask.{isLetter, isEither, requestLine, shaped, isW
 use Rattle.line_serve.specs.Line.{lineServed}
 use Rattle.law_terminals.specs.Orders.{after}
 use Rattle.law_terminals.specs.Last.{Redrawn}
-use Rattle.board_lanes.specs.Board.{isEmpty, areCrew, blockJudged, laneJudged, lanesJudged, sameRace, ofRace, oneRace, racesJudged, judgedOf, crewLength, laneOf, lanesFrom}
+use Rattle.board_lanes.specs.Board.{isEmpty, areCrew, filledJudged, laneJudged, lanesJudged, sameRace, ofRace, oneRace, racesJudged, boardJudged, crewLength, laneOf, lanesFrom}
 use Rattle.board_line.specs.Text.{lanesText}
 use Rattle.board_read.specs.Refresh.{boardRequest, refreshed}
 use Rattle.board_line.specs.Line.{boardLine, boardCode, boardLineText}
 use Rattle.replay_state.specs.declared.Phase.the-variants.{Requests}
 use Rattle.replay_state.specs.Phases.{oneMore}
-use Rattle.replay_kind.specs.Kind.{imageKind, requestKind, kindOf}
+use Rattle.replay_kind.specs.Kind.{imageKind, requestKind, takenFor}
 use Rattle.replay_line.specs.Replay.{Held, held, lineHeld, lineText}
 use Rattle.law_lines.specs.Lines.{Without, none, kept, dropped, heldAfter, NoPart}
 use Rattle.law_board.specs.Redraw.{requestIn, Prints}
@@ -112,7 +112,7 @@ abbrev IsRedrawn : Type 0
 IsRedrawn = Redrawn card 0x41 2 thames arena (requestIn redraw) (map requestIn (look ∷ refresh ∷ [])) (boardRequest 0x104b 128)
 
 computed : Printed × Lighter × IsRedrawn
-unfolding addService placedOf isDepth parentAt parentFrom openAt firstFrom serviceUnder outside sameKind joinedTo usable newStore mayJoin numberOf attributesOf tableOf decodedOf attributeOf codeKindOf requiresKey unpackAt endsFrom endsAfter elementsFrom part put isRoot allRoots stepOf stepsFrom stepsOf soundOf rowOf modeAllowed attributeCheck serviceCheck rowCheck elementCheck checkedFrom then push runsOf scan walk back within elementBy endBy onStore staged writeJudged readJudged judgedWith planOf blocksRead committed carried serve split hex16 codesField codesOf plain upTo decimal digitsOf decText among digitOf digits spelt grouped hexField pairs unhex isLetter isEither requestLine shaped isWrite askOf lineServed after isEmpty areCrew blockJudged laneJudged lanesJudged sameRace ofRace oneRace racesJudged judgedOf crewLength laneOf lanesFrom lanesText refreshed boardLine boardCode boardLineText imageKind requestKind kindOf lineHeld lineText oneMore heldAfter requestIn
+unfolding addService placedOf isDepth parentAt parentFrom openAt firstFrom serviceUnder outside sameKind joinedTo usable newStore mayJoin numberOf attributesOf tableOf decodedOf attributeOf codeKindOf requiresKey unpackAt endsFrom endsAfter elementsFrom part put isRoot allRoots stepOf stepsFrom stepsOf soundOf rowOf modeAllowed attributeCheck serviceCheck rowCheck elementCheck checkedFrom then push runsOf scan walk back within elementBy endBy onStore staged writeJudged readJudged judgedWith planOf blocksRead committed carried serve split hex16 codesField codesOf plain upTo decimal digitsOf decText isBetween digitOf digits spelt grouped hexField pairs unhex isLetter isEither requestLine shaped isWrite askOf lineServed after isEmpty areCrew filledJudged laneJudged lanesJudged sameRace ofRace oneRace racesJudged boardJudged crewLength laneOf lanesFrom lanesText refreshed boardLine boardCode boardLineText imageKind requestKind takenFor lineHeld lineText oneMore heldAfter requestIn
 computed = (
   (refl, refl, refl),
   (refl, refl),
@@ -134,7 +134,7 @@ computed = (
 
 -- so by the law the last refresh shows in lane 3 what the redraw brought
 shown : Prints (heldAfter start (redraw ∷ look ∷ refresh ∷ [])) refresh 0x104b 2 thames
-unfolding numberOf split among digitOf digits spelt hex16 isLetter boardLine boardCode
+unfolding numberOf split isBetween digitOf digits spelt hex16 isLetter boardLine boardCode
 shown =
     line-shows start (sized built .long) 0x41 2 thames redraw (look ∷ refresh ∷ []) refresh 0x104b tt refl (omega arith) refl
     (computed .2)

@@ -21,7 +21,7 @@ use Rattle.board_lanes.specs.declared.refusal.BoardRefusal.{BoardRefusal}
 use Rattle.board_lanes.specs.declared.refusal.BoardRefusal.the-variants.{RacesDiffer, WrongLane, BadCrew, TailNotZero}
 use Rattle.board_lanes.specs.declared.lanes.Judged.{Judged}
 use Rattle.board_lanes.specs.declared.lanes.Judged.the-variants as judged
-use Rattle.board_lanes.specs.Board.{blockAt, boardNumber, Lane, empty, filled, laneOf, lanesFrom, lanesOf, lanes, judgedOf, boardOf}
+use Rattle.board_lanes.specs.Board.{blockAt, boardNumber, Lane, empty, filled, laneOf, lanesFrom, lanesOf, lanes, boardJudged, boardOf}
 use Rattle.board_lanes.specs.Records.{laneRecord, lanesRecords}
 use Rattle.board_read.specs.Refresh.{boardServed, refreshedBy, refreshedAfter, refreshed}
 use Rattle.board_read.proofs.Refreshing.{by-blocks, read-room}
@@ -54,14 +54,14 @@ zero-judged (judged.Refused x) e = absurd (numbered x e)
 
 module _ (c : Card) (a : List ℕ) (code room : ℕ) where
   zero-board : refreshedAs (refreshed c a code room) ≡ 0 →
-      (boardServed c a code room .reply ≡ replies.Done) × (judgedOf (boardServed c a code room .read) ≡ judged.Sound)
+      (boardServed c a code room .reply ≡ replies.Done) × (boardJudged (boardServed c a code room .read) ≡ judged.Sound)
   unfolding refreshed
   zero-board = by-reply (boardServed c a code room .reply)
     where
       by-reply : (x : Reply) → refreshedAs (refreshedAfter (boardServed c a code room) x) ≡ 0 →
-          (x ≡ replies.Done) × (judgedOf (boardServed c a code room .read) ≡ judged.Sound)
+          (x ≡ replies.Done) × (boardJudged (boardServed c a code room .read) ≡ judged.Sound)
       by-reply (replies.Refused r) e = absurd (let z = zero-done (replies.Refused r) e in let y : _≡_ {A = ℕ} 0 1 = cc in omega arith)
-      by-reply replies.Done e = (refl, zero-judged (judgedOf (boardServed c a code room .read)) e)
+      by-reply replies.Done e = (refl, zero-judged (boardJudged (boardServed c a code room .read)) e)
       by-reply replies.ShortData e = absurd (let z = zero-done replies.ShortData e in let y : _≡_ {A = ℕ} 0 1 = cc in omega arith)
       by-reply (replies.Failed i f) e = absurd (let z = zero-done (replies.Failed i f) e in let y : _≡_ {A = ℕ} 0 1 = cc in omega arith)
 
@@ -80,7 +80,7 @@ module _ (c : Card) (z : length (c .nodes) ≡ 64) (a : List ℕ) (code : ℕ) (
   room = boardRoom (length old)
 
   -- the card answers 00 00, and the blocks make a board
-  done : (boardServed c a code room .reply ≡ replies.Done) × (judgedOf (boardServed c a code room .read) ≡ judged.Sound)
+  done : (boardServed c a code room .reply ≡ replies.Done) × (boardJudged (boardServed c a code room .read) ≡ judged.Sound)
   done = zero-board c a code room e
 
   -- all 128 bytes were lent
@@ -94,8 +94,8 @@ module _ (c : Card) (z : length (c .nodes) ≡ 64) (a : List ℕ) (code : ℕ) (
   read-eight : boardServed c a code room .read ≡ eightOf c a code
   read-eight = ap (λ (n : ℕ). boardServed c a code n .read) (wide .0) ∙ eight-read c a code done-eight
 
-  sound : judgedOf (eightOf c a code) ≡ judged.Sound
-  sound = ap judgedOf (sym read-eight) ∙ done .1
+  sound : boardJudged (eightOf c a code) ≡ judged.Sound
+  sound = ap boardJudged (sym read-eight) ∙ done .1
 
   -- so there is a board
   has-board : boardOf (eightOf c a code) ≡ lanes (lanesOf (eightOf c a code))

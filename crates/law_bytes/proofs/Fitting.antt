@@ -30,7 +30,7 @@ use Rattle.card_build.specs.declared.card.System.{System}
 use Rattle.card_build.specs.declared.card.Card.{Card}
 use Rattle.card_build.specs.declared.card.Added.{Added}
 use Rattle.card_build.specs.Card.{systemOf, newCard, nodesOf, grown, accepted, refused}
-use Rattle.card_build.specs.Grow.{nodeAs, areaBy, addArea, serviceBy, addService, lastOf, limitBy, setLimit}
+use Rattle.card_build.specs.Grow.{nodeAs, areaBy, addArea, serviceBy, addService, lastNode, limitBy, setLimit}
 use Rattle.card_build.specs.Build.{areaAdded, serviceAdded, limitAdded}
 use Rattle.card_laws.specs.Built.{Built}
 use Rattle.card_laws.proofs.Built.{past-eight}
@@ -40,7 +40,7 @@ use Rattle.byte_parts.specs.Half.{halfAt}
 use Rattle.byte_parts.proofs.Halves.{half-fits}
 use Rattle.handset_bytes.specs.Layout.{headSize, recordSize}
 use Rattle.handset_bytes.specs.Node.{nodeIn}
-use Rattle.handset_bytes.specs.Card.{nodesIn, cardBytes, cardIn, isCard, noCard, decodedOf}
+use Rattle.handset_bytes.specs.Card.{nodesIn, cardBytes, cardIn, isCard, noCard, cardDecoded}
 use Rattle.handset_bytes.specs.Fits.{LimitFits, EntryFits, NodeFits, SystemFits, Fits, Bytes}
 use Rattle.law_bytes.proofs.Bytes.{bytes-take, bytes-drop}
 use Rattle.law_bytes.proofs.Round.{written-is, card-says}
@@ -122,8 +122,8 @@ none-fits =
     record { nodes = new-fits (systemOf 0 0 false) none .nodes; records = refl; count = omega arith; used = omega arith; system = none }
 
 -- what is decoded fits
-pub decoded-fits : (s : List ℕ) → Bytes s → Fits (decodedOf s)
-unfolding decodedOf
+pub decoded-fits : (s : List ℕ) → Bytes s → Fits (cardDecoded s)
+unfolding cardDecoded
 decoded-fits s b = by (isCard s)
   where
     by : (t : Bool) → Fits (cond t (cardIn s) noCard)
@@ -229,13 +229,13 @@ module _ {c c′ : Card} (f : Fits c) where
   pub limit-fits : (upper lower : ℤ) (generation : ℕ) → LimitFits (Limited upper lower generation) →
       limitAdded c upper lower generation ≡ accepted c′ → Fits c′
   unfolding limitAdded setLimit
-  limit-fits upper lower generation h e = by (lastOf c .entry) (f .nodes (c .count - 1) .entry) (past-eight c (f .records) e .1)
+  limit-fits upper lower generation h e = by (lastNode c .entry) (f .nodes (c .count - 1) .entry) (past-eight c (f .records) e .1)
     where
       by : (t : Entry) → EntryFits t → limitBy c (Limited upper lower generation) t ≡ accepted c′ → Fits c′
       by (Area end) g e = not-accepted e
       by (Service s b old) g e =
           let o = f .nodes (c .count - 1) in
-          let x : NodeFits (nodeAs (lastOf c .depth) (lastOf c .code) (lastOf c .version) (Service s b (Limited upper lower generation))) =
+          let x : NodeFits (nodeAs (lastNode c .depth) (lastNode c .code) (lastNode c .version) (Service s b (Limited upper lower generation))) =
           record { depth = o .depth; code = o .code; version = o .version; entry = (g .0, g .1, h) } in
           subst Fits (ap (λ (x : Added). x .card) e) (record {
             nodes = set-fits (c .nodes) (c .count - 1) _ (f .nodes) x;

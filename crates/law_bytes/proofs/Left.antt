@@ -14,24 +14,24 @@ use Rattle.card_build.specs.Card.{newCard, isSound, accepted}
 use Rattle.card_build.specs.Build.{areaAdded, serviceAdded, limitAdded}
 use Rattle.card_laws.proofs.Built.{built-sound, past-eight}
 use Rattle.handset_bytes.specs.Layout.{cardSize}
-use Rattle.handset_bytes.specs.Card.{cardPut, isCard, decodedOf}
+use Rattle.handset_bytes.specs.Card.{cardPut, isCard, cardDecoded}
 use Rattle.handset_bytes.specs.Fits.{LimitFits, SystemFits, Fits, Bytes}
 use Rattle.law_bytes.proofs.Round.{valid-long, read-back, unsound}
 use Rattle.law_bytes.proofs.Fitting.{decoded-fits, new-fits, area-fits, service-fits, limit-fits}
 use Rattle.handset_words.specs.Kept.{cardAfter}
 
 -- bytes of a card's length, written anew
-put-back : (s : List ℕ) (c : Card) → length s ≡ cardSize → Fits c → decodedOf (cardPut c s) ≡ c
+put-back : (s : List ℕ) (c : Card) → length s ≡ cardSize → Fits c → cardDecoded (cardPut c s) ≡ c
 unfolding cardPut
 put-back s c h f = rw (eq-eqb (length s) cardSize h) (read-back c f)
 
 -- a new card
 pub new-left : (s : List ℕ) (system : System) → length s ≡ cardSize → SystemFits system →
-    decodedOf (cardPut (newCard system) s) ≡ newCard system
+    cardDecoded (cardPut (newCard system) s) ≡ newCard system
 new-left s system h k = put-back s (newCard system) h (new-fits system k)
 
 -- bytes whose card is sound encode one
-sound-is : (s : List ℕ) → isSound (decodedOf s) ≡ true → isCard s ≡ true
+sound-is : (s : List ℕ) → isSound (cardDecoded s) ≡ true → isCard s ≡ true
 sound-is s e = by (isCard s) refl
   where
     by : (t : Bool) → isCard s ≡ t → t ≡ true
@@ -40,32 +40,32 @@ sound-is s e = by (isCard s) refl
 
 module _ (s : List ℕ) (b : Bytes s) {c′ : Card} where
   -- an addition that is accepted
-  left : {a : Added} → isSound (decodedOf s) ≡ true → a ≡ accepted c′ → Fits c′ → decodedOf (cardAfter s a) ≡ c′
+  left : {a : Added} → isSound (cardDecoded s) ≡ true → a ≡ accepted c′ → Fits c′ → cardDecoded (cardAfter s a) ≡ c′
   left e k f = rw k (put-back s c′ (valid-long s (sound-is s e)) f)
 
   -- an area
   pub area-left : (depth code end version : ℕ) → code < 2 ^ 16 → end < 2 ^ 16 → version < 2 ^ 16 →
-      areaAdded (decodedOf s) depth code end version ≡ accepted c′ →
-      decodedOf (cardAfter s (areaAdded (decodedOf s) depth code end version)) ≡ c′
+      areaAdded (cardDecoded s) depth code end version ≡ accepted c′ →
+      cardDecoded (cardAfter s (areaAdded (cardDecoded s) depth code end version)) ≡ c′
   unfolding areaAdded
   area-left depth code end version h k l e =
       let f = decoded-fits s b in
-      left (built-sound (past-eight (decodedOf s) (f .records) e .0)) e (area-fits f depth code end version h k l e)
+      left (built-sound (past-eight (cardDecoded s) (f .records) e .0)) e (area-fits f depth code end version h k l e)
 
   -- a service
   pub service-left : (arenaLen depth code blocks version : ℕ) → code < 2 ^ 16 → version < 2 ^ 16 →
-      serviceAdded (decodedOf s) arenaLen depth code blocks version ≡ accepted c′ →
-      decodedOf (cardAfter s (serviceAdded (decodedOf s) arenaLen depth code blocks version)) ≡ c′
+      serviceAdded (cardDecoded s) arenaLen depth code blocks version ≡ accepted c′ →
+      cardDecoded (cardAfter s (serviceAdded (cardDecoded s) arenaLen depth code blocks version)) ≡ c′
   unfolding serviceAdded
   service-left arenaLen depth code blocks version h l e =
       let f = decoded-fits s b in
-      left (built-sound (past-eight (decodedOf s) (f .records) e .0)) e (service-fits f arenaLen depth code blocks version h l e)
+      left (built-sound (past-eight (cardDecoded s) (f .records) e .0)) e (service-fits f arenaLen depth code blocks version h l e)
 
   -- a limit
   pub limit-left : (upper lower : ℤ) (generation : ℕ) → LimitFits (Limited upper lower generation) →
-      limitAdded (decodedOf s) upper lower generation ≡ accepted c′ →
-      decodedOf (cardAfter s (limitAdded (decodedOf s) upper lower generation)) ≡ c′
+      limitAdded (cardDecoded s) upper lower generation ≡ accepted c′ →
+      cardDecoded (cardAfter s (limitAdded (cardDecoded s) upper lower generation)) ≡ c′
   unfolding limitAdded
   limit-left upper lower generation h e =
       let f = decoded-fits s b in
-      left (built-sound (past-eight (decodedOf s) (f .records) e .0)) e (limit-fits f upper lower generation h e)
+      left (built-sound (past-eight (cardDecoded s) (f .records) e .0)) e (limit-fits f upper lower generation h e)

@@ -15,14 +15,14 @@ use Rattle.card_questions.specs.Directory.{directoryAnswer}
 use Rattle.card_questions.specs.Total.{totalAnswer}
 use Rattle.card_questions.specs.Keys.{versionAnswer, areaListAnswer, serviceListAnswer}
 use Rattle.card_lists.specs.Packet.{codeListOf, codeListPut}
-use Rattle.card_lists.specs.Information.{blocksOf, blocksPut}
+use Rattle.card_lists.specs.Information.{blocksTold, blocksPut}
 use Rattle.request_plan.specs.declared.Reply.the-variants.{Refused as NotServed}
 use Rattle.request_plan.specs.Request.{Request}
 use Rattle.request_plan.specs.Plan.{judgedWith, planOf}
 use Rattle.request_plan.specs.Serve.{answeredOnly, serve}
 use Rattle.request_block.specs.Block.{blockJudged}
 use Rattle.board_read.specs.Refresh.{boardRequest, refreshed}
-use Rattle.handset_bytes.specs.Card.{isCard, decodedOf}
+use Rattle.handset_bytes.specs.Card.{isCard, cardDecoded}
 use Rattle.handset_words.specs.Outcome.{answerAs}
 use Rattle.handset_words.specs.Board.{refreshedAs, boardRoom, boardMade}
 use Rattle.handset_words.specs.Block.{unfitAfter, setAnswer}
@@ -53,7 +53,7 @@ module _ (c : Card) (no : isSound c ≡ false) where
   board arena code lanes = rw (request arena (boardRequest code (boardRoom (length lanes))))
 
   pub unsound-eight : EightToAll c
-  unfolding areaAdded serviceAdded limitAdded directoryAnswer totalAnswer versionAnswer areaListAnswer serviceListAnswer codeListPut codeListOf blocksPut blocksOf
+  unfolding areaAdded serviceAdded limitAdded directoryAnswer totalAnswer versionAnswer areaListAnswer serviceListAnswer codeListPut codeListOf blocksPut blocksTold
   unsound-eight = record {
     area = λ depth code end version. rw no;
     service = λ arenaLen depth code blocks version. rw no;
@@ -72,5 +72,5 @@ module _ (c : Card) (no : isSound c ≡ false) where
     stored = λ arenaLen code number. rw (block arenaLen code number);
   }
 
-pub eight-to-all : (s : List ℕ) → isCard s ≡ false → EightToAll (decodedOf s)
-eight-to-all s e = unsound-eight (decodedOf s) (unsound s e)
+pub eight-to-all : (s : List ℕ) → isCard s ≡ false → EightToAll (cardDecoded s)
+eight-to-all s e = unsound-eight (cardDecoded s) (unsound s e)

@@ -16,7 +16,7 @@ use Rattle.card_build.specs.Card.{isSound}
 use Rattle.byte_parts.specs.Half.{halfBytes, halfAt}
 use Rattle.handset_bytes.specs.Layout.{headSize, recordSize, cardSize}
 use Rattle.handset_bytes.specs.Node.{nodeBytes}
-use Rattle.handset_bytes.specs.Card.{flagOf, nodesBytes, cardBytes, nodesIn, areRecords, cardIn, isCard, decodedOf}
+use Rattle.handset_bytes.specs.Card.{flagOf, nodesBytes, cardBytes, nodesIn, areRecords, cardIn, isCard, cardDecoded}
 use Rattle.handset_bytes.specs.Fits.{NodeFits, Fits, Bytes}
 use Rattle.law_bytes.proofs.Bytes.{bytes-take, bytes-drop}
 use Rattle.handset_bytes.proofs.Long.{node-long}
@@ -83,8 +83,8 @@ written-is c f =
     rw (eq-eqb _ cardSize (card-long c (f .records)), half-back j (omega arith), le-leb j 1 one, ok)
 
 -- and is read back
-pub read-back : (c : Card) → Fits c → decodedOf (cardBytes c) ≡ c
-unfolding cardBytes halfBytes halfAt decodedOf
+pub read-back : (c : Card) → Fits c → cardDecoded (cardBytes c) ≡ c
+unfolding cardBytes halfBytes halfAt cardDecoded
 read-back c f =
     let same : nodesIn 64 (nodesBytes (c .nodes)) ≡ c .nodes = rw (f .records) at (nodes-back (c .nodes) (f .nodes)) in
     let one = flag-one (c .system .join) in
@@ -129,11 +129,11 @@ unfolding isCard
 valid-long s e = eqb-true _ _ (and-eq-true-iff _ _ .0 e .0)
 
 -- bytes that encode a card are what is written of it
-pub says : (s : List ℕ) → Bytes s → isCard s ≡ true → cardBytes (decodedOf s) ≡ s
-unfolding decodedOf
+pub says : (s : List ℕ) → Bytes s → isCard s ≡ true → cardBytes (cardDecoded s) ≡ s
+unfolding cardDecoded
 says s b e = rw e (card-says s b e)
 
 -- what stands for the card of other bytes is refused with 8
-pub unsound : (s : List ℕ) → isCard s ≡ false → isSound (decodedOf s) ≡ false
-unfolding decodedOf soundOf
+pub unsound : (s : List ℕ) → isCard s ≡ false → isSound (cardDecoded s) ≡ false
+unfolding cardDecoded soundOf
 unsound s e = rw e

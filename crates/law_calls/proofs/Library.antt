@@ -26,7 +26,7 @@ use Rattle.request_plan.specs.Serve.{Served}
 use Rattle.request_plan.proofs.Accepted.{read-leaves}
 use Rattle.board_read.specs.Refresh.{boardServed, refreshedAfter, refreshed}
 use Rattle.handset_bytes.specs.Layout.{headSize, recordSize}
-use Rattle.handset_bytes.specs.Card.{nodesIn, cardIn, noCard, isCard, decodedOf}
+use Rattle.handset_bytes.specs.Card.{nodesIn, cardIn, noCard, isCard, cardDecoded}
 use Rattle.handset_words.specs.Reply.{replyAs}
 use Rattle.handset_words.specs.Board.{refreshedAs, boardRoom, recordsBy, recordsAfter}
 use Rattle.law_terminals.specs.Two.{Answer}
@@ -45,8 +45,8 @@ unfolding nodesIn
 nodes-long zero s = refl
 nodes-long (suc n) s = ap suc (nodes-long n (drop recordSize s))
 
-pub decoded-long : (s : List ℕ) → length (decodedOf s .nodes) ≡ 64
-unfolding decodedOf
+pub decoded-long : (s : List ℕ) → length (cardDecoded s .nodes) ≡ 64
+unfolding cardDecoded
 decoded-long s = by-test (isCard s)
   where
     by-test : (t : Bool) → length (cond t (cardIn s) noCard .nodes) ≡ 64
@@ -113,25 +113,25 @@ module _ {M : Type 1} (𝓤 : URA M) (H : Heap 𝓤) (A : Atoms 𝓤) (mem : Mem
   -- a read, on an arena that it is lent for reading only
   pub read-is-call
       : Promises 𝓤 read.ended (read.clauses 𝓤 H A mem run) (λ κs (card, (arena, (out, («open», (codes, (count, (list, _))))))) r ws.
-      Leaves (decodedOf (now card)) handsetRequest (libraryLeft (decodedOf (now card))) (now arena)
+      Leaves (cardDecoded (now card)) handsetRequest (libraryLeft (cardDecoded (now card))) (now arena)
       (request (reads «open» (now codes) count (now list) (now out))) (record { reply = r; buffer = ws .1 .1 .0 }) (now arena))
   read-is-call κs a g r ws = of-two 𝓤 (λ p q. (λ i. record { reply = p i; buffer = q i }, sym (read-leaves _ _ _ refl)))
 
   pub write-is-call
       : Promises 𝓤 write.ended (write.clauses 𝓤 H A mem run) (λ κs (card, (arena, (staging, («open», (codes, (count, (list, («data», _)))))))) r ws.
-      Leaves (decodedOf (now card)) handsetRequest (libraryLeft (decodedOf (now card))) (now arena)
+      Leaves (cardDecoded (now card)) handsetRequest (libraryLeft (cardDecoded (now card))) (now arena)
       (request (writes «open» (now codes) count (now list) (now «data») (now staging))) (record { reply = r; buffer = ws .1 .1 .0 }) (ws .1 .0))
   write-is-call κs a g r ws = of-three 𝓤 (λ p q s. (λ i. record { reply = p i; buffer = s i }, q))
 
   -- a board, on an arena that it is lent for reading only
   pub board-is-call
       : Promises 𝓤 board-call.ended (board-call.clauses 𝓤 H A mem run) (λ κs (card, (arena, (code, (lanes, _)))) r ws.
-      Leaves (decodedOf (now card)) handsetRequest (libraryLeft (decodedOf (now card))) (now arena)
+      Leaves (cardDecoded (now card)) handsetRequest (libraryLeft (cardDecoded (now card))) (now arena)
       (board code (now lanes)) (record { reply = r; buffer = ws .1 .1 .1 .0 }) (now arena))
   unfolding refreshed recordsAfter
   board-is-call κs a g r ws = of-two 𝓤 (λ p q.
       let (card, (arena, (code, (lanes, _)))) = a in
-      let x = boardServed (decodedOf (now card)) (now arena) code (boardRoom (length (now lanes))) in
+      let x = boardServed (cardDecoded (now card)) (now arena) code (boardRoom (length (now lanes))) in
       let m = made-is x (x .reply) in
       let p′ = p ∙ ap refreshedAs (sym m) in
       let q′ = q ∙ ap (recordsBy (now lanes) (x .read)) (sym m) in
@@ -139,22 +139,22 @@ module _ {M : Type 1} (𝓤 : URA M) (H : Heap 𝓤) (A : Atoms 𝓤) (mem : Mem
 
 module _ (bytes : List ℕ) where
   -- two terminals' runs of them are apart
-  pub library-two : TwoRuns (decodedOf bytes) handsetRequest (libraryLeft (decodedOf bytes))
-  library-two = two-runs (decodedOf bytes) handsetRequest (libraryLeft (decodedOf bytes)) (decoded-long bytes)
+  pub library-two : TwoRuns (cardDecoded bytes) handsetRequest (libraryLeft (cardDecoded bytes))
+  library-two = two-runs (cardDecoded bytes) handsetRequest (libraryLeft (cardDecoded bytes)) (decoded-long bytes)
 
   -- who is returned 0 asked what was accepted
-  pub zero-asked : (k : HandsetCall) (x : Answer) → libraryLeft (decodedOf bytes) k x .reply ≡ 0 → x .reply ≡ Done
+  pub zero-asked : (k : HandsetCall) (x : Answer) → libraryLeft (cardDecoded bytes) k x .reply ≡ 0 → x .reply ≡ Done
   zero-asked (request (reads «open» codes count list out)) x e = zero-done (x .reply) e
   zero-asked (request (writes «open» codes count list «data» staging)) x e = zero-done (x .reply) e
   zero-asked (board code records) x e = zero-made x e
 
   -- who asked a write that was accepted is returned 0
-  pub write-zero : (k : HandsetCall) (x : Answer) → handsetRequest k .write ≡ true → x .reply ≡ Done → libraryLeft (decodedOf bytes) k x .reply ≡ 0
+  pub write-zero : (k : HandsetCall) (x : Answer) → handsetRequest k .write ≡ true → x .reply ≡ Done → libraryLeft (cardDecoded bytes) k x .reply ≡ 0
   write-zero (request (reads «open» codes count list out)) x w e = absurd (false≢true w)
   write-zero (request (writes «open» codes count list «data» staging)) x w e = ap replyAs e
   write-zero (board code records) x w e = absurd (false≢true w)
 
   -- the tower's read is left what was written last, where 0 was returned for accepted requests
-  pub library-tower : TowerRuns (decodedOf bytes) handsetRequest (libraryLeft (decodedOf bytes)) (λ x. x .reply ≡ 0)
+  pub library-tower : TowerRuns (cardDecoded bytes) handsetRequest (libraryLeft (cardDecoded bytes)) (λ x. x .reply ≡ 0)
   library-tower =
-      tower-runs (decodedOf bytes) handsetRequest (libraryLeft (decodedOf bytes)) (decoded-long bytes) (λ x. x .reply ≡ 0) zero-asked write-zero
+      tower-runs (cardDecoded bytes) handsetRequest (libraryLeft (cardDecoded bytes)) (decoded-long bytes) (λ x. x .reply ≡ 0) zero-asked write-zero

@@ -27,14 +27,14 @@ use Rattle.law_terminals.specs.Two.{Answer, answerOf, arenaAfter}
 use Rattle.law_terminals.specs.Runs.{Leaves, TwoRuns, TowerRuns}
 use Rattle.law_terminals.proofs.Runs.{two-runs, tower-runs}
 use Rattle.law_calls.specs.Promise.{Promises}
-use Rattle.law_calls.specs.Lines.{LineCall, requestBy, lineRequest, lineAnswer, toldBy, workLeft, LineLeft, lineLeft}
+use Rattle.law_calls.specs.Lines.{LineCall, requestBy, lineRequest, lineAnswer, lineToldBy, workLeft, LineLeft, lineLeft}
 use Rattle.law_calls.proofs.Kept.{of-four}
 use Rattle.line_serve.proofs.request_line as line
 
 -- what comes of a line is what comes of its request, but for a malformed one
 module _ (c : Card) (a : List ℕ) (work line : List ℕ) where
   answer-by : (x : Ask) → record { reply = askServed c a (length work) line x .reply; read = askServed c a (length work) line x .read }
-      ≡ toldBy x (answerOf c a (requestBy (length work) line x))
+      ≡ lineToldBy x (answerOf c a (requestBy (length work) line x))
   answer-by Malformed = refl
   answer-by (Read «open» count) = refl
   answer-by (Write «open» count) = refl
@@ -93,14 +93,14 @@ module _ (c : Card) (z : length (c .nodes) ≡ 64) where
   lines-two = two-runs c lineRequest (lineLeft c) z
 
   -- a line that is told `Done` asked a request that was done
-  pub told-done : (x : Ask) (y : Answer) → toldBy x y .reply ≡ Done → y .reply ≡ Done
+  pub told-done : (x : Ask) (y : Answer) → lineToldBy x y .reply ≡ Done → y .reply ≡ Done
   told-done Malformed y e = absurd (let z : _≡_ {A = ℕ} 0 1 = cc in (omega arith))
   told-done (Read «open» count) y e = e
   told-done (Write «open» count) y e = e
 
   -- a line that asked a write that was done is told so
   pub done-told : (k : LineCall) (x : Ask) (y : Answer) → requestBy (length (k .work)) (k .line) x .write ≡ true → y .reply ≡ Done →
-      toldBy x y .reply ≡ Done
+      lineToldBy x y .reply ≡ Done
   done-told k Malformed y w e = absurd (false≢true w)
   done-told k (Read «open» count) y w e = e
   done-told k (Write «open» count) y w e = e

@@ -10,7 +10,7 @@ use Rattle.request_plan.specs.Request.{Request, readRequest, writeRequest}
 use Rattle.line_request.specs.declared.Ask.{Ask}
 use Rattle.line_request.specs.declared.Ask.the-variants.{Malformed, Read, Write}
 use Rattle.line_request.specs.Ask.{askOf}
-use Rattle.line_serve.specs.Line.{codesIn, listIn, dataIn, lineServed, bytesAfter}
+use Rattle.line_serve.specs.Line.{codesIn, listIn, dataIn, lineServed, spelledAfter}
 use Rattle.law_terminals.specs.Two.{Answer, outputOf, stagingOf}
 
 -- a line, and the buffers lent to it: the output of a read or the staging of a write, and what takes the bytes of list and data
@@ -36,10 +36,10 @@ lineAnswer c a k = record {
 }
 
 -- what it is told: refusal 6 if it is malformed, else its request's answer
-abbrev pub toldBy : Ask → Answer → Answer
-toldBy Malformed x = record { reply = Refused MalformedRequest; read = [] }
-toldBy (Read «open» count) x = x
-toldBy (Write «open» count) x = x
+abbrev pub lineToldBy : Ask → Answer → Answer
+lineToldBy Malformed x = record { reply = Refused MalformedRequest; read = [] }
+lineToldBy (Read «open» count) x = x
+lineToldBy (Write «open» count) x = x
 
 -- the buffer that is the output of a read and the staging of a write
 abbrev pub workLeft : Card → List ℕ → Answer → Ask → List ℕ
@@ -55,7 +55,7 @@ pub record LineLeft : Type 0 where
 
 abbrev pub lineLeft : Card → LineCall → Answer → LineLeft
 lineLeft c k x = record {
-  answer = toldBy (askOf (k .line)) x;
+  answer = lineToldBy (askOf (k .line)) x;
   work = workLeft c (k .work) x (askOf (k .line));
-  bytes = bytesAfter (k .bytes) (k .line);
+  bytes = spelledAfter (k .bytes) (k .line);
 }

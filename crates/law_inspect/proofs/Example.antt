@@ -8,7 +8,7 @@ use Rattle.service_code.specs.Code.{numberOf, attributesOf, tableOf, decodedOf,
 use Rattle.block_list.specs.Element.{unpackAt, endsFrom, endsAfter, elementsFrom}
 use Rattle.byte_parts.specs.Part.{part, put, sameBytes}
 use Rattle.text_fields.specs.Field.{split}
-use Rattle.text_numbers.specs.Digit.{among, digitOf, digits, spelt}
+use Rattle.text_numbers.specs.Digit.{isBetween, digitOf, digits, spelt}
 use Rattle.text_numbers.specs.Hex.{grouped, hexField, pairs, unhex}
 use Rattle.text_numbers.specs.Codes.{hex16}
 use Rattle.text_numbers.specs.Decimal.{plain, upTo, decimal, digitsOf, decText}
@@ -22,12 +22,12 @@ use Rattle.request_check.specs.Row.{rowOf}
 use Rattle.request_check.specs.Check.{modeAllowed, attributeCheck, serviceCheck, rowCheck, elementCheck, checkedFrom}
 use Rattle.request_plan.specs.Plan.{readJudged, judgedWith, planOf}
 use Rattle.request_plan.specs.Serve.{blocksRead, carried, serve}
-use Rattle.request_block.specs.Block.{blockJudged as setJudged, arenaSet}
+use Rattle.request_block.specs.Block.{blockJudged, arenaSet}
 use Rattle.line_fields.specs.Fields.{named, form}
 use Rattle.line_image.specs.Line.{headingOf, serviceLine, hex32, blockLine, imageNamed, laterLine, imageLine}
 use Rattle.line_build.specs.Image.{imageStep}
 use Rattle.line_request.specs.Ask.{isLetter, isEither, requestLine}
-use Rattle.board_lanes.specs.Board.{isEmpty, areCrew, blockJudged, laneJudged, lanesJudged, sameRace, ofRace, oneRace, racesJudged, judgedOf, crewLength, laneOf, lanesFrom}
+use Rattle.board_lanes.specs.Board.{isEmpty, areCrew, filledJudged, laneJudged, lanesJudged, sameRace, ofRace, oneRace, racesJudged, boardJudged, crewLength, laneOf, lanesFrom}
 use Rattle.board_line.specs.Text.{lanesText}
 use Rattle.board_read.specs.Refresh.{refreshed}
 use Rattle.board_line.specs.Line.{boardLine, boardCode, boardLineText}
@@ -55,7 +55,7 @@ abbrev Printed : Type 0
 Printed = (lineSaid start refresh ≡ first) × (lineSaid (seenAfter start (setting ∷ adding ∷ refresh ∷ [])) refresh ≡ second)
 
 computed : Printed × LaneSaid (seenAfter start (setting ∷ adding ∷ refresh ∷ [])) refresh 0x104b 2 thames
-unfolding numberOf attributesOf tableOf decodedOf attributeOf codeKindOf requiresKey unpackAt endsFrom endsAfter elementsFrom part put sameBytes split among digitOf digits spelt grouped hexField pairs unhex hex16 plain upTo decimal digitsOf decText firstFrom openAt parentFrom isDepth parentAt outside serviceUnder sameKind joinedTo usable newStore mayJoin placedOf isRoot allRoots stepOf stepsFrom stepsOf soundOf addService serviceAdded arenaAdded rowOf modeAllowed attributeCheck serviceCheck rowCheck elementCheck checkedFrom readJudged judgedWith planOf blocksRead carried serve setJudged arenaSet named form headingOf serviceLine hex32 blockLine imageNamed laterLine imageLine imageStep isLetter isEither requestLine isEmpty areCrew blockJudged laneJudged lanesJudged sameRace ofRace oneRace racesJudged judgedOf crewLength laneOf lanesFrom lanesText refreshed boardLine boardCode boardLineText oneMore laterSort sortOf lineSeen lineSaid lineDeed seenAfter
+unfolding numberOf attributesOf tableOf decodedOf attributeOf codeKindOf requiresKey unpackAt endsFrom endsAfter elementsFrom part put sameBytes split isBetween digitOf digits spelt grouped hexField pairs unhex hex16 plain upTo decimal digitsOf decText firstFrom openAt parentFrom isDepth parentAt outside serviceUnder sameKind joinedTo usable newStore mayJoin placedOf isRoot allRoots stepOf stepsFrom stepsOf soundOf addService serviceAdded arenaAdded rowOf modeAllowed attributeCheck serviceCheck rowCheck elementCheck checkedFrom readJudged judgedWith planOf blocksRead carried serve blockJudged arenaSet named form headingOf serviceLine hex32 blockLine imageNamed laterLine imageLine imageStep isLetter isEither requestLine isEmpty areCrew filledJudged laneJudged lanesJudged sameRace ofRace oneRace racesJudged boardJudged crewLength laneOf lanesFrom lanesText refreshed boardLine boardCode boardLineText oneMore laterSort sortOf lineSeen lineSaid lineDeed seenAfter
 computed = (
   (refl, refl),
   inspect-shows start (sized built .long) 0x41 2 thames setting (adding ∷ refresh ∷ []) refresh 0x104b tt refl (refl, refl, refl, refl, refl)

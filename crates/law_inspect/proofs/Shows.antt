@@ -16,7 +16,7 @@ use Rattle.request_block.specs.Block.{blockJudged}
 use Rattle.line_image.specs.declared.line.Line.{Line}
 use Rattle.line_image.specs.declared.line.Line.the-variants.{Malformed, Card as New, Area, Service, Limit, Block}
 use Rattle.line_image.specs.Line.{imageNamed, imageLine}
-use Rattle.line_build.specs.Image.{carried, imageStep}
+use Rattle.line_build.specs.Image.{lineCarried, imageStep}
 use Rattle.line_request.specs.Ask.{requestLine, askOf}
 use Rattle.line_serve.specs.Line.{lineServed}
 use Rattle.board_line.specs.Line.{boardLine}
@@ -59,7 +59,7 @@ module _ (c : Card) (z : length (c .nodes) ≡ 64) (n k : ℕ) (d a line : List 
 
   -- an image line that does not name the block, by what it says
   line-leaves : BlockHolds c n k d a → (x : Line) → isNew x ≡ false → (DeedDone c a (imageDeed line x) → DeedNames n k (imageDeed line x) → ⊥) →
-      let y = carried c a (split 9 line) x in
+      let y = lineCarried c a (split 9 line) x in
       Answered n k d (y .added .answer) (y .added .card) (y .arena)
   line-leaves h Malformed o f = inl refl
   line-leaves h (New system) o f = absurd (false≢true (sym o))
@@ -74,7 +74,7 @@ module _ (c : Card) (z : length (c .nodes) ≡ 64) (n k : ℕ) (d a line : List 
 
   -- one that brings the bytes to it
   line-brings : (x : Line) → DeedDone c a (imageDeed line x) → DeedBrings n k d (imageDeed line x) →
-      let y = carried c a (split 9 line) x in
+      let y = lineCarried c a (split 9 line) x in
       Answered n k d (y .added .answer) (y .added .card) (y .arena)
   line-brings Malformed e m = absurd m
   line-brings (New system) e m = absurd m

@@ -21,22 +21,22 @@ use Rattle.replay_state.specs.declared.Phase.the-variants.{First, Image, Reques
 use Rattle.replay_state.specs.Phases.{oneMore}
 use Rattle.replay_kind.specs.declared.Kind.{Kind}
 use Rattle.replay_kind.specs.declared.Kind.the-variants as kinds
-use Rattle.replay_kind.specs.Kind.{imageKind, requestKind, kindOf}
-use Rattle.replay_line.specs.Replay.{Held, lentBytes, requestHeld, boardHeld, heldBy, textBy, workBy, bytesBy, lineHeld, lineText, workHeld, bytesHeld}
+use Rattle.replay_kind.specs.Kind.{imageKind, requestKind, takenFor}
+use Rattle.replay_line.specs.Replay.{Held, lentBytes, requestHeld, boardHeld, heldBy, textBy, workTaken, bytesBy, lineHeld, lineText, workHeld, bytesHeld}
 use Rattle.law_lines.specs.Lines.{Taken, LinePrints, LeavesAll, Without, none, kept, dropped, heldAfter, SameBoard, NoEarlierPart}
 use Rattle.law_lines.proofs.Shown.{prints-board}
 
 -- an `L` line is taken for a refresh
-board-kind : (p : Phase) (line : List ℕ) → Taken p [] → boardLine line ≡ true → kindOf p line ≡ kinds.Board
-unfolding kindOf imageKind requestKind
+board-kind : (p : Phase) (line : List ℕ) → Taken p [] → boardLine line ≡ true → takenFor p line ≡ kinds.Board
+unfolding takenFor imageKind requestKind
 board-kind First line q b = absurd q
 board-kind Image line q b = rw b
 board-kind Requests line q b = rw b
 board-kind Ended line q b = absurd q
 
 -- any other for a request
-pub request-kind : (p : Phase) (line : List ℕ) → Taken p (line ∷ []) → boardLine line ≡ false → kindOf p line ≡ kinds.Request
-unfolding kindOf imageKind requestKind
+pub request-kind : (p : Phase) (line : List ℕ) → Taken p (line ∷ []) → boardLine line ≡ false → takenFor p line ≡ kinds.Request
+unfolding takenFor imageKind requestKind
 request-kind First line q b = absurd q
 request-kind Image line q b = let r : requestLine line ≡ true = by-test (requestLine line) (rw b at q) in rw (b, r)
   where
@@ -54,7 +54,7 @@ leaves-all s line q b =
     record {
       card = ap (λ (x : Kind). heldBy x s line .replay .card) k;
       arena = ap (λ (x : Kind). heldBy x s line .arena) k;
-      work = λ lent. ap (λ (x : Kind). workBy x s lent line) k;
+      work = λ lent. ap (λ (x : Kind). workTaken x s lent line) k;
       bytes = λ lent. ap (λ (x : Kind). bytesBy x lent line) k;
     }
 

@@ -29,7 +29,7 @@ use Rattle.request_plan.proofs.Accepted.{accepted, blocks-given, each-passed, g
 use Rattle.request_plan.proofs.ReadLaws.{read-said}
 use Rattle.board_lanes.specs.declared.lanes.Judged.{Judged}
 use Rattle.board_lanes.specs.declared.lanes.Judged.the-variants as judged
-use Rattle.board_lanes.specs.Board.{judgedOf, boardOf, boardBy}
+use Rattle.board_lanes.specs.Board.{boardJudged, boardOf, boardBy}
 use Rattle.board_read.specs.Refresh.{eightBlocks, boardRequest, boardServed, refreshedBy, refreshedAfter, refreshed}
 use Rattle.board_line.specs.Line.{refreshedText, boardLineText}
 use Rattle.law_lines.specs.Shown.{codeStore, eightOf, boardText, shownText, PrintsBoard, Eight, ReadsStore}
@@ -120,7 +120,7 @@ prints-board c a line ordinal code k = rw k (by-reply (boardServed c a code 128 
         ≡ shownText ordinal x (boardOf (eightOf c a code))
     by-reply (replies.Refused r) q = refl
     by-reply replies.Done q =
-        rw (eight-read c a code q) (by-judged ordinal (eightOf c a code) (judgedOf (eightOf c a code)))
+        rw (eight-read c a code q) (by-judged ordinal (eightOf c a code) (boardJudged (eightOf c a code)))
     by-reply replies.ShortData q = refl
     by-reply (replies.Failed i f) q = refl
 

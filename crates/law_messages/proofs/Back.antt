@@ -16,7 +16,7 @@ use Rattle.node_messages.specs.declared.code_list.Listed.{Listed}
 use Rattle.node_messages.specs.declared.information.Informed.{Informed}
 use Rattle.node_messages.specs.declared.message.Put.{Put}
 use Rattle.node_messages.specs.declared.message.Put.the-variants.{Bytes, Refused as NotPut}
-use Rattle.node_messages.specs.Message.{putOf, outputAfter}
+use Rattle.node_messages.specs.Message.{messagePut, messageAfter}
 use Rattle.node_messages.specs.CodeList.{listRefused, codeListBytes, readCodeList}
 use Rattle.node_messages.specs.Information.{informationBytes, readInformation}
 use Rattle.node_messages.proofs.Beyond.{stands}
@@ -24,10 +24,10 @@ use Rattle.card_build.specs.declared.card.Card.{Card}
 use Rattle.card_build.specs.Card.{nodesOf, isSound}
 use Rattle.card_laws.specs.Children.{areaNamed}
 use Rattle.card_lists.specs.Packet.{listFound, putAnswered, outAnswered, codeListOf, codeListPut, codeListOut}
-use Rattle.card_lists.specs.Information.{blocksOf, blocksPut, blocksOut}
+use Rattle.card_lists.specs.Information.{blocksTold, blocksPut, blocksOut}
 use Rattle.card_lists.proofs.Back.{code-list-back, blocks-back}
 use Rattle.request_plan.specs.declared.Reply.the-variants.{Refused as NotServed, Done as Served}
-use Rattle.handset_bytes.specs.Card.{decodedOf}
+use Rattle.handset_bytes.specs.Card.{cardDecoded}
 use Rattle.handset_words.specs.Outcome.{refusedAs, answerAs}
 use Rattle.handset_words.specs.Message.{putAs, putAfter, roomedBy, roomed, listRead, informationRead}
 use Rattle.law_calls.proofs.Library.{zero-done}
@@ -58,9 +58,9 @@ record Sent (a : Answer) (message out : List ℕ) : Type 0 where
 
 module _ (message out : List ℕ) where
   -- it was not too short
-  stood : (t : Bool) → ltb (length out) (length message) ≡ t → putAs (putOf message (length out)) ≡ 0 →
-      take (putAfter 0 (putOf message (length out))) (outputAfter message out) ≡ message
-  unfolding putOf
+  stood : (t : Bool) → ltb (length out) (length message) ≡ t → putAs (messagePut message (length out)) ≡ 0 →
+      take (putAfter 0 (messagePut message (length out))) (messageAfter message out) ≡ message
+  unfolding messagePut
   stood true q k = refused-not-0 ShortOutput (rw q at k)
   stood false q k = rw q (stands message out (ltb-false (length out) (length message) q))
 
@@ -88,13 +88,13 @@ list-taken {m = m} {message = message} {areas = areas} {services = services} d q
     }
 
 -- what the library wrote of a list is what the card answered
-pub list-sent : (s : List ℕ) (parent p : ℕ) (out : List ℕ) → putAs (codeListPut (decodedOf s) parent p (length out)) ≡ 0 →
-    (codeListOf (decodedOf s) parent p .answer ≡ Done) × (readCodeList (listSent s parent p out) ≡ codeListOf (decodedOf s) parent p)
+pub list-sent : (s : List ℕ) (parent p : ℕ) (out : List ℕ) → putAs (codeListPut (cardDecoded s) parent p (length out)) ≡ 0 →
+    (codeListOf (cardDecoded s) parent p .answer ≡ Done) × (readCodeList (listSent s parent p out) ≡ codeListOf (cardDecoded s) parent p)
 unfolding codeListPut codeListOut
 list-sent s parent p out e =
-    let m = codeListOf (decodedOf s) parent p in
+    let m = codeListOf (cardDecoded s) parent p in
     let x = sent (m .answer) (codeListBytes (m .list)) out e in
-    (x .told, ap readCodeList (x .same) ∙ list-read-back (decodedOf s) parent p (x .told))
+    (x .told, ap readCodeList (x .same) ∙ list-read-back (cardDecoded s) parent p (x .told))
 
 pub code-list-read : (s : List ℕ) → ListCalls s
 code-list-read s parent p out areas services e h k =
@@ -102,13 +102,13 @@ code-list-read s parent p out areas services e h k =
     list-taken (x .0) (x .1) h k
 
 -- the same of block information
-pub blocks-sent : (s : List ℕ) (arenaLen : ℕ) (asked out : List ℕ) → putAs (blocksPut (decodedOf s) arenaLen asked (length out)) ≡ 0 →
-    (blocksOf (decodedOf s) arenaLen asked .answer ≡ Done) × (readInformation (blocksSent s arenaLen asked out) ≡ blocksOf (decodedOf s) arenaLen asked)
+pub blocks-sent : (s : List ℕ) (arenaLen : ℕ) (asked out : List ℕ) → putAs (blocksPut (cardDecoded s) arenaLen asked (length out)) ≡ 0 →
+    (blocksTold (cardDecoded s) arenaLen asked .answer ≡ Done) × (readInformation (blocksSent s arenaLen asked out) ≡ blocksTold (cardDecoded s) arenaLen asked)
 unfolding blocksPut blocksOut
 blocks-sent s arenaLen asked out e =
-    let m = blocksOf (decodedOf s) arenaLen asked in
+    let m = blocksTold (cardDecoded s) arenaLen asked in
     let x = sent (m .answer) (informationBytes (m .told)) out e in
-    (x .told, ap readInformation (x .same) ∙ blocks-back (decodedOf s) arenaLen asked (x .told))
+    (x .told, ap readInformation (x .same) ∙ blocks-back (cardDecoded s) arenaLen asked (x .told))
 
 information-taken : {m : Informed} {message assigned free : List ℕ} → m .answer ≡ Done → readInformation message ≡ m →
     m .told .count ≤ length assigned → m .told .count ≤ length free → InformationTaken (m .told) message assigned free

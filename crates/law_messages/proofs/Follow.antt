@@ -11,7 +11,7 @@ use borrow.Author.Tests.{ltb-false}
 use Rattle.answers.specs.declared.refusal.Answer.the-variants.{Done}
 use Rattle.node_messages.specs.declared.code_list.CodeList.{CodeList}
 use Rattle.node_messages.specs.declared.code_list.Listed.{Listed}
-use Rattle.node_messages.specs.CodeList.{rangesOf, codesOf, listTold}
+use Rattle.node_messages.specs.CodeList.{rangesOf, codesListed, listTold}
 use Rattle.card_nodes.specs.declared.node.Node.{Node}
 use Rattle.card_nodes.specs.declared.find.Found.the-variants.{At}
 use Rattle.card_nodes.specs.Node.{rootNode}
@@ -120,6 +120,6 @@ card-tells-all c s parent i k found four =
     same-followed (codeListOf c parent) (packetTold children) (λ p. rw (s, found)) k 0 in
     record {
       areas = ap (entriesIn rangesOf) same ∙ all children rangesOf rangesAmong refl ranges-append list-ranges k few;
-      services = ap (entriesIn codesOf) same ∙ all children codesOf codesAmong refl codes-append list-codes k few;
+      services = ap (entriesIn codesListed) same ∙ all children codesListed codesAmong refl codes-append list-codes k few;
       answered = subst AllAnswered (sym same) (answered children k 0 (first-exists (length children)));
     }

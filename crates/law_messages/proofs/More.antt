@@ -13,7 +13,7 @@ use Rattle.answers.specs.declared.refusal.Answer.the-variants.{Done, Refused}
 use Rattle.answers.specs.declared.refusal.Refusal.the-variants.{NotBuilt, PacketPastEnd}
 use Rattle.node_messages.specs.declared.code_list.CodeList.{CodeList}
 use Rattle.node_messages.specs.declared.code_list.Listed.{Listed}
-use Rattle.node_messages.specs.Message.{putOf}
+use Rattle.node_messages.specs.Message.{messagePut}
 use Rattle.node_messages.specs.CodeList.{emptyList, listTold, listRefused, codeListBytes, readCodeList}
 use Rattle.node_messages.proofs.NumberLaws.{padded-long}
 use Rattle.node_messages.proofs.Writes.{ListSized, list-long}
@@ -25,7 +25,7 @@ use Rattle.card_build.specs.Card.{nodesOf, isSound}
 use Rattle.card_laws.specs.Children.{areaNamed, childrenAt}
 use Rattle.card_lists.specs.Packet.{listOf, packetOf, pastEnd, moreAfter, packetTold, listFound, putAnswered, codeListOf, codeListPut}
 use Rattle.card_lists.proofs.Packets.{more-next}
-use Rattle.handset_bytes.specs.Card.{decodedOf}
+use Rattle.handset_bytes.specs.Card.{cardDecoded}
 use Rattle.handset_words.specs.Message.{putAs}
 use Rattle.law_messages.specs.Told.{listSent}
 use Rattle.law_messages.specs.More.{MoreExactly, LibraryMore}
@@ -85,7 +85,7 @@ list-sized c parent p = by (isSound c) (areaNamed (nodesOf c) parent)
 
 -- a list that is answered is written where there is room for any
 written : (c : Card) (parent p room : ℕ) → 67 ≤ room → codeListOf c parent p .answer ≡ Done → putAs (codeListPut c parent p room) ≡ 0
-unfolding codeListPut putOf
+unfolding codeListPut messagePut
 written c parent p room h e =
     let l = list-long (list-sized c parent p) in
     rw (e, le-ltb room (length (codeListBytes (codeListOf c parent p .list))) (omega (arith, l)))
@@ -102,6 +102,6 @@ answered c parent p room e = by (codeListOf c parent p .answer) e
 pub library-more : (s : List ℕ) → LibraryMore s
 library-more s parent p out room h e =
     let x = list-sent s parent p out e in
-    let m = more-exactly (decodedOf s) parent p (x .0) in
-    let q : readCodeList (listSent s parent p out) .list .more ≡ codeListOf (decodedOf s) parent p .list .more = ap (λ (l : Listed). l .list .more) (x .1) in
-    (λ k. written (decodedOf s) parent (suc p) room h (m .0 (sym q ∙ k)), λ k. q ∙ m .1 (answered (decodedOf s) parent (suc p) room k))
+    let m = more-exactly (cardDecoded s) parent p (x .0) in
+    let q : readCodeList (listSent s parent p out) .list .more ≡ codeListOf (cardDecoded s) parent p .list .more = ap (λ (l : Listed). l .list .more) (x .1) in
+    (λ k. written (cardDecoded s) parent (suc p) room h (m .0 (sym q ∙ k)), λ k. q ∙ m .1 (answered (cardDecoded s) parent (suc p) room k))

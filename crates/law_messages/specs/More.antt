@@ -8,13 +8,13 @@ use lib.ListN.{length}
 use Rattle.answers.specs.declared.refusal.Answer.the-variants.{Done}
 use Rattle.node_messages.specs.declared.code_list.CodeList.{CodeList}
 use Rattle.node_messages.specs.declared.code_list.Listed.{Listed}
-use Rattle.node_messages.specs.CodeList.{rangesOf, codesOf, readCodeList}
+use Rattle.node_messages.specs.CodeList.{rangesOf, codesListed, readCodeList}
 use Rattle.card_nodes.specs.declared.find.Found.the-variants.{At}
 use Rattle.card_build.specs.declared.card.Card.{Card}
 use Rattle.card_build.specs.Card.{nodesOf, isSound}
 use Rattle.card_laws.specs.Children.{areaNamed, childrenAt}
 use Rattle.card_lists.specs.Packet.{rangesAmong, codesAmong, codeListOf, codeListPut}
-use Rattle.handset_bytes.specs.Card.{decodedOf}
+use Rattle.handset_bytes.specs.Card.{cardDecoded}
 use Rattle.handset_words.specs.Message.{putAs}
 use Rattle.law_messages.specs.Told.{listSent}
 
@@ -33,8 +33,8 @@ longestList = 67
 abbrev pub LibraryMore : List ℕ → Type 0
 LibraryMore s =
     (parent p : ℕ) (out : List ℕ) (room : ℕ) → longestList ≤ room
-    → putAs (codeListPut (decodedOf s) parent p (length out)) ≡ 0
-    → (readCodeList (listSent s parent p out) .list .more ≡ true) ↔ (putAs (codeListPut (decodedOf s) parent (suc p) room) ≡ 0)
+    → putAs (codeListPut (cardDecoded s) parent p (length out)) ≡ 0
+    → (readCodeList (listSent s parent p out) .list .more ≡ true) ↔ (putAs (codeListPut (cardDecoded s) parent (suc p) room) ≡ 0)
 
 -- answers from packet p on, each next one asked for only where the one before it says that more follow, and at most k of them
 unfoldable pub followed : (ℕ → Listed) → ℕ → ℕ → List Listed
@@ -54,7 +54,7 @@ AllAnswered (x ∷ xs) = (x .answer ≡ Done) × AllAnswered xs
 -- following the flag from packet 0 on tells each child of an area once, areas and services each in tree order; four packets are enough
 pub record TellsAll (c : Card) (parent i k : ℕ) : Type 0 where
   pub areas : entriesIn rangesOf (followed (codeListOf c parent) k 0) ≡ rangesAmong (childrenAt (nodesOf c) i)
-  pub services : entriesIn codesOf (followed (codeListOf c parent) k 0) ≡ codesAmong (childrenAt (nodesOf c) i)
+  pub services : entriesIn codesListed (followed (codeListOf c parent) k 0) ≡ codesAmong (childrenAt (nodesOf c) i)
   pub answered : AllAnswered (followed (codeListOf c parent) k 0)
 
 abbrev pub CardTellsAll : Card → Type 0

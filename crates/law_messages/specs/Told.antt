@@ -12,8 +12,8 @@ use Rattle.node_messages.specs.CodeList.{codeListBytes, readCodeList}
 use Rattle.node_messages.specs.Information.{informationBytes, readInformation}
 use Rattle.card_build.specs.declared.card.Card.{Card}
 use Rattle.card_lists.specs.Packet.{codeListOf, codeListPut, codeListOut}
-use Rattle.card_lists.specs.Information.{blocksOf, blocksPut, blocksOut}
-use Rattle.handset_bytes.specs.Card.{decodedOf}
+use Rattle.card_lists.specs.Information.{blocksTold, blocksPut, blocksOut}
+use Rattle.handset_bytes.specs.Card.{cardDecoded}
 use Rattle.handset_words.specs.Outcome.{answerAs}
 use Rattle.handset_words.specs.Message.{putAs, putAfter, toldBy, numbersTold, listRead, informationRead}
 
@@ -26,7 +26,7 @@ ListBack c =
 -- what uluvoli_code_list leaves of its output, as many bytes as it says, where it returns 0
 abbrev pub listSent : List ℕ → ℕ → ℕ → List ℕ → List ℕ
 listSent s parent p out =
-    take (putAfter 0 (codeListPut (decodedOf s) parent p (length out))) (codeListOut (decodedOf s) parent p out)
+    take (putAfter 0 (codeListPut (cardDecoded s) parent p (length out))) (codeListOut (cardDecoded s) parent p out)
 
 -- what uluvoli_read_code_list returns and leaves of a message: the list m, in front of what it is lent
 pub record ListTaken (m : CodeList) (message areas services : List ℕ) : Type 0 where
@@ -52,15 +52,15 @@ pub record ListTaken (m : CodeList) (message areas services : List ℕ) : Type 0
 -- on any bytes of a card: what the one call wrote, returning 0, the other reads as the card's own answer, where its lists find room
 abbrev pub ListCalls : List ℕ → Type 0
 ListCalls s =
-    (parent p : ℕ) (out areas services : List ℕ) → let m = codeListOf (decodedOf s) parent p .list in
-    putAs (codeListPut (decodedOf s) parent p (length out)) ≡ 0
+    (parent p : ℕ) (out areas services : List ℕ) → let m = codeListOf (cardDecoded s) parent p .list in
+    putAs (codeListPut (cardDecoded s) parent p (length out)) ≡ 0
     → 2 * m .areas ≤ length areas → m .services ≤ length services
     → ListTaken m (listSent s parent p out) areas services
 
 -- the same of block information
 abbrev pub blocksSent : List ℕ → ℕ → List ℕ → List ℕ → List ℕ
 blocksSent s arenaLen asked out =
-    take (putAfter 0 (blocksPut (decodedOf s) arenaLen asked (length out))) (blocksOut (decodedOf s) arenaLen asked out)
+    take (putAfter 0 (blocksPut (cardDecoded s) arenaLen asked (length out))) (blocksOut (cardDecoded s) arenaLen asked out)
 
 pub record InformationTaken (m : BlockInformation) (message assigned free : List ℕ) : Type 0 where
   pub returns : answerAs (informationRead message (length assigned) (length free)) ≡ 0
@@ -78,7 +78,7 @@ pub record InformationTaken (m : BlockInformation) (message assigned free : List
 
 abbrev pub InformationCalls : List ℕ → Type 0
 InformationCalls s =
-    (arenaLen : ℕ) (asked out assigned free : List ℕ) → let m = blocksOf (decodedOf s) arenaLen asked .told in
-    putAs (blocksPut (decodedOf s) arenaLen asked (length out)) ≡ 0
+    (arenaLen : ℕ) (asked out assigned free : List ℕ) → let m = blocksTold (cardDecoded s) arenaLen asked .told in
+    putAs (blocksPut (cardDecoded s) arenaLen asked (length out)) ≡ 0
     → m .count ≤ length assigned → m .count ≤ length free
     → InformationTaken m (blocksSent s arenaLen asked out) assigned free

@@ -20,7 +20,7 @@ use Rattle.block_list.specs.declared.element.BlockListElement.{BlockListElement
 use Rattle.byte_parts.specs.Part.{part, put}
 use Rattle.byte_parts.proofs.Part.{length-part, length-put, part-put, part-put-apart, put-part, getD-part, getD-put-apart}
 use Rattle.rule_purse.specs.declared.fields.PurseOperation.{PurseOperation}
-use Rattle.rule_purse.specs.Bytes.{purseOf}
+use Rattle.rule_purse.specs.Bytes.{purseApplied}
 use Rattle.rule_cyclic.specs.Cyclic.{cyclicOf}
 use Rattle.request_check.specs.declared.table.Row.{Row}
 use Rattle.request_check.specs.Row.{rowIn, numberIn}
@@ -254,7 +254,7 @@ module _ (rows : List Row) (d : List ℕ) (n blocks : ℕ) where
   module _ (i : ℕ) (x : BlockListElement) (r : PurseStep (element i x)) (h : numberIn rows x ≡ n) where
     -- the rule on its block
     abbrev rule : List ℕ → Outcome
-    rule b = purseOf (r h .operation) (rowIn rows x .limit) b (dataAt i)
+    rule b = purseApplied (r h .operation) (rowIn rows x .limit) b (dataAt i)
 
     abbrev blockIn : List ℕ → List ℕ
     blockIn u = part u (16 * x .number) 16

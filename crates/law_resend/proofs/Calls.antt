@@ -14,7 +14,7 @@ use Rattle.request_plan.specs.declared.Reply.the-variants.{Done}
 use Rattle.request_plan.specs.Request.{Request}
 use Rattle.request_plan.specs.Plan.{Plan, stop, go, planOf, rowsIn}
 use Rattle.request_plan.specs.Serve.{committed, carried, planServed, serve}
-use Rattle.handset_bytes.specs.Card.{decodedOf}
+use Rattle.handset_bytes.specs.Card.{cardDecoded}
 use Rattle.line_request.specs.declared.Ask.{Ask}
 use Rattle.line_request.specs.declared.Ask.the-variants.{Malformed, Read, Write}
 use Rattle.line_request.specs.Ask.{askOf}
@@ -24,7 +24,7 @@ use Rattle.line_serve.specs.Text.{requestText}
 use Rattle.law_terminals.specs.Orders.{after}
 use Rattle.law_terminals.specs.Two.{Answer, answerOf, arenaAfter, All}
 use Rattle.law_terminals.specs.Last.{arenaThen}
-use Rattle.law_terminals.specs.Runs.{Exchange, Leaves, Ran, requestsOf, Call, requestOf}
+use Rattle.law_terminals.specs.Runs.{Exchange, Leaves, RanAlong, requestsOf, Call, requestOf}
 use Rattle.law_calls.specs.Library.{handsetRequest, libraryLeft}
 use Rattle.law_calls.specs.Lines.{LineCall, requestBy, lineRequest, lineLeft}
 use Rattle.law_calls.proofs.Own.{ownLeft, same-reply}
@@ -66,7 +66,7 @@ module _ (c : Card) (z : length (c .nodes) ≡ 64) where
     seen-write a b x k s = (s .0, seen-done (x .call) _ (subst Seen (k .0) (s .1)))
 
     -- a run of which its callers see that no write was accepted is idle
-    ran-idle : (xs : List (Exchange K L)) (a e : List ℕ) → Ran c ask leave a xs e → NoneSeen ask Seen xs →
+    ran-idle : (xs : List (Exchange K L)) (a e : List ℕ) → RanAlong c ask leave a xs e → NoneSeen ask Seen xs →
         Idle c a (requestsOf c ask leave xs) × (e ≡ after (answerOf c) (arenaAfter c) a (requestsOf c ask leave xs))
     unfolding after
     ran-idle [] a e r h = (tt, r)
@@ -124,7 +124,7 @@ module _ (c : Card) (z : length (c .nodes) ≡ 64) where
           (f .1, λ o. ap (λ (y : Answer). answerText o (y .reply) (y .read)) (f .0))
 
 -- the library's `uluvoli_write`, on any bytes that stand for a card, with reads and boards between
-pub library-resent : (bytes : List ℕ) → ResentBy (decodedOf bytes) handsetRequest (libraryLeft (decodedOf bytes)) (λ x. x .reply ≡ 0)
+pub library-resent : (bytes : List ℕ) → ResentBy (cardDecoded bytes) handsetRequest (libraryLeft (cardDecoded bytes)) (λ x. x .reply ≡ 0)
 library-resent bytes =
-    resent-by (decodedOf bytes) (decoded-long bytes) handsetRequest (libraryLeft (decodedOf bytes)) (λ x. x .reply ≡ 0)
+    resent-by (cardDecoded bytes) (decoded-long bytes) handsetRequest (libraryLeft (cardDecoded bytes)) (λ x. x .reply ≡ 0)
     (zero-asked bytes) (write-zero bytes)

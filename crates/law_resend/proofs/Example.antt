@@ -17,7 +17,7 @@ use Rattle.byte_parts.specs.Part.{part, put, sameBytes}
 use Rattle.byte_parts.specs.Word.{wordAt, wordBytes, signedOf, wordOf}
 use Rattle.rule_purse.specs.Purse.{valueOf, insideOf, outsideOf, sumOf, storedOf, purseRule}
 use Rattle.rule_cyclic.specs.Cyclic.{cyclicOf}
-use Rattle.rule_purse.specs.Bytes.{purseDataOf, blockOf, purseOf}
+use Rattle.rule_purse.specs.Bytes.{purseDataOf, blockOf, purseApplied}
 use Rattle.card_nodes.specs.Find.{firstFrom, openAt, parentFrom}
 use Rattle.card_admit.specs.Admit.{isDepth, parentAt, outside, serviceUnder, sameKind, joinedTo, usable, newStore, mayJoin, placedOf}
 use Rattle.card_sound.specs.Sound.{isRoot, allRoots, stepOf, stepsFrom, stepsOf, soundOf}
@@ -38,8 +38,8 @@ use Rattle.request_plan.specs.Plan.{writeJudged, readJudged, judgedWith, planOf
 use Rattle.request_plan.specs.Serve.{blocksRead, committed, carried, serve}
 use Rattle.law_terminals.specs.Orders.{after}
 use Rattle.law_terminals.specs.Two.{arenaAfter}
-use Rattle.law_terminals.specs.Last.{codeAt}
-use Rattle.law_resend.specs.Resend.{Names, PursesOnce, RingsOnce, Idle, lending, Harmless}
+use Rattle.law_terminals.specs.Last.{codeNamed}
+use Rattle.law_resend.specs.Resend.{NamesOfKind, PursesOnce, RingsOnce, Idle, lending, Harmless}
 use Rattle.law_resend.proofs.Resend.{idle-each, built-resent}
 
 -- lanes, a random store of one block, number 41h
@@ -135,7 +135,7 @@ computed
     × Twice lowering Done (Failed 0 PurseRaised) (arenaOf 0 (purse 80 0 0) (purse 50 0 0) (ring 1 2 3)) (arenaOf 0 (purse 80 0 0) (purse 50 0 0) (ring 1 2 3))
     × Twice turned Done Done (arenaOf 9 (purse 100 0 0) (purse 50 0 0) (ring 6 5 1)) (arenaOf 9 (purse 100 0 0) (purse 50 0 0) (ring 6 5 6))
     × Twice toomuch (Failed 0 OutsideWord) (Failed 0 OutsideWord) arena arena
-unfolding addService placedOf isDepth parentAt parentFrom openAt firstFrom serviceUnder outside sameKind joinedTo usable newStore mayJoin numberOf attributesOf tableOf decodedOf attributeOf codeKindOf requiresKey unpackAt endsFrom endsAfter elementsFrom part put sameBytes wordAt wordBytes signedOf wordOf cyclicOf valueOf insideOf outsideOf sumOf storedOf purseRule purseDataOf blockOf purseOf isRoot allRoots stepOf stepsFrom stepsOf soundOf rowOf modeAllowed attributeCheck serviceCheck rowCheck elementCheck checkedFrom then push runsOf scan walk back within cashbackIn elementBy endBy onStore staged writeJudged judgedWith planOf committed carried serve
+unfolding addService placedOf isDepth parentAt parentFrom openAt firstFrom serviceUnder outside sameKind joinedTo usable newStore mayJoin numberOf attributesOf tableOf decodedOf attributeOf codeKindOf requiresKey unpackAt endsFrom endsAfter elementsFrom part put sameBytes wordAt wordBytes signedOf wordOf cyclicOf valueOf insideOf outsideOf sumOf storedOf purseRule purseDataOf blockOf purseApplied isRoot allRoots stepOf stepsFrom stepsOf soundOf rowOf modeAllowed attributeCheck serviceCheck rowCheck elementCheck checkedFrom then push runsOf scan walk back within cashbackIn elementBy endBy onStore staged writeJudged judgedWith planOf committed carried serve
 computed = (
   record { first = refl; left = refl; second = refl; then-left = refl },
   record { first = refl; left = refl; second = refl; then-left = refl },
@@ -174,7 +174,7 @@ harmful = (
 -- where the premises fail: a purse block is named twice, by two codes, by elements that are not neighbours, directly; a ring has two runs
 premises
     : (PursesOnce twice → ⊥) × (PursesOnce parted → ⊥) × (PursesOnce lowering → ⊥) × (RingsOnce turned → ⊥)
-    × (codeAt twice 0 ≡ codeAt twice 1 → ⊥)
+    × (codeNamed twice 0 ≡ codeNamed twice 1 → ⊥)
 unfolding numberOf attributesOf tableOf decodedOf attributeOf codeKindOf unpackAt elementsFrom
 premises = (
   λ q. q 0x42 0 0 1 (omega arith) (record { listed = omega arith; kinded = refl; number = refl; block = refl })
@@ -191,13 +191,13 @@ premises = (
 )
 
 -- and the other premise holds there
-no-ring : (n b i : ℕ) → Names Cyclic n b twice i → ⊥
+no-ring : (n b i : ℕ) → NamesOfKind Cyclic n b twice i → ⊥
 unfolding numberOf attributesOf tableOf decodedOf attributeOf codeKindOf unpackAt elementsFrom
 no-ring n b zero h = let z : _≡_ {A = ℕ} 0 1 = let q = h .kinded in cc in omega arith
 no-ring n b (suc zero) h = let z : _≡_ {A = ℕ} 0 1 = let q = h .kinded in cc in omega arith
 no-ring n b (suc (suc i)) h = let l = h .listed in omega arith
 
-no-purse : (n b i : ℕ) → Names Purse n b turned i → ⊥
+no-purse : (n b i : ℕ) → NamesOfKind Purse n b turned i → ⊥
 unfolding numberOf attributesOf tableOf decodedOf attributeOf codeKindOf unpackAt elementsFrom
 no-purse n b zero h = let z : _≡_ {A = ℕ} 0 1 = let q = h .kinded in cc in omega arith
 no-purse n b (suc zero) h = let z : _≡_ {A = ℕ} 0 1 = let q = h .kinded in cc in omega arith
@@ -208,7 +208,7 @@ others : RingsOnce twice × PursesOnce turned
 others = (λ n b d i k j l m x y. absurd (no-ring n b i x), λ n b i j l x y. no-purse n b i x)
 
 -- in the write of every kind elements 0 and 3 name blocks 0 and 1 of the purse, and elements 4 and 5 the ring
-every-purse : (n b i : ℕ) → Names Purse n b every i → i ≡ 3 * b
+every-purse : (n b i : ℕ) → NamesOfKind Purse n b every i → i ≡ 3 * b
 unfolding numberOf attributesOf tableOf decodedOf attributeOf codeKindOf unpackAt elementsFrom
 every-purse n b zero h = let q = h .block in omega arith
 every-purse n b (suc zero) h = let z : _≡_ {A = ℕ} 0 1 = let q = h .kinded in cc in omega arith
@@ -218,7 +218,7 @@ every-purse n b (suc (suc (suc (suc zero)))) h = let z : _≡_ {A = ℕ} 0 1 = l
 every-purse n b (suc (suc (suc (suc (suc zero))))) h = let z : _≡_ {A = ℕ} 0 1 = let q = h .kinded in cc in omega arith
 every-purse n b (suc (suc (suc (suc (suc (suc i)))))) h = let l = h .listed in omega arith
 
-every-ring : (n b i : ℕ) → Names Cyclic n b every i → (4 ≤ i) × (i < 6)
+every-ring : (n b i : ℕ) → NamesOfKind Cyclic n b every i → (4 ≤ i) × (i < 6)
 unfolding numberOf attributesOf tableOf decodedOf attributeOf codeKindOf unpackAt elementsFrom
 every-ring n b zero h = let z : _≡_ {A = ℕ} 0 1 = let q = h .kinded in cc in omega arith
 every-ring n b (suc zero) h = let z : _≡_ {A = ℕ} 0 1 = let q = h .kinded in cc in omega arith
@@ -255,7 +255,7 @@ replies
     : (serve card left look .reply ≡ Done) × (serve card left overdrawn .reply ≡ Failed 0 OutsideWord)
     × (serve card left (lending 95 every) .reply ≡ Refused ShortStaging)
     × (serve card left other ≡ record { reply = Done; read = []; arena = arenaOf 7 (purse 90 10 1) (purse 45 5 2) (ring 5 6 1) })
-unfolding addService placedOf isDepth parentAt parentFrom openAt firstFrom serviceUnder outside sameKind joinedTo usable newStore mayJoin numberOf attributesOf tableOf decodedOf attributeOf codeKindOf requiresKey unpackAt endsFrom endsAfter elementsFrom part put sameBytes wordAt wordBytes signedOf wordOf cyclicOf valueOf insideOf outsideOf sumOf storedOf purseRule purseDataOf blockOf purseOf isRoot allRoots stepOf stepsFrom stepsOf soundOf rowOf modeAllowed attributeCheck serviceCheck rowCheck elementCheck checkedFrom then push runsOf scan walk back within cashbackIn elementBy endBy onStore staged writeJudged readJudged judgedWith planOf blocksRead committed carried serve
+unfolding addService placedOf isDepth parentAt parentFrom openAt firstFrom serviceUnder outside sameKind joinedTo usable newStore mayJoin numberOf attributesOf tableOf decodedOf attributeOf codeKindOf requiresKey unpackAt endsFrom endsAfter elementsFrom part put sameBytes wordAt wordBytes signedOf wordOf cyclicOf valueOf insideOf outsideOf sumOf storedOf purseRule purseDataOf blockOf purseApplied isRoot allRoots stepOf stepsFrom stepsOf soundOf rowOf modeAllowed attributeCheck serviceCheck rowCheck elementCheck checkedFrom then push runsOf scan walk back within cashbackIn elementBy endBy onStore staged writeJudged readJudged judgedWith planOf blocksRead committed carried serve
 replies = (refl, refl, refl, refl)
 
 idle : Idle card (arenaAfter card arena every) between

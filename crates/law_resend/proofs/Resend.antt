@@ -46,7 +46,7 @@ use Rattle.law_terminals.specs.Orders.{after}
 use Rattle.law_terminals.specs.Two.{answerOf, arenaAfter, All}
 use Rattle.law_terminals.specs.Last.{elementAt, arenaThen}
 use Rattle.law_terminals.proofs.Owned.{ServiceRow, good-service, index-code, one-store, two-stores}
-use Rattle.law_resend.specs.Resend.{Names, PursesOnce, RingsOnce, AcceptedWrite, Idle, IdleThen, Enough, lending, Resent}
+use Rattle.law_resend.specs.Resend.{NamesOfKind, PursesOnce, RingsOnce, AcceptedWrite, Idle, IdleThen, Enough, lending, Resent}
 use Rattle.request_runs.proofs.Steps.{Each, each-map, each-both, pairs-map, stepped}
 use Rattle.request_runs.proofs.WalkSteps.{Step, element, close, indexOf, elementOf, stepsOf, AllFrom, Before, Parted, Stands, steps-each, steps-ordered, flat-runs, runs-stand, runs-parted}
 use Rattle.request_runs.proofs.OwnRuns.{storeOf, Owns, own-steps}
@@ -150,7 +150,7 @@ module _ {c : Card} (b : Built c) (a : List ℕ) (w : Request) (t : w .write ≡
 
   -- element i, where it stands
   module _ (i : ℕ) (x : BlockListElement) (s : Stands (numberIn rows) es nothing i x) where
-    named : (k : ServiceKind) (n : ℕ) → Fine x → codeKindOf (codeOf x) ≡ OfKind k → numberIn rows x ≡ n → Names k n (x .number) w i
+    named : (k : ServiceKind) (n : ℕ) → Fine x → codeKindOf (codeOf x) ≡ OfKind k → numberIn rows x ≡ n → NamesOfKind k n (x .number) w i
     named k n g q h = record {
       listed = s .0;
       kinded = rw (s .1) q;
@@ -209,7 +209,7 @@ module _ {c : Card} (b : Built c) (a : List ℕ) (w : Request) (t : w .write ≡
             PurseApart rows (w .«data») n blocks p o
         purse-apart q (element i y) (element j z) (ky, sy) (kz, sz) l =
             λ hy hz m. purses n (z .number) i j l
-            (subst (λ k. Names Purse n k w i) m (named i y sy Purse n (ky .passes) (of-kind Purse q y (ky .passes) hy) hy))
+            (subst (λ k. NamesOfKind Purse n k w i) m (named i y sy Purse n (ky .passes) (of-kind Purse q y (ky .passes) hy) hy))
             (named j z sz Purse n (kz .passes) (of-kind Purse q z (kz .passes) hz) hz)
         purse-apart q (element i y) (close j z m) py pz l = tt
         purse-apart q (close i y m) o py pz l = tt

@@ -11,7 +11,7 @@ use Rattle.line_serve.specs.Line.{lineServed}
 use Rattle.line_serve.specs.Text.{requestText}
 use Rattle.law_terminals.specs.Two.{Answer, answerOf, arenaAfter, All}
 use Rattle.law_terminals.specs.Last.{arenaThen}
-use Rattle.law_terminals.specs.Runs.{Exchange, Leaves, Ran}
+use Rattle.law_terminals.specs.Runs.{Exchange, Leaves, RanAlong}
 use Rattle.law_calls.specs.Lines.{LineCall, lineRequest}
 use Rattle.law_resend.specs.Resend.{PursesOnce, RingsOnce, IdleThen, Enough, lending}
 
@@ -31,7 +31,7 @@ module _ (c : Card) {K L : Type 0} (ask : K → Request) (leave : K → Answer �
   -- a write in which no purse block is named twice and each cyclic number forms a single run.
   pub record SentTwice
       (a : List ℕ) (x : Exchange K L) (xs : List (Exchange K L)) (m : List ℕ) (y : Exchange K L) (e : List ℕ) : Type 0 where
-    pub ran : Ran c ask leave a (x ∷ xs) m
+    pub ran : RanAlong c ask leave a (x ∷ xs) m
     pub asked : Leaves c ask leave m (y .call) (y .left) e
     -- but for the length of the staging, which is long enough
     pub repeats : ask (y .call) ≡ lending (ask (y .call) .room) (ask (x .call))

@@ -14,22 +14,22 @@ use Rattle.request_plan.specs.Request.{Request}
 use Rattle.request_plan.specs.Plan.{elementsIn}
 use Rattle.request_plan.specs.Serve.{serve}
 use Rattle.law_terminals.specs.Two.{arenaAfter}
-use Rattle.law_terminals.specs.Last.{elementAt, codeAt, arenaThen}
+use Rattle.law_terminals.specs.Last.{elementAt, codeNamed, arenaThen}
 
 -- element i of a request, of a service of that kind, names block b of the service number n
-pub record Names (kind : ServiceKind) (n b : ℕ) (r : Request) (i : ℕ) : Type 0 where
+pub record NamesOfKind (kind : ServiceKind) (n b : ℕ) (r : Request) (i : ℕ) : Type 0 where
   pub listed : i < length (elementsIn r)
-  pub kinded : codeKindOf (codeAt r i) ≡ OfKind kind
-  pub number : numberOf (codeAt r i) ≡ n
+  pub kinded : codeKindOf (codeNamed r i) ≡ OfKind kind
+  pub number : numberOf (codeNamed r i) ≡ n
   pub block : elementAt r i .number ≡ b
 
 -- no two elements of purse kind name the same block of the same service number, by whichever codes
 abbrev pub PursesOnce : Request → Type 0
-PursesOnce r = (n b i j : ℕ) → i < j → Names Purse n b r i → Names Purse n b r j → ⊥
+PursesOnce r = (n b i j : ℕ) → i < j → NamesOfKind Purse n b r i → NamesOfKind Purse n b r j → ⊥
 
 -- the elements of each cyclic number are one run: whatever stands between two of them is of that number
 abbrev pub RingsOnce : Request → Type 0
-RingsOnce r = (n b d i k j : ℕ) → i < k → k < j → Names Cyclic n b r i → Names Cyclic n d r j → numberOf (codeAt r k) ≡ n
+RingsOnce r = (n b d i k j : ℕ) → i < k → k < j → NamesOfKind Cyclic n b r i → NamesOfKind Cyclic n d r j → numberOf (codeNamed r k) ≡ n
 
 -- on an arena, the request is a write, and is accepted
 abbrev pub AcceptedWrite : Card → List ℕ → Request → Type 0

@@ -23,7 +23,7 @@ use Rattle.rule_purse.specs.declared.fields.PurseWrite.the-variants.{Unchanged,
 use Rattle.answers.specs.Outcome.{passed, failed}
 use Rattle.rule_purse.specs.Purse.{valueOf, insideOf, outsideOf, sumOf, storedOf, purseRule}
 use Rattle.rule_cyclic.specs.Cyclic.{cyclicOf}
-use Rattle.rule_purse.specs.Bytes.{purseDataOf, blockOf, purseOf}
+use Rattle.rule_purse.specs.Bytes.{purseDataOf, blockOf, purseApplied}
 
 -- The fields of a purse block.
 abbrev fields : ℕ → ℕ → ℕ → PurseData
@@ -81,7 +81,7 @@ narrow = Limited (pos 200) (negsuc 49) 0
 abbrev P11 : Type 0
 P11 =
     (purseRule Decrement narrow (fields 0 0 1) (fields 50 0 2) ≡ Stored 0xffff_ffce 50)
-    × (purseOf Decrement narrow (replicate 8 0 ++ replicate 4 7 ++ replicate 4 1) (50 ∷ replicate 11 0 ++ replicate 4 2)
+    × (purseApplied Decrement narrow (replicate 8 0 ++ replicate 4 7 ++ replicate 4 1) (50 ∷ replicate 11 0 ++ replicate 4 2)
     ≡ passed (0xce ∷ 0xff ∷ 0xff ∷ 0xff ∷ 50 ∷ 0 ∷ 0 ∷ 0 ∷ replicate 4 7 ++ replicate 4 2))
 
 -- Less 51 is 03.
@@ -114,7 +114,7 @@ bitmap-rows = (refl, refl)
 
 -- The purse.
 pub purse-rows : P6 × P7 × P8 × P9 × P10 × P11 × P12
-unfolding purseRule storedOf sumOf insideOf outsideOf valueOf signedOf wordOf purseOf blockOf purseDataOf wordAt wordBytes put
+unfolding purseRule storedOf sumOf insideOf outsideOf valueOf signedOf wordOf purseApplied blockOf purseDataOf wordAt wordBytes put
 purse-rows = (refl, (refl, refl), refl, refl, (refl, refl), (refl, refl), (refl, refl))
 
 -- The ring.

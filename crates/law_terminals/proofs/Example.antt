@@ -19,7 +19,7 @@ use Rattle.byte_parts.specs.Part.{part, put, sameBytes}
 use Rattle.byte_parts.specs.Word.{wordAt, wordBytes, signedOf, wordOf}
 use Rattle.rule_purse.specs.Purse.{valueOf, insideOf, outsideOf, sumOf, storedOf, purseRule}
 use Rattle.rule_cyclic.specs.Cyclic.{cyclicOf}
-use Rattle.rule_purse.specs.Bytes.{purseDataOf, blockOf, purseOf}
+use Rattle.rule_purse.specs.Bytes.{purseDataOf, blockOf, purseApplied}
 use Rattle.card_nodes.specs.Find.{firstFrom, openAt, parentFrom}
 use Rattle.card_admit.specs.Admit.{isDepth, parentAt, rootMisfit, outside, areaUnder, areaJudged, serviceUnder, sameKind, joinedTo, usable, newStore, mayJoin, placedOf}
 use Rattle.card_sound.specs.Sound.{isRoot, allRoots, stepOf, stepsFrom, stepsOf, soundOf}
@@ -42,7 +42,7 @@ use Rattle.request_plan.specs.Serve.{blocksRead, committed, carried, serve, out
 use Rattle.law_terminals.specs.Orders.{Marked, by, one, two, only, all, after, answers, told, Undisturbed}
 use Rattle.law_terminals.specs.Two.{Answer, answerOf, arenaAfter, Any, All, Names, HasNumber, NoneShared}
 use Rattle.law_terminals.specs.Last.{NamesBlock, Quiet, arenaThen, Redrawn}
-use Rattle.law_terminals.specs.Runs.{Exchange, Ran, Call, reads, writes, requestOf, Left, leftBy}
+use Rattle.law_terminals.specs.Runs.{Exchange, RanAlong, Call, reads, writes, requestOf, Left, leftBy}
 use Rattle.law_terminals.proofs.Two.{two-terminals}
 use Rattle.law_terminals.proofs.Last.{tower-reads}
 use Rattle.law_terminals.proofs.Race as Race
@@ -271,11 +271,11 @@ abbrev lane : List ℕ
 lane = replicate 16 0 ++ replicate 16 9 ++ (100 ∷ replicate 15 0) ++ replicate 32 7
 
 abbrev IsRun : Type 0
-IsRun = Ran card requestOf (leftBy (λ (x : Reply). x) card) arena exchanges lane
+IsRun = RanAlong card requestOf (leftBy (λ (x : Reply). x) card) arena exchanges lane
 
 -- all of it, computed by the definitions
 computed : Told × Alone × Ends × Disturbed × Redraws × Premises × IsRun × IsRedrawn × Raced
-unfolding addArea areaJudged areaUnder rootMisfit setLimit addService placedOf isDepth parentAt parentFrom openAt firstFrom serviceUnder outside sameKind joinedTo usable newStore mayJoin numberOf attributesOf tableOf decodedOf attributeOf codeKindOf requiresKey unpackAt endsFrom endsAfter elementsFrom part put sameBytes wordAt wordBytes signedOf wordOf cyclicOf valueOf insideOf outsideOf sumOf storedOf purseRule purseDataOf blockOf purseOf isRoot allRoots stepOf stepsFrom stepsOf soundOf rowOf modeAllowed attributeCheck serviceCheck rowCheck elementCheck checkedFrom then push runsOf scan walk back within cashbackIn elementBy endBy onStore staged writeJudged readJudged judgedWith planOf blocksRead committed carried serve only all after answers told
+unfolding addArea areaJudged areaUnder rootMisfit setLimit addService placedOf isDepth parentAt parentFrom openAt firstFrom serviceUnder outside sameKind joinedTo usable newStore mayJoin numberOf attributesOf tableOf decodedOf attributeOf codeKindOf requiresKey unpackAt endsFrom endsAfter elementsFrom part put sameBytes wordAt wordBytes signedOf wordOf cyclicOf valueOf insideOf outsideOf sumOf storedOf purseRule purseDataOf blockOf purseApplied isRoot allRoots stepOf stepsFrom stepsOf soundOf rowOf modeAllowed attributeCheck serviceCheck rowCheck elementCheck checkedFrom then push runsOf scan walk back within cashbackIn elementBy endBy onStore staged writeJudged readJudged judgedWith planOf blocksRead committed carried serve only all after answers told
 computed = (
   refl,
   (refl, refl),

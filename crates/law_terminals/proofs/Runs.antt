@@ -14,7 +14,7 @@ use Rattle.request_plan.specs.Request.{Request}
 use Rattle.law_terminals.specs.Orders.{Terminal, one, two, Marked, by, only, all, after, answers, told, Undisturbed}
 use Rattle.law_terminals.specs.Two.{Answer, answerOf, arenaAfter, Any, All, Names, NoneShared}
 use Rattle.law_terminals.specs.Last.{NamesBlock, Quiet, arenaThen, Redrawn}
-use Rattle.law_terminals.specs.Runs.{Exchange, callsOf, Ran, requestsOf, TwoRuns, TowerRuns}
+use Rattle.law_terminals.specs.Runs.{Exchange, callsOf, RanAlong, requestsOf, TwoRuns, TowerRuns}
 use Rattle.law_terminals.proofs.Two.{leftOf, arenaOf, two-askers}
 use Rattle.law_terminals.proofs.Last.{tower-given, tower-out}
 
@@ -77,7 +77,7 @@ module _ (c : Card) {K L : Type 0} (ask : K → Request) (leave : K → Answer �
   next = arenaOf c ask leave
 
   -- a run leaves what the definition says
-  ran-is : (xs : List (Exchange K L)) (a e : List ℕ) → Ran c ask leave a xs e →
+  ran-is : (xs : List (Exchange K L)) (a e : List ℕ) → RanAlong c ask leave a xs e →
       (leftsOf xs ≡ answers left next a (callsOf xs)) × (e ≡ after left next a (callsOf xs))
   unfolding answers after
   ran-is [] a e r = (refl, r)
@@ -86,7 +86,7 @@ module _ (c : Card) {K L : Type 0} (ask : K → Request) (leave : K → Answer �
       (ap₂ (λ (y : L) (l : List L). y ∷ l) (k .0) (w .0), w .1)
 
   -- and a run of both terminals' calls
-  ran-told : (zs : List (Marked (Exchange K L))) (a e : List ℕ) → Ran c ask leave a (all zs) e →
+  ran-told : (zs : List (Marked (Exchange K L))) (a e : List ℕ) → RanAlong c ask leave a (all zs) e →
       eachOf (λ x. x .left) zs ≡ told left next a (eachOf (λ x. x .call) zs)
   unfolding all told eachOf
   ran-told [] a e r = refl
@@ -94,7 +94,7 @@ module _ (c : Card) {K L : Type 0} (ask : K → Request) (leave : K → Answer �
       ap₂ (λ (y : L) (l : List (Marked L)). by t y ∷ l) (k .0) (rw (k .1) at (ran-told zs b e r))
 
   -- every list of calls has a run, so the laws on runs speak of something
-  pub run-of : (ks : List K) (a : List ℕ) → (xs : List (Exchange K L)) × (e : List ℕ) × Ran c ask leave a xs e × (callsOf xs ≡ ks)
+  pub run-of : (ks : List K) (a : List ℕ) → (xs : List (Exchange K L)) × (e : List ℕ) × RanAlong c ask leave a xs e × (callsOf xs ≡ ks)
   run-of [] a = ([], a, refl, refl)
   run-of (k ∷ ks) a =
       let w = run-of ks (next a k) in (
@@ -106,7 +106,7 @@ module _ (c : Card) {K L : Type 0} (ask : K → Request) (leave : K → Answer �
 
   module _ (z : length (c .nodes) ≡ 64) where
     -- Two terminals' runs.
-    module _ (a : List ℕ) (zs : List (Marked (Exchange K L))) (e : List ℕ) (ran : Ran c ask leave a (all zs) e)
+    module _ (a : List ℕ) (zs : List (Marked (Exchange K L))) (e : List ℕ) (ran : RanAlong c ask leave a (all zs) e)
         (none : NoneShared c (requestsOf c ask leave (only one zs)) (requestsOf c ask leave (only two zs))) where
       -- the order of their calls
       abbrev calls : List (Marked K)
@@ -126,7 +126,7 @@ module _ (c : Card) {K L : Type 0} (ask : K → Request) (leave : K → Answer �
       told-each two = apart .told-two
 
       -- one terminal's calls run alone
-      alone : (t : Terminal) (xs : List (Exchange K L)) (f : List ℕ) → Ran c ask leave a xs f → callsOf xs ≡ callsOf (only t zs) → xs ≡ only t zs
+      alone : (t : Terminal) (xs : List (Exchange K L)) (f : List ℕ) → RanAlong c ask leave a xs f → callsOf xs ≡ callsOf (only t zs) → xs ≡ only t zs
       alone t xs f r q =
           let k : callsOf xs ≡ only t calls = q ∙ sym (only-each (λ (x : Exchange K L). x .call) t zs) in
           exchanges-same xs (only t zs) q
@@ -135,7 +135,7 @@ module _ (c : Card) {K L : Type 0} (ask : K → Request) (leave : K → Answer �
 
       -- the calls of one terminal, and then those of the other
       in-turn : (t u : Terminal) → after left next a (all calls) ≡ after left next (after left next a (only t calls)) (only u calls) →
-          (xs : List (Exchange K L)) (f : List ℕ) → Ran c ask leave a xs f → callsOf xs ≡ callsOf (only t zs ++ only u zs) → f ≡ e
+          (xs : List (Exchange K L)) (f : List ℕ) → RanAlong c ask leave a xs f → callsOf xs ≡ callsOf (only t zs ++ only u zs) → f ≡ e
       in-turn t u h xs f r q =
           let k : callsOf xs ≡ only t calls ++ only u calls =
           q ∙ map-append (λ (x : Exchange K L). x .call) (only t zs) (only u zs)
@@ -156,14 +156,14 @@ module _ (c : Card) {K L : Type 0} (ask : K → Request) (leave : K → Answer �
     module _ (Seen : L → Type 0) (seen-done : (k : K) (x : Answer) → Seen (leave k x) → x .reply ≡ Done)
         (done-seen : (k : K) (x : Answer) → ask k .write ≡ true → x .reply ≡ Done → Seen (leave k x)) where
       -- the arena that a run leaves
-      ran-after : (xs : List (Exchange K L)) (a e : List ℕ) → Ran c ask leave a xs e →
+      ran-after : (xs : List (Exchange K L)) (a e : List ℕ) → RanAlong c ask leave a xs e →
           e ≡ after (answerOf c) (arenaAfter c) a (requestsOf c ask leave xs)
       unfolding after
       ran-after [] a e r = r
       ran-after (x ∷ xs) a e (b, k, r) = rw (k .1) at (ran-after xs b e r)
 
       -- a run that its callers see to be quiet is quiet
-      ran-quiet : (n m : ℕ) (xs : List (Exchange K L)) (a e : List ℕ) → Ran c ask leave a xs e →
+      ran-quiet : (n m : ℕ) (xs : List (Exchange K L)) (a e : List ℕ) → RanAlong c ask leave a xs e →
           All (λ x. ask (x .call) .write ≡ true → Seen (x .left) → (i : ℕ) → NamesBlock n m (ask (x .call)) i → ⊥) xs →
           Quiet c n m a (requestsOf c ask leave xs)
       ran-quiet n m [] a e r q = tt

@@ -29,7 +29,7 @@ use Rattle.request_plan.specs.Serve.{serve}
 use Rattle.request_plan.proofs.Accepted.{Accepted, accepted, nothing, counted, each-passed, stores-put}
 use Rattle.request_runs.proofs.WalkSteps.{AllFrom}
 use Rattle.law_terminals.specs.Two.{arenaAfter}
-use Rattle.law_terminals.specs.Last.{elementAt, codeAt, NamesBlock}
+use Rattle.law_terminals.specs.Last.{elementAt, codeNamed, NamesBlock}
 use Rattle.law_terminals.proofs.Owned.{ServiceRow}
 use Rattle.law_terminals.proofs.Folds.{folded, replaced, folded-none, folded-last}
 use Rattle.law_terminals.proofs.Stored.{part-of-put, hits, dataAt, Checks, block-staged}
@@ -73,15 +73,15 @@ module _ {c : Card} (b : Built c) {own n : ℕ} {v : Row} (o : ServiceRow (nodes
     -- one that names it hits
     names-hits : {i : ℕ} → NamesBlock n k w i → hit (elementAt w i) ≡ true
     names-hits {i} m =
-        rw (eq-eqb (numberOf (codeAt w i)) (numberOf own) (m .number ∙ sym numbered), eq-eqb (elementAt w i .number) k (m .block))
+        rw (eq-eqb (numberOf (codeNamed w i)) (numberOf own) (m .number ∙ sym numbered), eq-eqb (elementAt w i .number) k (m .block))
 
     -- one that does not name it does not
     other-misses : (i : ℕ) → i < length (elementsIn w) → (NamesBlock n k w i → ⊥) → hit (elementAt w i) ≡ false
     other-misses i l f = ne-true _ (λ q.
-        let p = and-eq-true-iff (eqb (numberOf (codeAt w i)) (numberOf own)) (eqb (elementAt w i .number) k) .0 q in
+        let p = and-eq-true-iff (eqb (numberOf (codeNamed w i)) (numberOf own)) (eqb (elementAt w i .number) k) .0 q in
         f (record {
           listed = l;
-          number = eqb-true (numberOf (codeAt w i)) (numberOf own) (p .0) ∙ numbered;
+          number = eqb-true (numberOf (codeNamed w i)) (numberOf own) (p .0) ∙ numbered;
           block = eqb-true (elementAt w i .number) k (p .1);
         }))
 

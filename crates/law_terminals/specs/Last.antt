@@ -22,13 +22,13 @@ abbrev pub elementAt : Request → ℕ → BlockListElement
 elementAt r i = getD (elementsIn r) i (record { number = 0; index = 0; mode = 0 })
 
 -- the service code that it names, by its place among the request's codes
-abbrev pub codeAt : Request → ℕ → ℕ
-codeAt r i = getD (r .codes) (elementAt r i .index) 0
+abbrev pub codeNamed : Request → ℕ → ℕ
+codeNamed r i = getD (r .codes) (elementAt r i .index) 0
 
 -- element i names block b of the service number n
 pub record NamesBlock (n b : ℕ) (r : Request) (i : ℕ) : Type 0 where
   pub listed : i < length (elementsIn r)
-  pub number : numberOf (codeAt r i) ≡ n
+  pub number : numberOf (codeNamed r i) ≡ n
   pub block : elementAt r i .number ≡ b
 
 -- The last element for block b of number n brings the bytes d.
@@ -39,7 +39,7 @@ pub record LastBrings (n b : ℕ) (d : List ℕ) (r : Request) : Type 0 where
   -- no later element names the block
   pub last : (j : ℕ) → place < j → NamesBlock n b r j → ⊥
   -- its service is of the random kind
-  pub random : codeKindOf (codeAt r place) ≡ OfKind Random
+  pub random : codeKindOf (codeNamed r place) ≡ OfKind Random
   -- of the data its own sixteen bytes are d
   pub bytes : part (r .«data») (16 * place) 16 ≡ d
 

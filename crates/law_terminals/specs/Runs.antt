@@ -28,9 +28,9 @@ module _ (c : Card) {K L : Type 0} (ask : K → Request) (leave : K → Answer �
   Leaves a k x b = (x ≡ leave k (answerOf c a (ask k))) × (b ≡ arenaAfter c a (ask k))
 
   -- a run: calls one after another, each on the arena that the one before it left; the last leaves e
-  abbrev pub Ran : List ℕ → List (Exchange K L) → List ℕ → Type 0
-  Ran a [] e = e ≡ a
-  Ran a (x ∷ xs) e = (b : List ℕ) × Leaves a (x .call) (x .left) b × Ran b xs e
+  abbrev pub RanAlong : List ℕ → List (Exchange K L) → List ℕ → Type 0
+  RanAlong a [] e = e ≡ a
+  RanAlong a (x ∷ xs) e = (b : List ℕ) × Leaves a (x .call) (x .left) b × RanAlong b xs e
 
   abbrev pub requestsOf : List (Exchange K L) → List Request
   requestsOf xs = map (λ (x : Exchange K L). ask (x .call)) xs
@@ -38,19 +38,19 @@ module _ (c : Card) {K L : Type 0} (ask : K → Request) (leave : K → Answer �
   -- what is promised of a run of both terminals' calls, as they came, from the arena a to the arena e
   pub record Apart (a : List ℕ) (zs : List (Marked (Exchange K L))) (e : List ℕ) : Type 0 where
     -- whenever the calls of one are run alone from a, they leave one what they left it here, call for call
-    pub one-alone : (xs : List (Exchange K L)) (b : List ℕ) → Ran a xs b → callsOf xs ≡ callsOf (only one zs) → xs ≡ only one zs
+    pub one-alone : (xs : List (Exchange K L)) (b : List ℕ) → RanAlong a xs b → callsOf xs ≡ callsOf (only one zs) → xs ≡ only one zs
     -- so with two
-    pub two-alone : (xs : List (Exchange K L)) (b : List ℕ) → Ran a xs b → callsOf xs ≡ callsOf (only two zs) → xs ≡ only two zs
+    pub two-alone : (xs : List (Exchange K L)) (b : List ℕ) → RanAlong a xs b → callsOf xs ≡ callsOf (only two zs) → xs ≡ only two zs
     -- whenever all calls of one are run and then all of two, they leave the same arena
-    pub one-first : (xs : List (Exchange K L)) (b : List ℕ) → Ran a xs b → callsOf xs ≡ callsOf (only one zs ++ only two zs) → b ≡ e
+    pub one-first : (xs : List (Exchange K L)) (b : List ℕ) → RanAlong a xs b → callsOf xs ≡ callsOf (only one zs ++ only two zs) → b ≡ e
     -- so with all of two and then all of one
-    pub two-first : (xs : List (Exchange K L)) (b : List ℕ) → Ran a xs b → callsOf xs ≡ callsOf (only two zs ++ only one zs) → b ≡ e
+    pub two-first : (xs : List (Exchange K L)) (b : List ℕ) → RanAlong a xs b → callsOf xs ≡ callsOf (only two zs ++ only one zs) → b ≡ e
 
   -- Any run of both terminals' calls, in whatever order they came, where no number of a service of the card is named by both.
   abbrev pub TwoRuns : Type 0
   TwoRuns =
       (a : List ℕ) (zs : List (Marked (Exchange K L))) (e : List ℕ)
-      → Ran a (all zs) e
+      → RanAlong a (all zs) e
       → NoneShared c (requestsOf (only one zs)) (requestsOf (only two zs))
       → Apart a zs e
 
@@ -58,7 +58,7 @@ module _ (c : Card) {K L : Type 0} (ask : K → Request) (leave : K → Answer �
   module _ (Done : L → Type 0) where
     -- A write, calls after it that are run from the arena that it leaves, and a read on the arena m that these leave.
     pub record RedrawnBy (n b : ℕ) (d a : List ℕ) (w : Exchange K L) (xs : List (Exchange K L)) (m : List ℕ) (q : Exchange K L) (e : List ℕ) : Type 0 where
-      pub ran : Ran a (w ∷ xs) m
+      pub ran : RanAlong a (w ∷ xs) m
       pub asked : Leaves m (q .call) (q .left) e
       -- the marshal's write is accepted, and its last element for block b of the random store of number n brings the bytes d
       pub write : ask (w .call) .write ≡ true

@@ -11,7 +11,7 @@ use Rattle.service_code.specs.Code.{numberOf, attributesOf, tableOf, decodedOf,
 use Rattle.block_list.specs.Element.{unpackAt, endsFrom, endsAfter, elementsFrom}
 use Rattle.byte_parts.specs.Part.{part, put}
 use Rattle.text_fields.specs.Field.{split}
-use Rattle.text_numbers.specs.Digit.{among, digitOf, digits, spelt}
+use Rattle.text_numbers.specs.Digit.{isBetween, digitOf, digits, spelt}
 use Rattle.text_numbers.specs.Hex.{grouped, hexField, pairs, unhex, capital, toHex, hexText}
 use Rattle.text_numbers.specs.Codes.{hex16, codesField, codesOf}
 use Rattle.text_numbers.specs.Decimal.{plain, upTo, decimal, digitsOf, decText}
@@ -41,7 +41,7 @@ use Rattle.board_read.specs.Refresh.{refreshed}
 use Rattle.board_line.specs.Line.{boardLine, boardCode, boardLineText}
 use Rattle.replay_state.specs.declared.Phase.the-variants.{Requests}
 use Rattle.replay_state.specs.Phases.{oneMore}
-use Rattle.replay_kind.specs.Kind.{imageKind, requestKind, kindOf}
+use Rattle.replay_kind.specs.Kind.{imageKind, requestKind, takenFor}
 use Rattle.replay_line.specs.Replay.{Held, held, lineHeld, lineText}
 use Rattle.law_terminals.specs.Orders.{one, two, Marked, by, only, answers, told, Undisturbed}
 use Rattle.law_terminals.specs.Two.{arenaAfter, Any, Names, NoneShared}
@@ -106,12 +106,12 @@ computed
     : (told lineText lineHeld start order ≡ by two (done 49) ∷ by one (done 50) ∷ by one (missing 51) ∷ by two (given 52) ∷ [])
     × (answers lineText lineHeld start (only one order) ≡ done 49 ∷ missing 50 ∷ [])
     × (answers lineText lineHeld start (only two order) ≡ done 49 ∷ given 50 ∷ [])
-unfolding addService placedOf isDepth parentAt parentFrom openAt firstFrom serviceUnder outside sameKind joinedTo usable newStore mayJoin numberOf attributesOf tableOf decodedOf attributeOf codeKindOf requiresKey unpackAt endsFrom endsAfter elementsFrom part put isRoot allRoots stepOf stepsFrom stepsOf soundOf rowOf modeAllowed attributeCheck serviceCheck rowCheck elementCheck checkedFrom then push runsOf scan walk back within elementBy endBy onStore staged writeJudged readJudged judgedWith planOf blocksRead committed carried serve split hex16 codesField codesOf plain upTo decimal among digitOf digits spelt grouped hexField pairs unhex isLetter isEither requestLine shaped isWrite askOf boardLine boardCode requestIn digitsOf decText capital toHex hexText whereText statusFields refusalFields causeText lineServed requestText refreshed boardLineText imageKind requestKind kindOf lineHeld lineText oneMore only answers told
+unfolding addService placedOf isDepth parentAt parentFrom openAt firstFrom serviceUnder outside sameKind joinedTo usable newStore mayJoin numberOf attributesOf tableOf decodedOf attributeOf codeKindOf requiresKey unpackAt endsFrom endsAfter elementsFrom part put isRoot allRoots stepOf stepsFrom stepsOf soundOf rowOf modeAllowed attributeCheck serviceCheck rowCheck elementCheck checkedFrom then push runsOf scan walk back within elementBy endBy onStore staged writeJudged readJudged judgedWith planOf blocksRead committed carried serve split hex16 codesField codesOf plain upTo decimal isBetween digitOf digits spelt grouped hexField pairs unhex isLetter isEither requestLine shaped isWrite askOf boardLine boardCode requestIn digitsOf decText capital toHex hexText whereText statusFields refusalFields causeText lineServed requestText refreshed boardLineText imageKind requestKind takenFor lineHeld lineText oneMore only answers told
 computed = (refl, refl, refl)
 
 -- one's lines name 41h, two's 42h
 of-one : (k : ℕ) → Any (Names k) (map requestIn (only one order)) → k ≡ 0x41
-unfolding split hex16 codesField codesOf plain upTo decimal among digitOf digits spelt grouped hexField pairs unhex isLetter isEither requestLine shaped isWrite askOf boardLine boardCode requestIn numberOf only
+unfolding split hex16 codesField codesOf plain upTo decimal isBetween digitOf digits spelt grouped hexField pairs unhex isLetter isEither requestLine shaped isWrite askOf boardLine boardCode requestIn numberOf only
 of-one k (inl (inl h)) = sym h
 of-one k (inl (inr h)) = absurd h
 of-one k (inr (inl (inl h))) = sym h
@@ -119,7 +119,7 @@ of-one k (inr (inl (inr h))) = absurd h
 of-one k (inr (inr h)) = absurd h
 
 of-two : (k : ℕ) → Any (Names k) (map requestIn (only two order)) → k ≡ 0x42
-unfolding split hex16 codesField codesOf plain upTo decimal among digitOf digits spelt grouped hexField pairs unhex isLetter isEither requestLine shaped isWrite askOf boardLine boardCode requestIn numberOf only
+unfolding split hex16 codesField codesOf plain upTo decimal isBetween digitOf digits spelt grouped hexField pairs unhex isLetter isEither requestLine shaped isWrite askOf boardLine boardCode requestIn numberOf only
 of-two k (inl (inl h)) = sym h
 of-two k (inl (inr h)) = absurd h
 of-two k (inr (inl (inl h))) = sym h
@@ -136,16 +136,16 @@ abbrev drawing : Request
 drawing = writeRequest true (0x1049 ∷ []) 1 (0x80 ∷ 0 ∷ []) (replicate 16 1) 65536
 
 draw-is : requestIn draw ≡ drawing
-unfolding split hex16 codesField codesOf plain upTo decimal among digitOf digits spelt grouped hexField pairs unhex isLetter isEither requestLine shaped isWrite askOf boardLine boardCode requestIn
+unfolding split hex16 codesField codesOf plain upTo decimal isBetween digitOf digits spelt grouped hexField pairs unhex isLetter isEither requestLine shaped isWrite askOf boardLine boardCode requestIn
 draw-is = refl
 
 -- no element of it is of a purse or of a ring
-no-purse : (n b i : ℕ) → resend.Names Purse n b drawing i → ⊥
+no-purse : (n b i : ℕ) → resend.NamesOfKind Purse n b drawing i → ⊥
 unfolding numberOf attributesOf tableOf decodedOf attributeOf codeKindOf unpackAt elementsFrom
 no-purse n b zero h = let z : _≡_ {A = ℕ} 0 1 = let q = h .kinded in cc in omega arith
 no-purse n b (suc i) h = let l = h .listed in omega arith
 
-no-ring : (n b i : ℕ) → resend.Names Cyclic n b drawing i → ⊥
+no-ring : (n b i : ℕ) → resend.NamesOfKind Cyclic n b drawing i → ⊥
 unfolding numberOf attributesOf tableOf decodedOf attributeOf codeKindOf unpackAt elementsFrom
 no-ring n b zero h = let z : _≡_ {A = ℕ} 0 1 = let q = h .kinded in cc in omega arith
 no-ring n b (suc i) h = let l = h .listed in omega arith
@@ -156,7 +156,7 @@ written = refl
 
 -- a refresh and a read come between
 idle : resend.Idle card (arenaAfter card (replicate 32 0) drawing) (map requestIn (refresh ∷ look ∷ []))
-unfolding split hex16 codesField codesOf plain upTo decimal among digitOf digits spelt grouped hexField pairs unhex isLetter isEither requestLine shaped isWrite askOf boardLine boardCode requestIn
+unfolding split hex16 codesField codesOf plain upTo decimal isBetween digitOf digits spelt grouped hexField pairs unhex isLetter isEither requestLine shaped isWrite askOf boardLine boardCode requestIn
 idle =
     idle-each card (arenaAfter card (replicate 32 0) drawing) (map requestIn (refresh ∷ look ∷ []))
     (λ (t, d). false≢true t, (λ (t, d). false≢true t, tt))

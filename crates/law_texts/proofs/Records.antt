@@ -19,16 +19,16 @@ use Rattle.card_admit.specs.declared.Placed.the-variants.{Store, Refused as Not
 use Rattle.card_admit.specs.Admit.{areaJudged, placedOf, agreed}
 use Rattle.card_build.specs.declared.card.Card.{Card}
 use Rattle.card_build.specs.Card.{nodesOf, isSound, refused}
-use Rattle.card_build.specs.Grow.{nodeAs, areaBy, addArea, serviceBy, addService, lastOf, limitBy, setLimit}
+use Rattle.card_build.specs.Grow.{nodeAs, areaBy, addArea, serviceBy, addService, lastNode, limitBy, setLimit}
 use Rattle.card_build.specs.Build.{areaAdded, serviceAdded, limitAdded}
 use Rattle.line_image.specs.declared.line.Line.{Line}
 use Rattle.line_image.specs.declared.line.Line.the-variants as lines
 use Rattle.line_image.specs.Line.{imageLine}
-use Rattle.line_build.specs.Image.{carried, imageStep}
+use Rattle.line_build.specs.Image.{lineCarried, imageStep}
 use Rattle.replay_kind.specs.declared.Kind.{Kind}
 use Rattle.replay_kind.specs.declared.Kind.the-variants as kinds
-use Rattle.replay_kind.specs.Kind.{kindOf}
-use Rattle.replay_line.specs.Replay.{Held, heldBy, lineHeld, atStart}
+use Rattle.replay_kind.specs.Kind.{takenFor}
+use Rattle.replay_line.specs.Replay.{Held, heldBy, lineHeld, heldAtStart}
 use Rattle.law_lines.specs.Lines.{heldAfter}
 
 module _ (c : Card) where
@@ -65,7 +65,7 @@ module _ (c : Card) where
   -- and a limit
   limit-long : (upper lower : ℤ) (generation : ℕ) → length (limitAdded c upper lower generation .card .nodes) ≡ length (c .nodes)
   unfolding limitAdded setLimit
-  limit-long upper lower generation = by (not (isSound c)) (lastOf c .entry)
+  limit-long upper lower generation = by (not (isSound c)) (lastNode c .entry)
     where
       by : (t : Bool) (e : Entry) →
           length (cond t (refused c NotBuilt) (limitBy c (Limited upper lower generation) e) .card .nodes) ≡ length (c .nodes)
@@ -78,7 +78,7 @@ module _ (c : Card) where
   unfolding imageStep
   image-long first a line h = by (imageLine first line)
     where
-      by : (x : Line) → length (carried c a (split 9 line) x .added .card .nodes) ≡ 64
+      by : (x : Line) → length (lineCarried c a (split 9 line) x .added .card .nodes) ≡ 64
       by lines.Malformed = h
       by (lines.Card system) = length-replicate 64 rootNode
       by (lines.Area depth code end version) = area-long depth code end version ∙ h
@@ -89,7 +89,7 @@ module _ (c : Card) where
 -- so does any line
 line-long : (s : Held) (line : List ℕ) → length (s .replay .card .nodes) ≡ 64 → length (lineHeld s line .replay .card .nodes) ≡ 64
 unfolding lineHeld
-line-long s line h = by (kindOf (s .replay .phase) line)
+line-long s line h = by (takenFor (s .replay .phase) line)
   where
     by : (k : Kind) → length (heldBy k s line .replay .card .nodes) ≡ 64
     by (kinds.Image first) = image-long (s .replay .card) first (s .arena) line h
@@ -102,5 +102,5 @@ unfolding heldAfter
 lines-long [] s h = h
 lines-long (line ∷ ls) s h = lines-long ls (lineHeld s line) (line-long s line h)
 
-pub state-long : (ls : List (List ℕ)) → length (heldAfter atStart ls .replay .card .nodes) ≡ 64
-state-long ls = lines-long ls atStart (length-replicate 64 rootNode)
+pub state-long : (ls : List (List ℕ)) → length (heldAfter heldAtStart ls .replay .card .nodes) ≡ 64
+state-long ls = lines-long ls heldAtStart (length-replicate 64 rootNode)

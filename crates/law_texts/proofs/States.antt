@@ -28,7 +28,7 @@ use Rattle.replay_line.specs.Replay.{Held, held, lentBytes, textBy, lineHeld, l
 use Rattle.law_terminals.specs.Orders.{Terminal, one, two, Marked, by, only, all, after, answers, told}
 use Rattle.law_terminals.specs.Two.{Answer, answerOf, arenaAfter}
 use Rattle.law_terminals.proofs.Two.{leftOf, arenaOf}
-use Rattle.law_calls.specs.Lines.{requestBy, toldBy}
+use Rattle.law_calls.specs.Lines.{requestBy, lineToldBy}
 use Rattle.law_calls.specs.Library.{madeBy}
 use Rattle.law_calls.proofs.Library.{made-is}
 use Rattle.law_lines.specs.Lines.{Taken}
@@ -46,7 +46,7 @@ codePrinted o (Is code) x = refreshedText o (x .read) (madeBy x)
 unfoldable pub printedBy : ℕ → List ℕ → Answer → List ℕ
 printedBy o line x =
     cond (boardLine line) (codePrinted o (boardCode line) x)
-    (answerText o (toldBy (askOf line) x .reply) (toldBy (askOf line) x .read))
+    (answerText o (lineToldBy (askOf line) x .reply) (lineToldBy (askOf line) x .read))
 
 module _ (c : Card) (a line : List ℕ) (o : ℕ) where
   board-by : (x : Code) → codeText c a o x ≡ codePrinted o x (answerOf c a (refreshBy x))
@@ -56,7 +56,7 @@ module _ (c : Card) (a line : List ℕ) (o : ℕ) where
       let x = boardServed c a code 128 in
       ap (refreshedText o (x .read)) (sym (made-is x (x .reply)))
 
-  request-by : (x : Ask) → let y = toldBy x (answerOf c a (requestBy lentBytes line x)) in
+  request-by : (x : Ask) → let y = lineToldBy x (answerOf c a (requestBy lentBytes line x)) in
       answerText o (askServed c a lentBytes line x .reply) (askServed c a lentBytes line x .read) ≡ answerText o (y .reply) (y .read)
   request-by Malformed = refl
   request-by (Read «open» count) = refl

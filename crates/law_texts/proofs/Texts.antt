@@ -7,12 +7,12 @@ use Rattle.text_stream.specs.Stream.{pushed, linesOf, joined, Machine, printed,
 use Rattle.replay_state.specs.declared.Phase.{Phase}
 use Rattle.replay_state.specs.declared.Phase.the-variants.{First, Image, Requests, Ended}
 use Rattle.replay_state.specs.Phases.{finishText}
-use Rattle.replay_line.specs.Replay.{Held, lineHeld, lineText, endText, replayMachine, atStart, replayOf}
+use Rattle.replay_line.specs.Replay.{Held, lineHeld, lineText, endText, replayMachine, heldAtStart, replayOf}
 use Rattle.law_terminals.specs.Orders.{Terminal, one, two, Marked, by, only, all, after, answers, told}
 use Rattle.law_terminals.specs.Two.{All}
 use Rattle.law_lines.specs.Lines.{Taken, heldAfter}
 use Rattle.law_lines.proofs.Lines.{taken-none, taken-requests}
-use Rattle.law_texts.specs.Texts.{textOf, OneLine, stateAfter, TextsPrinted, TwoTexts, TextResent}
+use Rattle.law_texts.specs.Texts.{linesAsText, OneLine, stateAfter, TextsPrinted, TwoTexts, TextResent}
 use Rattle.law_texts.proofs.States.{taken-all}
 use Rattle.law_texts.proofs.Records.{state-long}
 use Rattle.law_texts.proofs.Lines.{two-lines, written-again, requests-after}
@@ -24,10 +24,10 @@ cut [] t h = refl
 cut (x ∷ line) t h = rw (ne-eqb x 10 (h .0), cut line t (h .1))
 
 -- the lines of a text are those of which it was made
-lines-text : (ls : List (List ℕ)) → All OneLine ls → linesOf (textOf ls) ≡ ls
-unfolding textOf linesOf
+lines-text : (ls : List (List ℕ)) → All OneLine ls → linesOf (linesAsText ls) ≡ ls
+unfolding linesAsText linesOf
 lines-text [] h = refl
-lines-text (line ∷ ls) h = cut line (textOf ls) (h .0) ∙ ap (λ (m : List (List ℕ)). line ∷ m) (lines-text ls (h .1))
+lines-text (line ∷ ls) h = cut line (linesAsText ls) (h .0) ∙ ap (λ (m : List (List ℕ)). line ∷ m) (lines-text ls (h .1))
 
 -- what a machine prints of lines, and of others after them
 module _ {S : Type 0} (M : Machine S) where
@@ -77,18 +77,18 @@ all-append F [] ys f g = g
 all-append F (x ∷ xs) ys f g = (f .0, all-append F xs ys (f .1) g)
 
 -- what a replay prints of lines
-replay-is : (ls : List (List ℕ)) → All OneLine ls → replayOf (textOf ls) ≡ printed replayMachine atStart ls
+replay-is : (ls : List (List ℕ)) → All OneLine ls → replayOf (linesAsText ls) ≡ printed replayMachine heldAtStart ls
 unfolding replayOf saysOf
-replay-is ls h = ap (printed replayMachine atStart) (lines-text ls h)
+replay-is ls h = ap (printed replayMachine heldAtStart) (lines-text ls h)
 
 -- what is printed of lines that are taken for requests comes after what those ahead of them print
 says : (is ls : List (List ℕ)) → All OneLine is → All OneLine ls → Taken (stateAfter is .replay .phase) ls →
-    replayOf (textOf (is ++ ls)) ≡ replayOf (textOf is) ++ joined (answers lineText lineHeld (stateAfter is) ls)
+    replayOf (linesAsText (is ++ ls)) ≡ replayOf (linesAsText is) ++ joined (answers lineText lineHeld (stateAfter is) ls)
 says is ls f g q =
-    replay-is (is ++ ls) (all-append OneLine is ls f g) ∙ printed-append replayMachine is ls atStart
+    replay-is (is ++ ls) (all-append OneLine is ls f g) ∙ printed-append replayMachine is ls heldAtStart
     ∙ ap₂ (λ (x y : List ℕ). x ++ y)
-    (sym (replay-is is f ∙ printed-lines replayMachine is atStart (ends is atStart (taken-none (stateAfter is .replay .phase) ls q))))
-    (ap (λ (s : Held). printed replayMachine s ls) (held-is is atStart)
+    (sym (replay-is is f ∙ printed-lines replayMachine is heldAtStart (ends is heldAtStart (taken-none (stateAfter is .replay .phase) ls q))))
+    (ap (λ (s : Held). printed replayMachine s ls) (held-is is heldAtStart)
     ∙ printed-lines replayMachine ls (stateAfter is) (ends ls (stateAfter is) (taken-after ls (stateAfter is) q)))
   where
     ends : (ms : List (List ℕ)) (s : Held) → Taken (heldAfter s ms .replay .phase) [] → endText (after lineText lineHeld s ms) ≡ []
@@ -117,7 +117,7 @@ texts-printed is zs f g p q =
     record {
       both =
           says is (all zs) f g (taken-all (s .replay .phase) zs p q)
-          ∙ ap (λ (l : List (List ℕ)). replayOf (textOf is) ++ joined l) (sym (told-all lineText lineHeld zs s));
+          ∙ ap (λ (l : List (List ℕ)). replayOf (linesAsText is) ++ joined l) (sym (told-all lineText lineHeld zs s));
       first = says is (only one zs) f (own .0) p;
       second = says is (only two zs) f (own .1) q;
     }
@@ -131,12 +131,12 @@ pub text-resent : TextResent
 unfolding joined answers
 text-resent is w ls f g k h =
     let s = stateAfter is in
-    let e = held-append is (w ∷ ls) atStart in
+    let e = held-append is (w ∷ ls) heldAtStart in
     let r = subst (λ (t : Held). t .replay .phase ≡ Requests) (sym e) (requests-after w ls s (h .taken)) in
     record {
       printed =
           says (is ++ (w ∷ ls)) (w ∷ []) (all-append OneLine is (w ∷ ls) f (g, k)) (g, tt) (taken-requests r (w ∷ []))
-          ∙ ap (λ (t : Held). replayOf (textOf (is ++ (w ∷ ls))) ++ (lineText t w ++ [])) e
-          ∙ ap (λ (x : List ℕ). replayOf (textOf (is ++ (w ∷ ls))) ++ x) (append-nil (lineText (heldAfter s (w ∷ ls)) w));
+          ∙ ap (λ (t : Held). replayOf (linesAsText (is ++ (w ∷ ls))) ++ (lineText t w ++ [])) e
+          ∙ ap (λ (x : List ℕ). replayOf (linesAsText (is ++ (w ∷ ls))) ++ x) (append-nil (lineText (heldAfter s (w ∷ ls)) w));
       again = written-again s (state-long is) w ls h;
     }

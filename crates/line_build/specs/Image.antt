@@ -1,4 +1,4 @@
--- An image line, carried out on a card and an arena.
+-- An image line, lineCarried out on a card and an arena.
 use Prim.Native.Nat.{ℕ}
 use mathlib.Core.Bool.{Bool}
 use mathlib.Core.List.{List, []}
@@ -26,16 +26,16 @@ abbrev pub answered : Card → Answer → Added
 answered c x = record { card = c; answer = x }
 
 -- what comes of a line; the last field of `blk` spells the block's bytes
-abbrev pub carried : Card → List ℕ → List (List ℕ) → Line → Imaged
-carried c a fs Malformed = record { added = refused c MalformedImage; arena = a }
-carried c a fs (New system) = record { added = accepted (newCard system); arena = a }
-carried c a fs (Area depth code end version) = record { added = areaAdded c depth code end version; arena = a }
-carried c a fs (Service depth code blocks version) =
+abbrev pub lineCarried : Card → List ℕ → List (List ℕ) → Line → Imaged
+lineCarried c a fs Malformed = record { added = refused c MalformedImage; arena = a }
+lineCarried c a fs (New system) = record { added = accepted (newCard system); arena = a }
+lineCarried c a fs (Area depth code end version) = record { added = areaAdded c depth code end version; arena = a }
+lineCarried c a fs (Service depth code blocks version) =
     record { added = serviceAdded c (length a) depth code blocks version; arena = arenaAdded c (serviceAdded c (length a) depth code blocks version) a }
-carried c a fs (Limit upper lower generation) = record { added = limitAdded c upper lower generation; arena = a }
-carried c a fs (Block code number) =
+lineCarried c a fs (Limit upper lower generation) = record { added = limitAdded c upper lower generation; arena = a }
+lineCarried c a fs (Block code number) =
     record { added = answered c (blockJudged c (length a) code number); arena = arenaSet c a code number (unhex (getD fs 3 [])) }
 
 -- a whole image line, the first of the image or a later one
 unfoldable pub imageStep : Bool → Card → List ℕ → List ℕ → Imaged
-imageStep first c a s = carried c a (split 9 s) (imageLine first s)
+imageStep first c a s = lineCarried c a (split 9 s) (imageLine first s)

@@ -6,7 +6,7 @@ use lib.IntN.{pos, negsuc}
 use Rattle.byte_parts.specs.Part.{sameBytes}
 use Rattle.card_build.specs.Card.{systemOf}
 use Rattle.text_fields.specs.Field.{split}
-use Rattle.text_numbers.specs.Digit.{among, digitOf, digits, spelt}
+use Rattle.text_numbers.specs.Digit.{isBetween, digitOf, digits, spelt}
 use Rattle.text_numbers.specs.Hex.{grouped, hexField}
 use Rattle.text_numbers.specs.Codes.{hex16}
 use Rattle.text_numbers.specs.Decimal.{plain, upTo, decimal, positive, negative, signed}
@@ -20,7 +20,7 @@ pub whole-case
     × (imageLine true (99 ∷ 97 ∷ 114 ∷ 100 ∷ 9 ∷ 48 ∷ 48 ∷ 48 ∷ 49 ∷ 9 ∷ 48 ∷ 48 ∷ 48 ∷ 48 ∷ []) ≡ Card (systemOf 1 0 false))
     × (imageLine false (115 ∷ 118 ∷ 99 ∷ 9 ∷ 49 ∷ 9 ∷ 49 ∷ 48 ∷ 52 ∷ 57 ∷ 9 ∷ 50 ∷ 9 ∷ 48 ∷ 48 ∷ 48 ∷ 48 ∷ []) ≡ Service 1 0x1049 2 0)
     × (imageLine false (115 ∷ 118 ∷ 99 ∷ 9 ∷ 49 ∷ 9 ∷ 49 ∷ 48 ∷ 52 ∷ 66 ∷ 9 ∷ 53 ∷ 9 ∷ 48 ∷ 48 ∷ 48 ∷ 48 ∷ []) ≡ Service 1 0x104B 5 0)
-unfolding among digitOf digits spelt plain upTo decimal positive negative signed grouped hexField hex16 split sameBytes named form joins hex32 cardLine headingOf areaLine serviceLine limitLine blockLine firstLine laterLine imageLine
+unfolding isBetween digitOf digits spelt plain upTo decimal positive negative signed grouped hexField hex16 split sameBytes named form joins hex32 cardLine headingOf areaLine serviceLine limitLine blockLine firstLine laterLine imageLine
 whole-case = (refl, refl, refl, refl)
 
 -- `area 1 0000 fffe 0A0b`; `lim 200 -50 255`; `blk 1049 1` with 32 digits; the largest depth.
@@ -29,7 +29,7 @@ pub accepted
     × (imageLine false (108 ∷ 105 ∷ 109 ∷ 9 ∷ 50 ∷ 48 ∷ 48 ∷ 9 ∷ 45 ∷ 53 ∷ 48 ∷ 9 ∷ 50 ∷ 53 ∷ 53 ∷ []) ≡ Limit (pos 200) (negsuc 49) 255)
     × (imageLine false (98 ∷ 108 ∷ 107 ∷ 9 ∷ 49 ∷ 48 ∷ 52 ∷ 57 ∷ 9 ∷ 49 ∷ 9 ∷ 48 ∷ 102 ∷ 48 ∷ 102 ∷ 48 ∷ 102 ∷ 48 ∷ 102 ∷ 48 ∷ 102 ∷ 48 ∷ 102 ∷ 48 ∷ 102 ∷ 48 ∷ 102 ∷ 48 ∷ 102 ∷ 48 ∷ 102 ∷ 48 ∷ 102 ∷ 48 ∷ 102 ∷ 48 ∷ 102 ∷ 48 ∷ 102 ∷ 48 ∷ 102 ∷ 48 ∷ 102 ∷ []) ≡ Block 0x1049 1)
     × (imageLine false (97 ∷ 114 ∷ 101 ∷ 97 ∷ 9 ∷ 52 ∷ 50 ∷ 57 ∷ 52 ∷ 57 ∷ 54 ∷ 55 ∷ 50 ∷ 57 ∷ 53 ∷ 9 ∷ 48 ∷ 48 ∷ 48 ∷ 48 ∷ 9 ∷ 70 ∷ 70 ∷ 70 ∷ 69 ∷ 9 ∷ 48 ∷ 48 ∷ 48 ∷ 48 ∷ []) ≡ Area 4294967295 0 0xFFFE 0)
-unfolding among digitOf digits spelt plain upTo decimal positive negative signed grouped hexField hex16 split sameBytes named form joins hex32 cardLine headingOf areaLine serviceLine limitLine blockLine firstLine laterLine imageLine
+unfolding isBetween digitOf digits spelt plain upTo decimal positive negative signed grouped hexField hex16 split sameBytes named form joins hex32 cardLine headingOf areaLine serviceLine limitLine blockLine firstLine laterLine imageLine
 accepted = (refl, refl, refl, refl)
 
 -- Malformed: nothing; `svc` on line 1; `card` on a later line; a tab too many; a capital; a field too few; a leading zero; a depth that 32 bits cannot hold; -0; a generation that 8 bits cannot hold; 30 digits; no digits; `JOIN`; `joint`; `joi`; a field after `join`; `join` in place of the version; `join` after `svc`.
@@ -52,5 +52,5 @@ pub malformed
     × (imageLine true (99 ∷ 97 ∷ 114 ∷ 100 ∷ 9 ∷ 48 ∷ 48 ∷ 48 ∷ 49 ∷ 9 ∷ 48 ∷ 48 ∷ 48 ∷ 48 ∷ 9 ∷ 106 ∷ 111 ∷ 105 ∷ 110 ∷ 9 ∷ []) ≡ Malformed)
     × (imageLine true (99 ∷ 97 ∷ 114 ∷ 100 ∷ 9 ∷ 48 ∷ 48 ∷ 48 ∷ 49 ∷ 9 ∷ 106 ∷ 111 ∷ 105 ∷ 110 ∷ []) ≡ Malformed)
     × (imageLine false (115 ∷ 118 ∷ 99 ∷ 9 ∷ 49 ∷ 9 ∷ 49 ∷ 48 ∷ 52 ∷ 57 ∷ 9 ∷ 50 ∷ 9 ∷ 48 ∷ 48 ∷ 48 ∷ 48 ∷ 9 ∷ 106 ∷ 111 ∷ 105 ∷ 110 ∷ []) ≡ Malformed)
-unfolding among digitOf digits spelt plain upTo decimal positive negative signed grouped hexField hex16 split sameBytes named form joins hex32 cardLine headingOf areaLine serviceLine limitLine blockLine firstLine laterLine imageLine
+unfolding isBetween digitOf digits spelt plain upTo decimal positive negative signed grouped hexField hex16 split sameBytes named form joins hex32 cardLine headingOf areaLine serviceLine limitLine blockLine firstLine laterLine imageLine
 malformed = (refl, refl, refl, refl, refl, refl, refl, refl, refl, refl, refl, refl, refl, refl, refl, refl, refl, refl)

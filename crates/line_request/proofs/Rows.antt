@@ -3,7 +3,7 @@ use mathlib.Core.Path.{_≡_, refl}
 use mathlib.Core.Bool.{true, false}
 use mathlib.Core.List.{[], _∷_}
 use Rattle.text_fields.specs.Field.{split}
-use Rattle.text_numbers.specs.Digit.{among, digitOf, digits, spelt}
+use Rattle.text_numbers.specs.Digit.{isBetween, digitOf, digits, spelt}
 use Rattle.text_numbers.specs.Hex.{grouped, hexField}
 use Rattle.text_numbers.specs.Codes.{codesField}
 use Rattle.text_numbers.specs.Decimal.{plain, upTo, decimal}
@@ -22,5 +22,5 @@ pub ask-rows
     × (askOf (82 ∷ 9 ∷ 79 ∷ 9 ∷ 49 ∷ 48 ∷ 52 ∷ 9 ∷ 49 ∷ 9 ∷ 56 ∷ 48 ∷ 48 ∷ 49 ∷ []) ≡ Malformed)
     × (askOf (87 ∷ 9 ∷ 79 ∷ 9 ∷ 49 ∷ 48 ∷ 52 ∷ 66 ∷ 9 ∷ 49 ∷ 9 ∷ 56 ∷ 48 ∷ 48 ∷ 49 ∷ []) ≡ Malformed)
     × (askOf (114 ∷ 9 ∷ 79 ∷ 9 ∷ 49 ∷ 48 ∷ 52 ∷ 66 ∷ 9 ∷ 49 ∷ 9 ∷ 56 ∷ 48 ∷ 48 ∷ 49 ∷ []) ≡ Malformed)
-unfolding askOf shaped isWrite isEither isLetter split decimal plain upTo spelt codesField hexField grouped digits digitOf among
+unfolding askOf shaped isWrite isEither isLetter split decimal plain upTo spelt codesField hexField grouped digits digitOf isBetween
 ask-rows = (refl, refl, refl, refl, refl, refl, refl, refl, refl)

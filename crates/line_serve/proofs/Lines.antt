@@ -23,7 +23,7 @@ use Rattle.line_request.specs.declared.Ask.{Ask}
 use Rattle.line_request.specs.declared.Ask.the-variants.{Malformed, Read, Write}
 use Rattle.line_request.specs.Ask.{askOf}
 use Rattle.line_request.proofs.Asking.{Fields}
-use Rattle.line_serve.specs.Line.{codesIn, listIn, dataIn, outcomeOf, askServed, lineServed, workBy, workAfter, spelledBy, bytesAfter}
+use Rattle.line_serve.specs.Line.{codesIn, listIn, dataIn, outcomeOf, askServed, lineServed, workBy, workAfter, spelledBy, spelledAfter}
 use Rattle.line_serve.proofs.Parts.{front-put, both, first, second}
 
 module _ {line : List ℕ} (f : Fields line) {room : ℕ} (h : 16384 ≤ room) where
@@ -51,8 +51,8 @@ module _ (card : Card) (arena work line : List ℕ) where
   pub malformed
       : (bytes : List ℕ) → askOf line ≡ Malformed → let s = lineServed card arena (length work) line in
       (Refused MalformedRequest ≡ s .reply)
-      × ((arena ≡ s .arena) × ((work ≡ workAfter card arena work line) × (bytes ≡ bytesAfter bytes line)))
-  unfolding lineServed workAfter bytesAfter
+      × ((arena ≡ s .arena) × ((work ≡ workAfter card arena work line) × (bytes ≡ spelledAfter bytes line)))
+  unfolding lineServed workAfter spelledAfter
   malformed bytes k = rw k (refl, (refl, (refl, sym (put-zero bytes 0 []))))
 
   module _ {«open» : Bool} {count : ℕ} where
@@ -78,8 +78,8 @@ module _ (card : Card) (arena work line : List ℕ) where
           → {end : ℕ} {b new : List ℕ} {x : Reply} → end ≡ 0 + length (listIn line) → b ≡ put bytes 0 (length (listIn line)) (listIn line)
           → let s = serve card arena (readRequest «open» (take (n - 0) (drop 0 codes)) count (take (end - 0) (drop 0 b)) (length work)) in
           x ≡ s .reply → new ≡ outputAfter work s
-          → (x ≡ lineServed card arena (length work) line .reply) × ((new ≡ workAfter card arena work line) × (b ≡ bytesAfter bytes line))
-      unfolding workAfter bytesAfter
+          → (x ≡ lineServed card arena (length work) line .reply) × ((new ≡ workAfter card arena work line) × (b ≡ spelledAfter bytes line))
+      unfolding workAfter spelledAfter
       read-line k bytes h {end} {b} e p r o =
           let m : end - 0 ≡ length (listIn line) = omega arith in
           let l : take (end - 0) (drop 0 b) ≡ listIn line = rw (m, p) (front-put bytes (listIn line) (omega arith)) in
@@ -96,8 +96,8 @@ module _ (card : Card) (arena work line : List ℕ) where
           x ≡ s .reply → after ≡ s .arena → new ≡ stagingBy x (16 * card .used) work
           → (x ≡ lineServed card arena (length work) line .reply)
           × ((after ≡ lineServed card arena (length work) line .arena)
-          × ((new ≡ workAfter card arena work line) × (b ≡ bytesAfter bytes line)))
-      unfolding workAfter bytesAfter
+          × ((new ≡ workAfter card arena work line) × (b ≡ spelledAfter bytes line)))
+      unfolding workAfter spelledAfter
       write-line k bytes h e f p q r o w =
           let l = first bytes (listIn line) (dataIn line) h e f p q in
           let m = second bytes (listIn line) (dataIn line) h e f p q in

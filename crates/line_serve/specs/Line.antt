@@ -56,5 +56,5 @@ spelledBy line Malformed = []
 spelledBy line (Read «open» count) = listIn line
 spelledBy line (Write «open» count) = listIn line ++ dataIn line
 
-unfoldable pub bytesAfter : List ℕ → List ℕ → List ℕ
-bytesAfter bytes line = put bytes 0 (length (spelledBy line (askOf line))) (spelledBy line (askOf line))
+unfoldable pub spelledAfter : List ℕ → List ℕ → List ℕ
+spelledAfter bytes line = put bytes 0 (length (spelledBy line (askOf line))) (spelledBy line (askOf line))

@@ -16,7 +16,7 @@ ghost use Rattle.request_plan.specs.Serve.{lengthRead};
 ghost use Rattle.line_request.specs.declared.Ask.the-variants.{Read, Write};
 ghost use Rattle.line_request.specs.Ask.{askOf};
 ghost use Rattle.text_stream.specs.Stream.{Written};
-ghost use Rattle.line_serve.specs.Line.{outcomeOf, lineServed, workAfter, bytesAfter};
+ghost use Rattle.line_serve.specs.Line.{outcomeOf, lineServed, workAfter, spelledAfter};
 ghost use Rattle.line_serve.specs.Text.{mostSpelled, mostPrinted, requestText};
 
 // Carries out a read that a line asks. Seventeen codes are as good as all: more than sixteen are refused.
@@ -33,7 +33,7 @@ fn read_asked(
     requires { ⌜ (askOf (now line) ≡ Read «open» count) × (mostSpelled ≤ length (now bytes)) × (ends ≡ endsOf 9 (now line)) ⌝ }
     ensures { λ r. ⌜ r ≡ lineServed card (now (arena .entry)) (length (now (work .entry))) (now (line .entry)) .reply ⌝ }
     ensures { λ _. ⌜ now (work .exit) ≡ workAfter card (now (arena .entry)) (now (work .entry)) (now (line .entry)) ⌝ }
-    ensures { λ _. ⌜ now (bytes .exit) ≡ bytesAfter (now (bytes .entry)) (now (line .entry)) ⌝ }
+    ensures { λ _. ⌜ now (bytes .exit) ≡ spelledAfter (now (bytes .entry)) (now (line .entry)) ⌝ }
 {
     let mut codes = [0u16; 17];
     let n = read_codes(line, ends, 2, &mut codes);
@@ -56,7 +56,7 @@ fn write_asked(
     ensures { λ r. ⌜ r ≡ lineServed card (now (arena .entry)) (length (now (work .entry))) (now (line .entry)) .reply ⌝ }
     ensures { λ _. ⌜ now (arena .exit) ≡ lineServed card (now (arena .entry)) (length (now (work .entry))) (now (line .entry)) .arena ⌝ }
     ensures { λ _. ⌜ now (work .exit) ≡ workAfter card (now (arena .entry)) (now (work .entry)) (now (line .entry)) ⌝ }
-    ensures { λ _. ⌜ now (bytes .exit) ≡ bytesAfter (now (bytes .entry)) (now (line .entry)) ⌝ }
+    ensures { λ _. ⌜ now (bytes .exit) ≡ spelledAfter (now (bytes .entry)) (now (line .entry)) ⌝ }
 {
     let mut codes = [0u16; 17];
     let n = read_codes(line, ends, 2, &mut codes);
@@ -104,7 +104,7 @@ pub fn serve_line(
     ensures { λ r. ⌜ r ≡ outcomeOf (lineServed card (now (arena .entry)) (length (now (work .entry))) (now (line .entry))) ⌝ }
     ensures { λ _. ⌜ now (arena .exit) ≡ lineServed card (now (arena .entry)) (length (now (work .entry))) (now (line .entry)) .arena ⌝ }
     ensures { λ _. ⌜ now (work .exit) ≡ workAfter card (now (arena .entry)) (now (work .entry)) (now (line .entry)) ⌝ }
-    ensures { λ _. ⌜ now (bytes .exit) ≡ bytesAfter (now (bytes .entry)) (now (line .entry)) ⌝ }
+    ensures { λ _. ⌜ now (bytes .exit) ≡ spelledAfter (now (bytes .entry)) (now (line .entry)) ⌝ }
 {
     let ends = text_fields::find_ends(line, b'\t');
     match line_request::ask_of(line, ends) {
@@ -141,7 +141,7 @@ pub fn request_line(
     ensures { λ r. ⌜ Written (now (out .entry)) at (requestText card (now (arena .entry)) (length (now (work .entry))) (now (line .entry)) ordinal) r (now (out .exit)) × (r ≤ at + mostPrinted) ⌝ }
     ensures { λ _. ⌜ now (arena .exit) ≡ lineServed card (now (arena .entry)) (length (now (work .entry))) (now (line .entry)) .arena ⌝ }
     ensures { λ _. ⌜ now (work .exit) ≡ workAfter card (now (arena .entry)) (now (work .entry)) (now (line .entry)) ⌝ }
-    ensures { λ _. ⌜ now (bytes .exit) ≡ bytesAfter (now (bytes .entry)) (now (line .entry)) ⌝ }
+    ensures { λ _. ⌜ now (bytes .exit) ≡ spelledAfter (now (bytes .entry)) (now (line .entry)) ⌝ }
 {
     let outcome = serve_line(card, arena, work, bytes, line);
     let reply = outcome.reply;

@@ -13,8 +13,8 @@ use Rattle.byte_parts.specs.Part.{padded}
 use Rattle.node_messages.specs.declared.code_list.CodeList.{CodeList}
 use Rattle.node_messages.specs.declared.information.BlockInformation.{BlockInformation}
 use Rattle.node_messages.specs.Numbers.{numbersBytes, numbersIn}
-use Rattle.node_messages.specs.CodeList.{flagOf, areasOf, servicesOf, rangesOf, codesOf, codeListBytes, areasIn, servicesIn, isCodeList, codeListIn, listTold, readCodeList}
-use Rattle.node_messages.specs.Information.{nodesOf, informationBytes, nodesIn, isInformation, informationIn, informationTold, readInformation}
+use Rattle.node_messages.specs.CodeList.{flagOf, areasOf, servicesOf, rangesOf, codesListed, codeListBytes, areasIn, servicesIn, isCodeList, codeListIn, listTold, readCodeList}
+use Rattle.node_messages.specs.Information.{nodeCount, informationBytes, nodeCountIn, isInformation, informationIn, informationTold, readInformation}
 use Rattle.node_messages.specs.Kept.{Halves, Bytes, listKept, ListFits, ListWhole, informationKept, InformationFits, InformationWhole}
 use Rattle.node_messages.proofs.NumberLaws.{length-bytes, length-in, numbers-back, numbers-say, padded-front}
 use Rattle.node_messages.proofs.Writes.{ListSized, ranges-long, codes-long, InformationSized, assigned-long, free-long}
@@ -84,13 +84,13 @@ module _ (more : Bool) (a : ℕ) (rs cs : List ℕ) (p : length rs ≡ 2 * a) wh
   bytes-read h k = rw (bytes-services, bytes-ranges h, bytes-codes k, flag-back more)
 
 module _ {m : CodeList} (z : ListSized m) where
-  list-is : codeListBytes m ≡ bytes (m .more) (areasOf m) (rangesOf m) (codesOf m) (ranges-long z)
+  list-is : codeListBytes m ≡ bytes (m .more) (areasOf m) (rangesOf m) (codesListed m) (ranges-long z)
   unfolding codeListBytes
   list-is = rw (codes-long z)
 
   -- whatever the list, what is written of it is a message
   pub written-is : isCodeList (codeListBytes m) ≡ true
-  written-is = rw list-is (bytes-list (m .more) (areasOf m) (rangesOf m) (codesOf m) (ranges-long z) (omega (arith, codes-long z)))
+  written-is = rw list-is (bytes-list (m .more) (areasOf m) (rangesOf m) (codesListed m) (ranges-long z) (omega (arith, codes-long z)))
 
 -- a list of the type, written and read, is what is kept of it
 pub list-back : {m : CodeList} → ListFits m → readCodeList (codeListBytes m) ≡ listTold (listKept m)
@@ -99,7 +99,7 @@ list-back {m = m} f =
     let z : ListSized m = record { ranges = f .ranges; codes = f .codes } in
     rw (written-is z)
     (ap listTold (ap codeListIn (list-is z)
-    ∙ bytes-read (m .more) (areasOf m) (rangesOf m) (codesOf m) (ranges-long z) (halves-take (2 * areasOf m) (m .ranges) (f .ends)) (halves-take (servicesOf m) (m .codes) (f .services))
+    ∙ bytes-read (m .more) (areasOf m) (rangesOf m) (codesListed m) (ranges-long z) (halves-take (2 * areasOf m) (m .ranges) (f .ends)) (halves-take (servicesOf m) (m .codes) (f .services))
     ∙ rw (codes-long z)))
 
 -- and that is the list itself where it has at most sixteen entries and unused ones are 0
@@ -108,7 +108,7 @@ list-whole {m = m} w =
     let a : areasOf m ≡ m .areas = omega (arith, w .few) in
     let s : servicesOf m ≡ m .services = omega (arith, w .few) in
     let r : padded 32 (rangesOf m) ≡ m .ranges = rw a (sym (w .ranges)) in
-    let c : padded 16 (codesOf m) ≡ m .codes = rw s (sym (w .codes)) in
+    let c : padded 16 (codesListed m) ≡ m .codes = rw s (sym (w .codes)) in
     λ i. record { more = m .more; areas = a i; ranges = r i; services = s i; codes = c i }
 
 -- bytes, part by part
@@ -175,10 +175,10 @@ module _ (v w : List ℕ) (p : length w ≡ length v) where
 
 module _ {m : BlockInformation} (z : InformationSized m) where
   abbrev assignedOf : List ℕ
-  assignedOf = take (nodesOf m) (m .assigned)
+  assignedOf = take (nodeCount m) (m .assigned)
 
   abbrev freeOf : List ℕ
-  freeOf = take (nodesOf m) (m .free)
+  freeOf = take (nodeCount m) (m .free)
 
   as-long : length freeOf ≡ length assignedOf
   as-long = free-long z ∙ sym (assigned-long z)
@@ -198,15 +198,15 @@ information-back {m = m} f =
     let z : InformationSized m = record { assigned = f .assigned; free = f .free } in
     rw (information-written z)
     (ap informationTold (ap informationIn (information-is z)
-    ∙ told-read (assignedOf z) (freeOf z) (as-long z) (halves-take (nodesOf m) (m .assigned) (f .counts)) (halves-take (nodesOf m) (m .free) (f .frees))
+    ∙ told-read (assignedOf z) (freeOf z) (as-long z) (halves-take (nodeCount m) (m .assigned) (f .counts)) (halves-take (nodeCount m) (m .free) (f .frees))
     ∙ rw (assigned-long z)))
 
 -- and that is the information itself where it has at most 32 nodes and unused entries are 0
 pub information-whole : {m : BlockInformation} → InformationWhole m → informationKept m ≡ m
 information-whole {m = m} w =
-    let n : nodesOf m ≡ m .count = omega (arith, w .few) in
-    let a : padded 32 (take (nodesOf m) (m .assigned)) ≡ m .assigned = rw n (sym (w .assigned)) in
-    let f : padded 32 (take (nodesOf m) (m .free)) ≡ m .free = rw n (sym (w .free)) in
+    let n : nodeCount m ≡ m .count = omega (arith, w .few) in
+    let a : padded 32 (take (nodeCount m) (m .assigned)) ≡ m .assigned = rw n (sym (w .assigned)) in
+    let f : padded 32 (take (nodeCount m) (m .free)) ≡ m .free = rw n (sym (w .free)) in
     λ i. record { count = n i; assigned = a i; free = f i }
 
 -- bytes, part by part
@@ -219,16 +219,16 @@ information-parts (x ∷ rest) n h =
 
 module _ (s : List ℕ) (e : isInformation s ≡ true) where
   abbrev asg : List ℕ
-  asg = numbersIn (nodesIn s) (drop 1 s)
+  asg = numbersIn (nodeCountIn s) (drop 1 s)
 
   abbrev fs : List ℕ
-  fs = numbersIn (nodesIn s) (drop (1 + 2 * nodesIn s) s)
+  fs = numbersIn (nodeCountIn s) (drop (1 + 2 * nodeCountIn s) s)
 
-  as-front : take (nodesIn s) (padded 32 asg) ≡ asg
-  as-front = padded-front 32 (nodesIn s) asg (length-in (nodesIn s) (drop 1 s)) (information-bytes s e .few)
+  as-front : take (nodeCountIn s) (padded 32 asg) ≡ asg
+  as-front = padded-front 32 (nodeCountIn s) asg (length-in (nodeCountIn s) (drop 1 s)) (information-bytes s e .few)
 
-  fs-front : take (nodesIn s) (padded 32 fs) ≡ fs
-  fs-front = padded-front 32 (nodesIn s) fs (length-in (nodesIn s) (drop (1 + 2 * nodesIn s) s)) (information-bytes s e .few)
+  fs-front : take (nodeCountIn s) (padded 32 fs) ≡ fs
+  fs-front = padded-front 32 (nodeCountIn s) fs (length-in (nodeCountIn s) (drop (1 + 2 * nodeCountIn s) s)) (information-bytes s e .few)
 
   -- what is read has at most 32 nodes, and unused entries are 0
   pub information-read-whole : InformationWhole (informationIn s)
@@ -239,8 +239,8 @@ module _ (s : List ℕ) (e : isInformation s ≡ true) where
   unfolding informationBytes
   information-says b =
       let l = information-bytes s e in
-      let n : nodesOf (informationIn s) ≡ nodesIn s = omega (arith, l .few) in
-      let a : numbersBytes asg ≡ take (2 * nodesIn s) (drop 1 s) = numbers-say (nodesIn s) (drop 1 s) (bytes-drop 1 s b) (simp length-drop (omega (arith, l .long))) in
-      let f : numbersBytes fs ≡ take (2 * nodesIn s) (drop (1 + 2 * nodesIn s) s) =
-      numbers-say (nodesIn s) (drop (1 + 2 * nodesIn s) s) (bytes-drop (1 + 2 * nodesIn s) s b) (simp length-drop (omega (arith, l .long))) in
-      rw (n, as-front, fs-front, a, f) (information-parts s (nodesIn s) (l .long))
+      let n : nodeCount (informationIn s) ≡ nodeCountIn s = omega (arith, l .few) in
+      let a : numbersBytes asg ≡ take (2 * nodeCountIn s) (drop 1 s) = numbers-say (nodeCountIn s) (drop 1 s) (bytes-drop 1 s b) (simp length-drop (omega (arith, l .long))) in
+      let f : numbersBytes fs ≡ take (2 * nodeCountIn s) (drop (1 + 2 * nodeCountIn s) s) =
+      numbers-say (nodeCountIn s) (drop (1 + 2 * nodeCountIn s) s) (bytes-drop (1 + 2 * nodeCountIn s) s b) (simp length-drop (omega (arith, l .long))) in
+      rw (n, as-front, fs-front, a, f) (information-parts s (nodeCountIn s) (l .long))

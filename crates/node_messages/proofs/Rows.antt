@@ -11,7 +11,7 @@ use Rattle.node_messages.specs.declared.message.Put.the-variants.{Bytes,
 use Rattle.node_messages.specs.declared.code_list.CodeList.{CodeList}
 use Rattle.node_messages.specs.declared.information.BlockInformation.{BlockInformation}
 use Rattle.node_messages.specs.Numbers.{numbersBytes, numbersIn}
-use Rattle.node_messages.specs.Message.{putOf, outputAfter}
+use Rattle.node_messages.specs.Message.{messagePut, messageAfter}
 use Rattle.node_messages.specs.CodeList.{codeListBytes, isCodeList, emptyList, listTold, listRefused, readCodeList}
 use Rattle.node_messages.specs.Information.{informationBytes, isInformation, informationTold, informationRefused, readInformation}
 
@@ -57,10 +57,10 @@ information-rows = (refl, refl, refl, refl, refl)
 
 -- An output that a message just fills, one a byte shorter; what is beyond it, and after a refusal.
 pub output-rows
-    : (putOf toldBytes 9 ≡ Bytes 9)
-    × (putOf toldBytes 8 ≡ Refused ShortOutput)
-    × (outputAfter (1 ∷ 2 ∷ []) (7 ∷ 8 ∷ []) ≡ 1 ∷ 2 ∷ [])
-    × (outputAfter (1 ∷ 2 ∷ []) (7 ∷ 8 ∷ 9 ∷ []) ≡ 1 ∷ 2 ∷ 9 ∷ [])
-    × (outputAfter (1 ∷ 2 ∷ []) (7 ∷ []) ≡ 7 ∷ [])
-unfolding putOf outputAfter put
+    : (messagePut toldBytes 9 ≡ Bytes 9)
+    × (messagePut toldBytes 8 ≡ Refused ShortOutput)
+    × (messageAfter (1 ∷ 2 ∷ []) (7 ∷ 8 ∷ []) ≡ 1 ∷ 2 ∷ [])
+    × (messageAfter (1 ∷ 2 ∷ []) (7 ∷ 8 ∷ 9 ∷ []) ≡ 1 ∷ 2 ∷ 9 ∷ [])
+    × (messageAfter (1 ∷ 2 ∷ []) (7 ∷ []) ≡ 7 ∷ [])
+unfolding messagePut messageAfter put
 output-rows = (refl, refl, refl, refl, refl)

@@ -13,7 +13,7 @@ use Rattle.node_messages.specs.declared.code_list.CodeList.{CodeList}
 use Rattle.node_messages.specs.declared.information.BlockInformation.{BlockInformation}
 use Rattle.node_messages.specs.Numbers.{numbersIn}
 use Rattle.node_messages.specs.CodeList.{areasIn, servicesIn, isCounted, isCodeList, listTold, listRefused, readCodeList}
-use Rattle.node_messages.specs.Information.{nodesIn, isInformation, informationTold, informationRefused, readInformation}
+use Rattle.node_messages.specs.Information.{nodeCountIn, isInformation, informationTold, informationRefused, readInformation}
 use Rattle.node_messages.proofs.NumberLaws.{length-in, put-padded}
 
 -- the bytes of a code list
@@ -78,14 +78,14 @@ list-read s e f a b r c =
 
 -- the bytes of block information
 pub record InformationBytes (s : List ℕ) : Type 0 where
-  pub few : nodesIn s ≤ 32
-  pub long : length s ≡ 1 + 4 * nodesIn s
+  pub few : nodeCountIn s ≤ 32
+  pub long : length s ≡ 1 + 4 * nodeCountIn s
 
 pub information-bytes : (s : List ℕ) → isInformation s ≡ true → InformationBytes s
 unfolding isInformation
 information-bytes s e =
-    let a = and-eq-true-iff (leb (nodesIn s) 32) _ .0 e in
-    record { few = leb-true (nodesIn s) 32 (a .0); long = eqb-true (length s) _ (a .1) }
+    let a = and-eq-true-iff (leb (nodeCountIn s) 32) _ .0 e in
+    record { few = leb-true (nodeCountIn s) 32 (a .0); long = eqb-true (length s) _ (a .1) }
 
 -- its parts lie in them
 pub information-fits : (s : List ℕ) {n : ℕ} → isInformation s ≡ true → n ≡ getD s 0 0 → (1 + 2 * n + 2 * n ≤ length s) × (n ≤ 32)
@@ -112,4 +112,4 @@ pub information-read : (s : List ℕ) {n : ℕ} {assigned free : List ℕ} → i
 unfolding readInformation
 information-read s e n a f =
     let l = information-bytes s e in
-    rw (e, f, a, n, put-padded 32 (nodesIn s) (numbersIn (nodesIn s) (drop 1 s)) (length-in (nodesIn s) (drop 1 s)) (l .few), put-padded 32 (nodesIn s) (numbersIn (nodesIn s) (drop (1 + 2 * nodesIn s) s)) (length-in (nodesIn s) (drop (1 + 2 * nodesIn s) s)) (l .few))
+    rw (e, f, a, n, put-padded 32 (nodeCountIn s) (numbersIn (nodeCountIn s) (drop 1 s)) (length-in (nodeCountIn s) (drop 1 s)) (l .few), put-padded 32 (nodeCountIn s) (numbersIn (nodeCountIn s) (drop (1 + 2 * nodeCountIn s) s)) (length-in (nodeCountIn s) (drop (1 + 2 * nodeCountIn s) s)) (l .few))

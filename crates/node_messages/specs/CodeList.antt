@@ -31,12 +31,12 @@ servicesOf m = min (m .services) (mostEntries - areasOf m)
 abbrev pub rangesOf : CodeList → List ℕ
 rangesOf m = take (2 * areasOf m) (m .ranges)
 
-abbrev pub codesOf : CodeList → List ℕ
-codesOf m = take (servicesOf m) (m .codes)
+abbrev pub codesListed : CodeList → List ℕ
+codesListed m = take (servicesOf m) (m .codes)
 
 -- a list as bytes
 unfoldable pub codeListBytes : CodeList → List ℕ
-codeListBytes m = flagOf (m .more) ∷ areasOf m ∷ numbersBytes (rangesOf m) ++ (servicesOf m ∷ numbersBytes (codesOf m))
+codeListBytes m = flagOf (m .more) ∷ areasOf m ∷ numbersBytes (rangesOf m) ++ (servicesOf m ∷ numbersBytes (codesListed m))
 
 -- the counts that bytes hold; where there is no such byte, 0
 abbrev pub areasIn : List ℕ → ℕ

@@ -17,27 +17,27 @@ abbrev pub mostNodes : ℕ
 mostNodes = 32
 
 -- how many nodes are written: more are cut to them
-abbrev pub nodesOf : BlockInformation → ℕ
-nodesOf m = min (m .count) mostNodes
+abbrev pub nodeCount : BlockInformation → ℕ
+nodeCount m = min (m .count) mostNodes
 
 -- block information as bytes
 unfoldable pub informationBytes : BlockInformation → List ℕ
-informationBytes m = nodesOf m ∷ numbersBytes (take (nodesOf m) (m .assigned)) ++ numbersBytes (take (nodesOf m) (m .free))
+informationBytes m = nodeCount m ∷ numbersBytes (take (nodeCount m) (m .assigned)) ++ numbersBytes (take (nodeCount m) (m .free))
 
 -- the count that bytes hold; where there is no such byte, 0
-abbrev pub nodesIn : List ℕ → ℕ
-nodesIn s = getD s 0 0
+abbrev pub nodeCountIn : List ℕ → ℕ
+nodeCountIn s = getD s 0 0
 
 -- at most 32 nodes, and exactly as many bytes as they take
 unfoldable pub isInformation : List ℕ → Bool
-isInformation s = leb (nodesIn s) mostNodes && eqb (length s) (1 + 4 * nodesIn s)
+isInformation s = leb (nodeCountIn s) mostNodes && eqb (length s) (1 + 4 * nodeCountIn s)
 
 -- what bytes read as; unused entries are 0
 abbrev pub informationIn : List ℕ → BlockInformation
 informationIn s = record {
-  count = nodesIn s;
-  assigned = padded 32 (numbersIn (nodesIn s) (drop 1 s));
-  free = padded 32 (numbersIn (nodesIn s) (drop (1 + 2 * nodesIn s) s));
+  count = nodeCountIn s;
+  assigned = padded 32 (numbersIn (nodeCountIn s) (drop 1 s));
+  free = padded 32 (numbersIn (nodeCountIn s) (drop (1 + 2 * nodeCountIn s) s));
 }
 
 -- information, or why there is none

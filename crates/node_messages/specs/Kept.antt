@@ -6,8 +6,8 @@ use lib.ListN.{length, getD, take}
 use Rattle.byte_parts.specs.Part.{padded}
 use Rattle.node_messages.specs.declared.code_list.CodeList.{CodeList}
 use Rattle.node_messages.specs.declared.information.BlockInformation.{BlockInformation}
-use Rattle.node_messages.specs.CodeList.{mostEntries, areasOf, servicesOf, rangesOf, codesOf}
-use Rattle.node_messages.specs.Information.{mostNodes, nodesOf}
+use Rattle.node_messages.specs.CodeList.{mostEntries, areasOf, servicesOf, rangesOf, codesListed}
+use Rattle.node_messages.specs.Information.{mostNodes, nodeCount}
 
 -- numbers of 16 bits, and bytes
 abbrev pub Halves : List ℕ → Type 0
@@ -18,7 +18,7 @@ Bytes s = (i : ℕ) → getD s i 0 < 2 ^ 8
 
 -- a code list cut to its sixteen entries, unused ones 0
 abbrev pub listKept : CodeList → CodeList
-listKept m = record { more = m .more; areas = areasOf m; ranges = padded 32 (rangesOf m); services = servicesOf m; codes = padded 16 (codesOf m) }
+listKept m = record { more = m .more; areas = areasOf m; ranges = padded 32 (rangesOf m); services = servicesOf m; codes = padded 16 (codesListed m) }
 
 -- the values of the type: arrays of their lengths, numbers of 16 bits
 pub record ListFits (m : CodeList) : Type 0 where
@@ -35,7 +35,7 @@ pub record ListWhole (m : CodeList) : Type 0 where
 
 -- block information cut to its 32 nodes, unused entries 0
 abbrev pub informationKept : BlockInformation → BlockInformation
-informationKept m = record { count = nodesOf m; assigned = padded 32 (take (nodesOf m) (m .assigned)); free = padded 32 (take (nodesOf m) (m .free)) }
+informationKept m = record { count = nodeCount m; assigned = padded 32 (take (nodeCount m) (m .assigned)); free = padded 32 (take (nodeCount m) (m .free)) }
 
 -- the values of the type
 pub record InformationFits (m : BlockInformation) : Type 0 where

@@ -8,7 +8,7 @@ use byte_parts::spans;
 ghost use mathlib.Core.Path.{_≡_};
 ghost use Prim.Native.Nat.{_+_, _-_, _*_, _≤_, min};
 ghost use lib.ListN.{length, getD};
-ghost use Rattle.node_messages.specs.Message.{putOf, outputAfter};
+ghost use Rattle.node_messages.specs.Message.{messagePut, messageAfter};
 ghost use Rattle.node_messages.specs.CodeList.{mostEntries, emptyList, listRefused, flagOf, codeListBytes, isCounted, isCodeList, readCodeList};
 
 // Whether more packets follow; how many areas this one has, with code and end of each; how many services, with their codes. Entries
@@ -72,8 +72,8 @@ fn services_left(services: usize, areas: usize) -> usize
 // Writes a code list: flag, area count, code and end of each, service count, codes. A list that counts more than sixteen entries is
 // cut to them. The output beyond the message stays as it was.
 pub fn put_code_list(list: CodeList, out: &mut [u8]) -> Put
-    ensures { λ r. ⌜ r ≡ putOf (codeListBytes list) (length (now (out .entry))) ⌝ }
-    ensures { λ _. ⌜ now (out .exit) ≡ outputAfter (codeListBytes list) (now (out .entry)) ⌝ }
+    ensures { λ r. ⌜ r ≡ messagePut (codeListBytes list) (length (now (out .entry))) ⌝ }
+    ensures { λ _. ⌜ now (out .exit) ≡ messageAfter (codeListBytes list) (now (out .entry)) ⌝ }
 {
     let areas = spans::least(list.areas, 16);
     let services = services_left(list.services, areas);

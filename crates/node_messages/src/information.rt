@@ -7,7 +7,7 @@ use answers::refusal::Refusal;
 use byte_parts::spans;
 ghost use mathlib.Core.Path.{_≡_};
 ghost use lib.ListN.{length};
-ghost use Rattle.node_messages.specs.Message.{putOf, outputAfter};
+ghost use Rattle.node_messages.specs.Message.{messagePut, messageAfter};
 ghost use Rattle.node_messages.specs.Information.{informationRefused, informationBytes, isInformation, readInformation};
 
 // The blocks assigned to each node and those free for it, in the order asked. Entries past their count are 0.
@@ -42,8 +42,8 @@ impl Informed {
 // Writes block information: node count, assigned counts, free counts. More than 32 nodes are cut to them. The output beyond the
 // message stays as it was.
 pub fn put_information(told: BlockInformation, out: &mut [u8]) -> Put
-    ensures { λ r. ⌜ r ≡ putOf (informationBytes told) (length (now (out .entry))) ⌝ }
-    ensures { λ _. ⌜ now (out .exit) ≡ outputAfter (informationBytes told) (now (out .entry)) ⌝ }
+    ensures { λ r. ⌜ r ≡ messagePut (informationBytes told) (length (now (out .entry))) ⌝ }
+    ensures { λ _. ⌜ now (out .exit) ≡ messageAfter (informationBytes told) (now (out .entry)) ⌝ }
 {
     let n = spans::least(told.count, 32);
     let size = 1 + 4 * n;

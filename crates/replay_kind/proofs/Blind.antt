@@ -13,7 +13,7 @@ use Rattle.line_request.proofs.Asking.{no-letter}
 use Rattle.board_line.specs.Line.{boardLine}
 use Rattle.replay_state.specs.declared.Phase.{Phase}
 use Rattle.replay_state.specs.declared.Phase.the-variants.{First, Image, Requests, Ended}
-use Rattle.replay_kind.specs.Kind.{imageKind, requestKind, kindOf}
+use Rattle.replay_kind.specs.Kind.{imageKind, requestKind, takenFor}
 
 -- The first field of the first bytes is the first bytes of the first field.
 onto-first : (x : ℕ) (fs : List (List ℕ)) → getD (onto x fs) 0 [] ≡ x ∷ getD fs 0 []
@@ -47,8 +47,8 @@ pub board-blind : (l : List ℕ) → boardLine (take 32769 l) ≡ boardLine l
 unfolding boardLine
 board-blind l = rw (first-cut 32769 l, letter-cut 76 (getD (split 9 l) 0 []))
 
-pub kind-blind : (x : Phase) (l : List ℕ) → kindOf x (take 32769 l) ≡ kindOf x l
-unfolding kindOf imageKind requestKind
+pub kind-blind : (x : Phase) (l : List ℕ) → takenFor x (take 32769 l) ≡ takenFor x l
+unfolding takenFor imageKind requestKind
 kind-blind First l = refl
 kind-blind Image l = rw (board-blind l, request-blind l)
 kind-blind Requests l = rw (board-blind l)

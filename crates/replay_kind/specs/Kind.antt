@@ -19,8 +19,8 @@ requestKind line = cond (boardLine line) kinds.Board kinds.Request
 
 -- line 1 is an image line, whatever it says; a refused image line has ended the run, and what comes after it is nothing
 -- RULES 11.5
-unfoldable pub kindOf : Phase → List ℕ → Kind
-kindOf First line = kinds.Image true
-kindOf Image line = imageKind line
-kindOf Requests line = requestKind line
-kindOf Ended line = kinds.Nothing
+unfoldable pub takenFor : Phase → List ℕ → Kind
+takenFor First line = kinds.Image true
+takenFor Image line = imageKind line
+takenFor Requests line = requestKind line
+takenFor Ended line = kinds.Nothing

@@ -1,7 +1,7 @@
 // What a line of a replay is taken for.
 use replay_state::Phase;
 ghost use mathlib.Core.Path.{_≡_};
-ghost use Rattle.replay_kind.specs.Kind.{imageKind, requestKind, kindOf};
+ghost use Rattle.replay_kind.specs.Kind.{imageKind, requestKind, takenFor};
 
 // What a line is taken for: an image line, the first or a later one; a request; a refresh of the lane board; or nothing, after the end of
 // the run.
@@ -38,7 +38,7 @@ fn request_kind(line: &[u8]) -> Kind
 
 // What a line is taken for where a replay is, by its first field.
 pub fn kind_of(phase: Phase, line: &[u8]) -> Kind
-    ensures { λ r. ⌜ r ≡ kindOf phase (now (line .entry)) ⌝ }
+    ensures { λ r. ⌜ r ≡ takenFor phase (now (line .entry)) ⌝ }
 {
     match phase {
         Phase::First => Kind::Image(true),

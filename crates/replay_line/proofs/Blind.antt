@@ -22,7 +22,7 @@ use Rattle.board_line.specs.Line.{boardCode, boardLineText}
 use Rattle.replay_state.specs.Phases.{oneMore}
 use Rattle.replay_kind.specs.declared.Kind.{Kind}
 use Rattle.replay_kind.specs.declared.Kind.the-variants as kinds
-use Rattle.replay_kind.specs.Kind.{kindOf}
+use Rattle.replay_kind.specs.Kind.{takenFor}
 use Rattle.replay_kind.proofs.Blind.{kind-blind, cut-long}
 use Rattle.replay_line.specs.Replay.{Held, heldBy, textBy, lineHeld, lineText, replayMachine}
 
@@ -80,6 +80,6 @@ text-blind kinds.Nothing s l = refl
 pub replay-blind : Blind replayMachine (take 32769)
 unfolding lineHeld lineText
 replay-blind = record {
-  line = λ s l. ap (λ (k : Kind). heldBy k s (take 32769 l)) (kind-blind (s .replay .phase) l) ∙ held-blind (kindOf (s .replay .phase) l) s l;
-  text = λ s l. ap (λ (k : Kind). textBy k s (take 32769 l)) (kind-blind (s .replay .phase) l) ∙ text-blind (kindOf (s .replay .phase) l) s l;
+  line = λ s l. ap (λ (k : Kind). heldBy k s (take 32769 l)) (kind-blind (s .replay .phase) l) ∙ held-blind (takenFor (s .replay .phase) l) s l;
+  text = λ s l. ap (λ (k : Kind). textBy k s (take 32769 l)) (kind-blind (s .replay .phase) l) ∙ text-blind (takenFor (s .replay .phase) l) s l;
 }

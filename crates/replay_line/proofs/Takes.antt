@@ -12,7 +12,7 @@ use Rattle.card_build.specs.declared.card.Added.{Added}
 use Rattle.text_stream.specs.Stream.{Written}
 use Rattle.text_stream.proofs.Prints.{written-none}
 use Rattle.line_build.specs.Image.{Imaged, imageStep}
-use Rattle.line_serve.specs.Line.{lineServed, workAfter, bytesAfter}
+use Rattle.line_serve.specs.Line.{lineServed, workAfter, spelledAfter}
 use Rattle.line_serve.specs.Text.{mostPrinted, requestText}
 use Rattle.board_line.specs.Line.{boardLineText}
 use Rattle.replay_state.specs.declared.Phase.the-variants.{Image, Requests, Ended}
@@ -20,7 +20,7 @@ use Rattle.replay_state.specs.declared.Replay.{Replay}
 use Rattle.replay_state.specs.Phases.{oneMore, refusalText}
 use Rattle.replay_kind.specs.declared.Kind.{Kind}
 use Rattle.replay_kind.specs.declared.Kind.the-variants as kinds
-use Rattle.replay_line.specs.Replay.{lentBytes, Held, held, imageHeld, imageText, requestHeld, boardHeld, heldBy, textBy, workBy, bytesBy}
+use Rattle.replay_line.specs.Replay.{lentBytes, Held, held, imageHeld, imageText, requestHeld, boardHeld, heldBy, textBy, workTaken, bytesBy}
 
 module _ (p : Replay) (t : Imaged) {added : Added} {arena : List ℕ} {n : ℕ} (e : added ≡ t .added) (a : arena ≡ t .arena) (l : n ≡ oneMore (p .lines)) where
   -- what the image line was answered
@@ -59,7 +59,7 @@ board-held p arena e = rw e
 abbrev Promised : Kind → Held → List ℕ → Held → List ℕ → List ℕ → ℕ → ℕ → List ℕ → List ℕ → List ℕ → List ℕ → Type 0
 Promised kind s line r out out′ at k work bytes work′ bytes′ =
     (r ≡ heldBy kind s line) × ((Written out at (textBy kind s line) k out′ × (k ≤ at + mostPrinted))
-    × ((work′ ≡ workBy kind s work line) × (bytes′ ≡ bytesBy kind bytes line)))
+    × ((work′ ≡ workTaken kind s work line) × (bytes′ ≡ bytesBy kind bytes line)))
 
 module _ (s : Held) (line work bytes : List ℕ) {kind : Kind} {r : Held} {out out′ : List ℕ} {at k : ℕ} where
   -- A line that is taken for an image line.
@@ -75,7 +75,7 @@ module _ (s : Held) (line work bytes : List ℕ) {kind : Kind} {r : Held} {out o
       : {work′ bytes′ : List ℕ} → kind ≡ kinds.Request
       → (r ≡ requestHeld s line)
       × ((Written out at (requestText (s .replay .card) (s .arena) lentBytes line (oneMore (s .replay .asked))) k out′ × (k ≤ at + mostPrinted))
-      × ((work′ ≡ workAfter (s .replay .card) (s .arena) work line) × (bytes′ ≡ bytesAfter bytes line)))
+      × ((work′ ≡ workAfter (s .replay .card) (s .arena) work line) × (bytes′ ≡ spelledAfter bytes line)))
       → Promised kind s line r out out′ at k work bytes work′ bytes′
   request-taken e w = rw e w
 

@@ -6,16 +6,16 @@ use Rattle.answers.specs.declared.refusal.Answer.{Answer}
 use Rattle.answers.specs.declared.refusal.Answer.the-variants as answers
 use Rattle.text_stream.specs.Stream.{Machine, saysOf}
 use Rattle.line_build.specs.Image.{Imaged, imageStep}
-use Rattle.line_serve.specs.Line.{lineServed, workAfter, bytesAfter}
+use Rattle.line_serve.specs.Line.{lineServed, workAfter, spelledAfter}
 use Rattle.line_serve.specs.Text.{requestText}
 use Rattle.board_line.specs.Line.{boardLineText}
 use Rattle.replay_state.specs.declared.Phase.{Phase}
 use Rattle.replay_state.specs.declared.Phase.the-variants.{Image, Requests, Ended}
 use Rattle.replay_state.specs.declared.Replay.{Replay}
-use Rattle.replay_state.specs.Phases.{startOf, oneMore, refusalText, finishText}
+use Rattle.replay_state.specs.Phases.{replayStart, oneMore, refusalText, finishText}
 use Rattle.replay_kind.specs.declared.Kind.{Kind}
 use Rattle.replay_kind.specs.declared.Kind.the-variants as kinds
-use Rattle.replay_kind.specs.Kind.{kindOf}
+use Rattle.replay_kind.specs.Kind.{takenFor}
 
 -- the bytes lent: an arena, and as many for the output of a read and the staging of a write
 abbrev pub lentBytes : ℕ
@@ -69,10 +69,10 @@ textBy kinds.Board s line = boardLineText (s .replay .card) (s .arena) line (one
 textBy kinds.Nothing s line = []
 
 unfoldable pub lineHeld : Held → List ℕ → Held
-lineHeld s line = heldBy (kindOf (s .replay .phase) line) s line
+lineHeld s line = heldBy (takenFor (s .replay .phase) line) s line
 
 unfoldable pub lineText : Held → List ℕ → List ℕ
-lineText s line = textBy (kindOf (s .replay .phase) line) s line
+lineText s line = textBy (takenFor (s .replay .phase) line) s line
 
 abbrev pub endText : Held → List ℕ
 endText s = finishText (s .replay .phase)
@@ -82,28 +82,28 @@ abbrev pub replayMachine : Machine Held
 replayMachine = record { line = lineHeld; text = lineText; end = endText }
 
 -- ahead of the first line the arena is zero
-abbrev pub atStart : Held
-atStart = held startOf (replicate lentBytes 0)
+abbrev pub heldAtStart : Held
+heldAtStart = held replayStart (replicate lentBytes 0)
 
 -- what is printed of a text
 unfoldable pub replayOf : List ℕ → List ℕ
-replayOf text = saysOf replayMachine atStart text
+replayOf text = saysOf replayMachine heldAtStart text
 
 -- the buffers lent to a request, after a line
-abbrev pub workBy : Kind → Held → List ℕ → List ℕ → List ℕ
-workBy (kinds.Image first) s work line = work
-workBy kinds.Request s work line = workAfter (s .replay .card) (s .arena) work line
-workBy kinds.Board s work line = work
-workBy kinds.Nothing s work line = work
+abbrev pub workTaken : Kind → Held → List ℕ → List ℕ → List ℕ
+workTaken (kinds.Image first) s work line = work
+workTaken kinds.Request s work line = workAfter (s .replay .card) (s .arena) work line
+workTaken kinds.Board s work line = work
+workTaken kinds.Nothing s work line = work
 
 abbrev pub bytesBy : Kind → List ℕ → List ℕ → List ℕ
 bytesBy (kinds.Image first) bytes line = bytes
-bytesBy kinds.Request bytes line = bytesAfter bytes line
+bytesBy kinds.Request bytes line = spelledAfter bytes line
 bytesBy kinds.Board bytes line = bytes
 bytesBy kinds.Nothing bytes line = bytes
 
 unfoldable pub workHeld : Held → List ℕ → List ℕ → List ℕ
-workHeld s work line = workBy (kindOf (s .replay .phase) line) s work line
+workHeld s work line = workTaken (takenFor (s .replay .phase) line) s work line
 
 unfoldable pub bytesHeld : Held → List ℕ → List ℕ → List ℕ
-bytesHeld s bytes line = bytesBy (kindOf (s .replay .phase) line) bytes line
+bytesHeld s bytes line = bytesBy (takenFor (s .replay .phase) line) bytes line

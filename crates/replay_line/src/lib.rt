@@ -9,11 +9,11 @@ ghost use Prim.Native.Nat.{_+_, _≤_};
 ghost use lib.ListN.{length};
 ghost use Rattle.text_stream.specs.Stream.{Written};
 ghost use Rattle.line_build.specs.Image.{imageStep};
-ghost use Rattle.line_serve.specs.Line.{workAfter, bytesAfter};
+ghost use Rattle.line_serve.specs.Line.{workAfter, spelledAfter};
 ghost use Rattle.line_serve.specs.Text.{mostSpelled, mostPrinted, requestText};
 ghost use Rattle.board_line.specs.Line.{boardLineText};
 ghost use Rattle.replay_state.specs.Phases.{oneMore};
-ghost use Rattle.replay_line.specs.Replay.{lentBytes, held, imageHeld, imageText, requestHeld, boardHeld, heldBy, textBy, workBy, bytesBy, lineHeld, lineText, workHeld, bytesHeld};
+ghost use Rattle.replay_line.specs.Replay.{lentBytes, held, imageHeld, imageText, requestHeld, boardHeld, heldBy, textBy, workTaken, bytesBy, lineHeld, lineText, workHeld, bytesHeld};
 
 // A replay after a line, and the place after what the line printed.
 pub struct Taken {
@@ -82,7 +82,7 @@ fn request_line(
     ensures { λ r. ⌜ held (r .replay) (now (arena .exit)) ≡ requestHeld (held replay (now (arena .entry))) (now (line .entry)) ⌝ }
     ensures { λ r. ⌜ Written (now (out .entry)) at (requestText (replay .card) (now (arena .entry)) lentBytes (now (line .entry)) (oneMore (replay .asked))) (r .at) (now (out .exit)) × (r .at ≤ at + mostPrinted) ⌝ }
     ensures { λ _. ⌜ now (work .exit) ≡ workAfter (replay .card) (now (arena .entry)) (now (work .entry)) (now (line .entry)) ⌝ }
-    ensures { λ _. ⌜ now (bytes .exit) ≡ bytesAfter (now (bytes .entry)) (now (line .entry)) ⌝ }
+    ensures { λ _. ⌜ now (bytes .exit) ≡ spelledAfter (now (bytes .entry)) (now (line .entry)) ⌝ }
 {
     let card = replay.card;
     let asked = one_more(replay.asked);
@@ -133,7 +133,7 @@ pub fn take(
     requires { ⌜ (length (now work) ≡ lentBytes) × (mostSpelled ≤ length (now bytes)) × (at + mostPrinted ≤ length (now out)) ⌝ }
     ensures { λ r. ⌜ held (r .replay) (now (arena .exit)) ≡ heldBy kind (held replay (now (arena .entry))) (now (line .entry)) ⌝ }
     ensures { λ r. ⌜ Written (now (out .entry)) at (textBy kind (held replay (now (arena .entry))) (now (line .entry))) (r .at) (now (out .exit)) × (r .at ≤ at + mostPrinted) ⌝ }
-    ensures { λ _. ⌜ now (work .exit) ≡ workBy kind (held replay (now (arena .entry))) (now (work .entry)) (now (line .entry)) ⌝ }
+    ensures { λ _. ⌜ now (work .exit) ≡ workTaken kind (held replay (now (arena .entry))) (now (work .entry)) (now (line .entry)) ⌝ }
     ensures { λ _. ⌜ now (bytes .exit) ≡ bytesBy kind (now (bytes .entry)) (now (line .entry)) ⌝ }
 {
     match kind {

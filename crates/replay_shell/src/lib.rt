@@ -8,9 +8,9 @@ ghost use lib.ListN.{length, take, replicate};
 ghost use Rattle.text_stream.specs.Stream.{saysOf};
 ghost use Rattle.text_pull.specs.Pull.{Answered, Next, Flushed, Ran};
 ghost use Rattle.line_serve.specs.Text.{mostSpelled, mostPrinted};
-ghost use Rattle.replay_state.specs.Phases.{startOf};
-ghost use Rattle.replay_line.specs.Replay.{lentBytes, held, replayMachine, atStart};
-ghost use Rattle.replay_shell.specs.Stop.{stops};
+ghost use Rattle.replay_state.specs.Phases.{replayStart};
+ghost use Rattle.replay_line.specs.Replay.{lentBytes, held, replayMachine, heldAtStart};
+ghost use Rattle.replay_shell.specs.Stop.{heldStops};
 
 // A replay, and where the reading is.
 struct Moved {
@@ -29,7 +29,7 @@ fn answer(
     out: &mut [u8],
 ) -> Moved
     requires { ⌜ (length (now work) ≡ lentBytes) × (mostSpelled ≤ length (now bytes)) × (flow .len ≤ length (now line)) × (flow .made + mostPrinted ≤ length (now out)) ⌝ }
-    ensures { λ r. ⌜ Answered replayMachine stops mostPrinted flow (held replay (now (arena .entry))) (now (line .entry)) (now (out .entry)) (r .flow) (held (r .replay) (now (arena .exit))) (now (out .exit)) ⌝ }
+    ensures { λ r. ⌜ Answered replayMachine heldStops mostPrinted flow (held replay (now (arena .entry))) (now (line .entry)) (now (out .entry)) (r .flow) (held (r .replay) (now (arena .exit))) (now (out .exit)) ⌝ }
 {
     if text_pull::is_line(flow) {
         let made = text_pull::made(flow);
@@ -53,7 +53,7 @@ fn answer(
 // Writes what was printed, where it is due: it is what a text of the length read prints next.
 fn flush(flow: Flow, out: &[u8]) -> Flow
     requires { ⌜ (flow .made ≤ length (now out)) × (flow .written + flow .made < 18446744073709551616) ⌝ }
-    requires { ⌜ Next (saysOf replayMachine atStart) flow (take (flow .made) (now out)) ⌝ }
+    requires { ⌜ Next (saysOf replayMachine heldAtStart) flow (take (flow .made) (now out)) ⌝ }
     ensures { λ r. ⌜ Flushed mostPrinted (length (now (out .entry))) flow r ⌝ }
 {
     text_pull::writing::flush(flow, out, MOST_PRINTED)
@@ -70,9 +70,9 @@ fn run(
     line: &mut [u8],
     out: &mut [u8],
 ) -> Flow
-    requires { ⌜ (now arena ≡ replicate lentBytes 0) × (replay ≡ startOf) ⌝ }
+    requires { ⌜ (now arena ≡ replicate lentBytes 0) × (replay ≡ replayStart) ⌝ }
     requires { ⌜ (length (now work) ≡ lentBytes) × (mostSpelled ≤ length (now bytes)) × (length (now chunk) ≡ 65536) × (length (now line) ≡ 32769) × (length (now out) ≡ 65536) ⌝ }
-    ensures { λ r. ⌜ Ran replayMachine atStart r ⌝ }
+    ensures { λ r. ⌜ Ran replayMachine heldAtStart r ⌝ }
 {
     let mut moved = Moved {
         replay,
@@ -90,7 +90,7 @@ fn run(
 fn lend(fd: i32, arena: &mut [u8], work: &mut [u8], bytes: &mut [u8]) -> Flow
     requires { ⌜ now arena ≡ replicate lentBytes 0 ⌝ }
     requires { ⌜ (length (now work) ≡ lentBytes) × (mostSpelled ≤ length (now bytes)) ⌝ }
-    ensures { λ r. ⌜ Ran replayMachine atStart r ⌝ }
+    ensures { λ r. ⌜ Ran replayMachine heldAtStart r ⌝ }
 {
     let start = replay_state::start();
     let mut chunk = [0u8; 65536];
@@ -110,7 +110,7 @@ fn lend(fd: i32, arena: &mut [u8], work: &mut [u8], bytes: &mut [u8]) -> Flow
 
 // Replays what the descriptor has, to standard output, and answers where the reading is then.
 pub fn replay(fd: i32) -> Flow
-    ensures { λ r. ⌜ Ran replayMachine atStart r ⌝ }
+    ensures { λ r. ⌜ Ran replayMachine heldAtStart r ⌝ }
 {
     let mut arena = [0u8; 65536];
     let mut work = [0u8; 65536];

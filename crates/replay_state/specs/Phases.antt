@@ -14,8 +14,8 @@ use Rattle.replay_state.specs.declared.Phase.the-variants.{First, Image,
 use Rattle.replay_state.specs.declared.Replay.{Replay}
 
 -- ahead of line 1 there is no card yet; an empty one stands in its place
-abbrev pub startOf : Replay
-startOf = record { card = newCard (systemOf 0 0 false); phase = First; lines = 0; asked = 0 }
+abbrev pub replayStart : Replay
+replayStart = record { card = newCard (systemOf 0 0 false); phase = First; lines = 0; asked = 0 }
 
 -- line numbers and ordinals count from 1, as far as 64 bits hold
 unfoldable pub oneMore : ℕ → ℕ

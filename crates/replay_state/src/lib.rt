@@ -11,7 +11,7 @@ ghost use lib.ListN.{length};
 ghost use Rattle.text_stream.specs.Stream.{Written};
 ghost use mathlib.Core.Bool.{false};
 ghost use Rattle.text_pull.specs.Pull.{isLine, Rested};
-ghost use Rattle.replay_state.specs.Phases.{startOf, refusalText, finishText, stopsIn};
+ghost use Rattle.replay_state.specs.Phases.{replayStart, refusalText, finishText, stopsIn};
 
 // Where a replay is: ahead of its first line, in the image, among the requests, or ended by a refused image line.
 pub enum Phase {
@@ -31,7 +31,7 @@ pub struct Replay {
 
 // A replay ahead of its first line.
 pub fn start() -> Replay
-    ensures { λ r. ⌜ r ≡ startOf ⌝ }
+    ensures { λ r. ⌜ r ≡ replayStart ⌝ }
 {
     Replay {
         card: Card::new(System {

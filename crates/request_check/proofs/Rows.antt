@@ -16,7 +16,7 @@ use Rattle.card_nodes.proofs.Scan.{read}
 use Rattle.card_nodes.proofs.Records.{Records, found-node}
 use Rattle.request_check.specs.declared.table.Row.{Row}
 use Rattle.request_check.specs.declared.table.Table.{Table}
-use Rattle.request_check.specs.Row.{noRow, rowBy, rowOf, rowsOf, tableOf, rowAtIndex}
+use Rattle.request_check.specs.Row.{noRow, rowBy, rowOf, rowsOf, rowTable, rowAtIndex}
 
 module _ {nodes : List Node} {count : ℕ} (r : Records nodes count) (code : ℕ) {f : Found} (told : f ≡ serviceOf (take count nodes) code) where
   -- the row of a service that is found is that record's
@@ -78,8 +78,8 @@ full f x (suc k) m (suc n) (c ∷ codes) h e =
 
 -- a table so filled
 pub table-full : (ns : List Node) (codes : List ℕ) (rows : List Row) (n i : ℕ) → n ≡ min (length codes) 16 → i ≡ n →
-    rows ≡ filled (rowOf ns) noRow 16 codes i → _≡_ {A = Table} (record { rows = rows; count = n }) (tableOf ns codes)
-unfolding tableOf
+    rows ≡ filled (rowOf ns) noRow 16 codes i → _≡_ {A = Table} (record { rows = rows; count = n }) (rowTable ns codes)
+unfolding rowTable
 table-full ns codes rows n i h k e =
     let r : rows ≡ take 16 (map (rowOf ns) codes ++ replicate 16 noRow) =
     e ∙ full (rowOf ns) noRow 16 16 i codes (omega arith) (omega arith)
@@ -87,9 +87,9 @@ table-full ns codes rows n i h k e =
     λ j. record { rows = r j; count = h j }
 
 -- of at most sixteen codes the table holds every row, and no other
-pub table-rows : {t : Table} (ns : List Node) (codes : List ℕ) → length codes ≤ 16 → t ≡ tableOf ns codes →
+pub table-rows : {t : Table} (ns : List Node) (codes : List ℕ) → length codes ≤ 16 → t ≡ rowTable ns codes →
     take (t .count) (t .rows) ≡ rowsOf ns codes
-unfolding tableOf
+unfolding rowTable
 table-rows ns codes h e =
     let long : length (rowsOf ns codes) ≡ min (length codes) 16 = simp length-map (omega arith) in
     rw e (take-take (min (length codes) 16) 16 (rowsOf ns codes ++ replicate 16 noRow) (omega arith)

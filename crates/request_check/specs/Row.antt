@@ -37,8 +37,8 @@ rowOf ns code = rowAt ns code (serviceOf ns code)
 abbrev pub rowsOf : List Node → List ℕ → List Row
 rowsOf ns codes = map (rowOf ns) codes
 
-unfoldable pub tableOf : List Node → List ℕ → Table
-tableOf ns codes = record { rows = take 16 (rowsOf ns codes ++ replicate 16 noRow); count = min (length codes) 16 }
+unfoldable pub rowTable : List Node → List ℕ → Table
+rowTable ns codes = record { rows = take 16 (rowsOf ns codes ++ replicate 16 noRow); count = min (length codes) 16 }
 
 abbrev pub rowAtIndex : List Row → ℕ → Row
 rowAtIndex rows i = getD rows i noRow

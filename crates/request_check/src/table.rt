@@ -9,7 +9,7 @@ use service_code::code::ServiceCode;
 use service_code::limit::Limit;
 ghost use mathlib.Core.Path.{_≡_};
 ghost use lib.ListN.{take};
-ghost use Rattle.request_check.specs.Row.{noRow, rowBy, rowOf, tableOf};
+ghost use Rattle.request_check.specs.Row.{noRow, rowBy, rowOf, rowTable};
 
 // What a code comes to: its attribute and, where the card has that service, its store and limit.
 pub struct Row {
@@ -93,7 +93,7 @@ pub fn row_of(nodes: [Node; 64], count: usize, code: u16) -> Row
 
 // Looks the first sixteen codes up, each once.
 pub fn table_of(nodes: [Node; 64], count: usize, codes: &[u16]) -> Table
-    ensures { λ r. ⌜ r ≡ tableOf (take count nodes) (now (codes .entry)) ⌝ }
+    ensures { λ r. ⌜ r ≡ rowTable (take count nodes) (now (codes .entry)) ⌝ }
 {
     let none = no_row();
     let mut rows = [none; 16];

@@ -6,7 +6,7 @@ use lib.ListN.{length, take}
 use Rattle.card_build.specs.declared.card.Card.{Card}
 use Rattle.card_build.specs.Card.{nodesOf}
 use Rattle.request_check.specs.declared.table.Table.{Table}
-use Rattle.request_check.specs.Row.{tableOf}
+use Rattle.request_check.specs.Row.{rowTable}
 use Rattle.request_check.proofs.Rows.{table-rows}
 use Rattle.request_check.specs.declared.check.Checked.{Checked}
 use Rattle.request_check.specs.Check.{checkedFrom}
@@ -20,7 +20,7 @@ module _ (c : Card) (a : List ℕ) (r : Request) (j : judgedOf c (length a) r �
   pub fit : Fitting c (length a) r
   fit = fits c (length a) r j
 
-  module _ {t : Table} (made : t ≡ tableOf (nodesOf c) (r .codes)) where
+  module _ {t : Table} (made : t ≡ rowTable (nodesOf c) (r .codes)) where
     -- the table's rows are the request's
     pub rows : take (t .count) (t .rows) ≡ rowsIn c r
     rows = table-rows (nodesOf c) (r .codes) (fit .codes) made

@@ -15,13 +15,13 @@ use Rattle.rule_purse.specs.declared.fields.PurseOperation.the-variants.{Direct
 use Rattle.service_code.specs.declared.limit.Limit.{Limit}
 use Rattle.answers.specs.Outcome.{Outcome, passed, failed}
 use Rattle.rule_cyclic.specs.Cyclic.{cyclicOf}
-use Rattle.rule_purse.specs.Bytes.{purseOf}
+use Rattle.rule_purse.specs.Bytes.{purseApplied}
 use Rattle.request_check.specs.declared.table.Row.{Row}
 use Rattle.request_rules.specs.Lens.{within}
 
 -- a block of a purse store
 abbrev pub purseIn : PurseOperation → Limit → ℕ → List ℕ → List ℕ → Outcome
-purseIn operation limit number block store = within (16 * number) 16 (λ b. purseOf operation limit b block) store
+purseIn operation limit number block store = within (16 * number) 16 (λ b. purseApplied operation limit b block) store
 
 -- a cashback service in mode 1 gives cashback, in mode 0 it decrements
 unfoldable pub cashbackIn : ℕ → PurseOperation

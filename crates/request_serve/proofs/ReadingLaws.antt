@@ -10,7 +10,7 @@ use Rattle.byte_parts.specs.Part.{put}
 use Rattle.card_build.specs.declared.card.Card.{Card}
 use Rattle.card_build.specs.Card.{nodesOf}
 use Rattle.request_check.specs.declared.table.Table.{Table}
-use Rattle.request_check.specs.Row.{tableOf}
+use Rattle.request_check.specs.Row.{rowTable}
 use Rattle.request_check.specs.declared.check.Checked.{Checked}
 use Rattle.request_check.specs.declared.check.Checked.the-variants.{Passed as AllPassed, Failed as FailedAt}
 use Rattle.request_check.specs.Check.{checkedFrom}
@@ -25,7 +25,7 @@ use Rattle.request_plan.proofs.Serves.{failed, passed, unread}
 use Rattle.request_plan.proofs.Fits.{fit, rows, checked}
 
 module _ (c : Card) (a out : List ℕ) («open» : Bool) (codes : List ℕ) (count : ℕ) (list : List ℕ)
-    (j : judgedOf c (length a) (readRequest «open» codes count list (length out)) ≡ Fit) {t : Table} (made : t ≡ tableOf (nodesOf c) codes)
+    (j : judgedOf c (length a) (readRequest «open» codes count list (length out)) ≡ Fit) {t : Table} (made : t ≡ rowTable (nodesOf c) codes)
     {k : Checked} (e : k ≡ checkedFrom (take (t .count) (t .rows)) false «open» 0 (elementsFrom list count 0)) where
   -- the request
   abbrev asked : Request

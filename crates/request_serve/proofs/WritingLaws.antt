@@ -22,7 +22,7 @@ use Rattle.request_check.specs.declared.table.Row.{Row}
 use Rattle.request_check.specs.declared.table.Table.{Table}
 use Rattle.request_check.specs.declared.check.Checked.{Checked}
 use Rattle.request_check.specs.declared.check.Checked.the-variants.{Passed as AllPassed, Failed as FailedAt}
-use Rattle.request_check.specs.Row.{tableOf}
+use Rattle.request_check.specs.Row.{rowTable}
 use Rattle.request_check.specs.Check.{checkedFrom}
 use Rattle.request_runs.specs.declared.run.Applied.{Applied}
 use Rattle.request_runs.specs.declared.run.Applied.the-variants.{Done as AllDone, Failed as RunFailed}
@@ -118,7 +118,7 @@ module _ (c : Card) (a : List ℕ) (r : Request) (j : judgedOf c (length a) r �
   pub stores-fit : r .write ≡ true → (16 * c .used ≤ length a) × (16 * c .used ≤ r .room)
   stores-fit w = let f = fit c a r j in (f .arena, f .staging w)
 
-  module _ {t : Table} (made : t ≡ tableOf (nodesOf c) (r .codes)) {k : Checked}
+  module _ {t : Table} (made : t ≡ rowTable (nodesOf c) (r .codes)) {k : Checked}
       (e : k ≡ checkedFrom (take (t .count) (t .rows)) (r .write) (r .«open») 0 (elementsIn r)) where
     -- an element that fails
     pub write-failed : {i : ℕ} {f : Fault} → k ≡ FailedAt i f → (Failed i f ≡ serve c a r .reply) × (a ≡ serve c a r .arena)
@@ -130,7 +130,7 @@ module _ (c : Card) (a : List ℕ) (r : Request) (j : judgedOf c (length a) r �
           (16 * c .used ≤ length a) × (16 * c .used ≤ r .room) × (16 * r .count ≤ length (r .«data»))
           × AllReady (take (t .count) (t .rows)) (16 * c .used) (elementsIn r)
           × (t .count ≤ 16) × AllIn (take (t .count) (t .rows)) (16 * c .used)
-      unfolding tableOf
+      unfolding rowTable
       write-ready h =
           let f = fit c a r j in (
             f .arena,

@@ -23,7 +23,7 @@ use Rattle.rule_purse.specs.declared.fields.PurseData.{PurseData}
 use Rattle.rule_purse.specs.declared.fields.PurseWrite.{PurseWrite}
 use Rattle.rule_purse.specs.declared.fields.PurseWrite.the-variants.{Unchanged, Whole, Stored, Failed}
 use Rattle.rule_purse.specs.Purse.{valueOf, insideOf, outsideOf, purseRule}
-use Rattle.rule_purse.specs.Bytes.{purseDataOf, blockOf, purseOf}
+use Rattle.rule_purse.specs.Bytes.{purseDataOf, blockOf, purseApplied}
 
 -- no number is below itself
 never-below : (z : ℤ) → ltZ z z ≡ false
@@ -127,32 +127,32 @@ stored-id s c p k ls lc =
 
 module _ (limit : Limit) (c : List ℕ) where
   -- equal execution ids leave the block
-  decrement-again : (t : List ℕ) → part t 12 4 ≡ part c 12 4 → purseOf Decrement limit t c ≡ passed t
-  unfolding purseOf purseRule blockOf
+  decrement-again : (t : List ℕ) → part t 12 4 ≡ part c 12 4 → purseApplied Decrement limit t c ≡ passed t
+  unfolding purseApplied purseRule blockOf
   decrement-again t e = rw (eq-eqb (purseDataOf c .id) (purseDataOf t .id) (id-same t c e))
 
-  cashback-again : (t : List ℕ) → part t 12 4 ≡ part c 12 4 → purseOf Cashback limit t c ≡ passed t
-  unfolding purseOf purseRule blockOf
+  cashback-again : (t : List ℕ) → part t 12 4 ≡ part c 12 4 → purseApplied Cashback limit t c ≡ passed t
+  unfolding purseApplied purseRule blockOf
   cashback-again t e = rw (eq-eqb (purseDataOf c .id) (purseDataOf t .id) (id-same t c e))
 
   module _ (s t : List ℕ) (ls : length s ≡ 16) (lc : length c ≡ 16) where
     -- the whole block was stored
-    whole-again : (o : PurseOperation) → purseRule o limit (purseDataOf s) (purseDataOf c) ≡ Whole → t ≡ c → purseOf o limit t c ≡ passed t
-    unfolding purseOf blockOf
+    whole-again : (o : PurseOperation) → purseRule o limit (purseDataOf s) (purseDataOf c) ≡ Whole → t ≡ c → purseApplied o limit t c ≡ passed t
+    unfolding purseApplied blockOf
     whole-again Direct h e = rw (e, direct-again limit (purseDataOf s) (purseDataOf c) h) (ap passed (whole-is c c lc lc))
     whole-again Decrement h e = decrement-again t (ap (λ (l : List ℕ). part l 12 4) e)
     whole-again Cashback h e = cashback-again t (ap (λ (l : List ℕ). part l 12 4) e)
 
     -- fields were
     fields-again : (o : PurseOperation) {p k : ℕ} → purseRule o limit (purseDataOf s) (purseDataOf c) ≡ Stored p k → part t 12 4 ≡ part c 12 4 →
-        purseOf o limit t c ≡ passed t
+        purseApplied o limit t c ≡ passed t
     fields-again Direct h e = absurd (direct-whole limit (purseDataOf s) (purseDataOf c) h)
     fields-again Decrement h e = decrement-again t e
     fields-again Cashback h e = cashback-again t e
 
     by-write : (o : PurseOperation) (w : PurseWrite) → purseRule o limit (purseDataOf s) (purseDataOf c) ≡ w → blockOf s c w ≡ passed t →
-        purseOf o limit t c ≡ passed t
-    unfolding blockOf purseOf
+        purseApplied o limit t c ≡ passed t
+    unfolding blockOf purseApplied
     by-write o Unchanged h e = let q : s ≡ t = cc in rw (← q, h)
     by-write o Whole h e =
         let q : put s 0 16 c ≡ t = cc in
@@ -163,13 +163,13 @@ module _ (limit : Limit) (c : List ℕ) where
     by-write o (Failed f) h e = absurd (let z : _≡_ {A = ℕ} 0 1 = cc in (omega arith))
 
     -- a purse write that passed, on the block that it left: it passes, and leaves that block
-    pub purse-again : (o : PurseOperation) → purseOf o limit s c ≡ passed t → purseOf o limit t c ≡ passed t
-    unfolding purseOf
+    pub purse-again : (o : PurseOperation) → purseApplied o limit s c ≡ passed t → purseApplied o limit t c ≡ passed t
+    unfolding purseApplied
     purse-again o e = by-write o (purseRule o limit (purseDataOf s) (purseDataOf c)) refl e
 
     -- and it is as long as it was
-    pub purse-long : (o : PurseOperation) → purseOf o limit s c ≡ passed t → length t ≡ 16
-    unfolding purseOf blockOf
+    pub purse-long : (o : PurseOperation) → purseApplied o limit s c ≡ passed t → length t ≡ 16
+    unfolding purseApplied blockOf
     purse-long o e = by-block (purseRule o limit (purseDataOf s) (purseDataOf c)) e
       where
         by-block : (w : PurseWrite) → blockOf s c w ≡ passed t → length t ≡ 16

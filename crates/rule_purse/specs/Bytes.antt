@@ -24,5 +24,5 @@ blockOf s c Whole = passed (put s 0 blockSize c)
 blockOf s c (Stored p k) = passed (put (put (put s 0 4 (wordBytes p)) 4 4 (wordBytes k)) 12 4 (drop 12 c))
 blockOf s c (Failed f) = failed f
 
-unfoldable pub purseOf : PurseOperation → Limit → List ℕ → List ℕ → Outcome
-purseOf operation limit s c = blockOf s c (purseRule operation limit (purseDataOf s) (purseDataOf c))
+unfoldable pub purseApplied : PurseOperation → Limit → List ℕ → List ℕ → Outcome
+purseApplied operation limit s c = blockOf s c (purseRule operation limit (purseDataOf s) (purseDataOf c))

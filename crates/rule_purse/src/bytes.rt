@@ -14,7 +14,7 @@ ghost use lib.ListN.{length, drop};
 ghost use Rattle.byte_parts.specs.Part.{put};
 ghost use Rattle.byte_parts.specs.Sizes.{blockSize};
 ghost use Rattle.answers.specs.Outcome.{writtenOf, bytesAfter};
-ghost use Rattle.rule_purse.specs.Bytes.{purseDataOf, purseOf};
+ghost use Rattle.rule_purse.specs.Bytes.{purseDataOf, purseApplied};
 
 // Reads the fields of a block.
 fn purse_data(block: &[u8]) -> PurseData
@@ -52,8 +52,8 @@ pub fn apply_purse_write(
     limit: Limit,
 ) -> Written
     requires { ⌜ (blockSize ≤ length (now block)) × (blockSize ≤ length (now command)) ⌝ }
-    ensures { λ r. ⌜ r ≡ writtenOf (purseOf operation limit (now (block .entry)) (now (command .entry))) ⌝ }
-    ensures { λ r. ⌜ now (block .exit) ≡ bytesAfter (now (block .entry)) (purseOf operation limit (now (block .entry)) (now (command .entry))) ⌝ }
+    ensures { λ r. ⌜ r ≡ writtenOf (purseApplied operation limit (now (block .entry)) (now (command .entry))) ⌝ }
+    ensures { λ r. ⌜ now (block .exit) ≡ bytesAfter (now (block .entry)) (purseApplied operation limit (now (block .entry)) (now (command .entry))) ⌝ }
 {
     let stored = purse_data(block);
     let asked = purse_data(command);

@@ -5,7 +5,7 @@ use mathlib.Core.Path.{_≡_, refl}
 use mathlib.Core.List.{List, []}
 use Rattle.byte_parts.specs.Part.{sameBytes}
 use Rattle.text_fields.specs.Field.{split}
-use Rattle.text_numbers.specs.Digit.{among, digitOf, digits, spelt}
+use Rattle.text_numbers.specs.Digit.{isBetween, digitOf, digits, spelt}
 use Rattle.text_numbers.specs.Hex.{grouped, hexField}
 use Rattle.text_numbers.specs.Codes.{hex16}
 use Rattle.text_stream.specs.Stream.{linesOf}
@@ -23,7 +23,7 @@ unfolding Plain
 added-plain = ((λ e. omega arith), ((λ e. omega arith), ((λ e. omega arith), ((λ e. omega arith), ((λ e. omega arith), ((λ e. omega arith), ((λ e. omega arith), ((λ e. omega arith), ((λ e. omega arith), ((λ e. omega arith), ((λ e. omega arith), ((λ e. omega arith), ((λ e. omega arith), ((λ e. omega arith), tt))))))))))))))
 
 pub added-begins : imageBuilder .first addedLine ≡ admits noImage
-unfolding lineRuled imageStep among digitOf digits spelt grouped hexField hex16 split sameBytes named form joins cardLine firstLine imageLine
+unfolding lineRuled imageStep isBetween digitOf digits spelt grouped hexField hex16 split sameBytes named form joins cardLine firstLine imageLine
 added-begins = refl
 
 -- E1, E3, E4 for card images, with the card's own builder; E2 and E5 need no premise and are cited as they stand.

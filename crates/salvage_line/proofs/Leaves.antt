@@ -25,13 +25,13 @@ use Rattle.card_admit.specs.Admit.{areaJudged, placedOf, agreed}
 use Rattle.card_build.specs.declared.card.Card.{Card}
 use Rattle.card_build.specs.declared.card.Added.{Added}
 use Rattle.card_build.specs.Card.{nodesOf, isSound, accepted, refused}
-use Rattle.card_build.specs.Grow.{nodeAs, areaBy, addArea, serviceBy, addService, lastOf, limitBy, setLimit}
+use Rattle.card_build.specs.Grow.{nodeAs, areaBy, addArea, serviceBy, addService, lastNode, limitBy, setLimit}
 use Rattle.card_build.specs.Build.{areaAdded, serviceAdded, arenaAdded, limitAdded}
 use Rattle.request_block.specs.Block.{blockJudged, setBy, arenaSet}
 use Rattle.line_image.specs.declared.line.Line.{Line}
 use Rattle.line_image.specs.declared.line.Line.the-variants.{Malformed, Card as New, Area, Service, Limit as Bounds, Block}
 use Rattle.line_image.specs.Line.{imageLine}
-use Rattle.line_build.specs.Image.{Imaged, carried, imageStep}
+use Rattle.line_build.specs.Image.{Imaged, lineCarried, imageStep}
 use Rattle.salvage_rule.specs.Salvage.{fateBy, builtBy}
 use Rattle.salvage_line.specs.Image.{Image, imaged, rulingBy, lineRuled, fateOn}
 
@@ -88,7 +88,7 @@ limit-leaves : (c : Card) (u l : ℤ) (g : ℕ) → Leaves c (limitAdded c u l g
 unfolding limitAdded setLimit
 limit-leaves c u l g =
     leaves-cond c (not (isSound c)) (refused c NotBuilt) (setLimit c u l g) (leaves-refused c NotBuilt)
-    (leaves-limit c (Limited u l g) (lastOf c .entry))
+    (leaves-limit c (Limited u l g) (lastNode c .entry))
 
 -- no block is newly in use, so no byte is zeroed
 put-none : (a : List ℕ) (at n : ℕ) (t : List ℕ) → n ≡ 0 → put a at n t ≡ a
@@ -109,7 +109,7 @@ set-leaves c a code number block (Refused s) r e = refl
 abbrev pub LeavesBoth : Card → List ℕ → Imaged → Type 0
 LeavesBoth c a m = (r : Refusal) → m .added .answer ≡ Refused r → (m .added .card ≡ c) × (m .arena ≡ a)
 
-carried-leaves : (c : Card) (a : List ℕ) (fs : List (List ℕ)) (l : Line) → LeavesBoth c a (carried c a fs l)
+carried-leaves : (c : Card) (a : List ℕ) (fs : List (List ℕ)) (l : Line) → LeavesBoth c a (lineCarried c a fs l)
 unfolding arenaSet
 carried-leaves c a fs Malformed r e = (refl, refl)
 carried-leaves c a fs (New system) r e = absurd (done-no e)

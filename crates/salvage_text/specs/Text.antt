@@ -25,12 +25,12 @@ abbrev pub extentOf : ℕ → ℕ → List ℕ → Extent
 extentOf r1 r2 t = extentBy r1 r2 (length (salvagedText t)) (length (reportedText t))
 
 -- what a caller is told: both lengths, or 48
-abbrev pub answerOf : Extent → Salvaged
-answerOf Short = Refused OutputTooShort
-answerOf (Fits a b) = Done a b
+abbrev pub salvageAnswer : Extent → Salvaged
+salvageAnswer Short = Refused OutputTooShort
+salvageAnswer (Fits a b) = Done a b
 
 abbrev pub salvagedBy : ℕ → ℕ → List ℕ → Salvaged
-salvagedBy r1 r2 t = answerOf (extentOf r1 r2 t)
+salvagedBy r1 r2 t = salvageAnswer (extentOf r1 r2 t)
 
 -- a lent buffer after it: as it was where there is no room for both; else with all of its text in front
 abbrev pub landedBy : Extent → List ℕ → List ℕ → List ℕ

@@ -14,7 +14,7 @@ ghost use lib.ListN.{length};
 ghost use Rattle.salvage_rule.specs.Salvage.{fresh};
 ghost use Rattle.salvage_line.specs.Image.{imaged};
 ghost use Rattle.salvage_walk.specs.Walk.{imageAt, reportAt, extentBy, WroteIf};
-ghost use Rattle.salvage_text.specs.Text.{salvagedText, reportedText, salvagedBy, answerOf, landedBy, imageAfter, reportAfter};
+ghost use Rattle.salvage_text.specs.Text.{salvagedText, reportedText, salvagedBy, salvageAnswer, landedBy, imageAfter, reportAfter};
 
 // The lengths of an image and of its report, or why there is none.
 pub enum Salvaged {
@@ -115,7 +115,7 @@ fn arena_of() -> [u8; 65536]
 
 // What a caller is told of the room that there was.
 fn answer_of(extent: Extent) -> Salvaged
-    ensures { λ r. ⌜ r ≡ answerOf extent ⌝ }
+    ensures { λ r. ⌜ r ≡ salvageAnswer extent ⌝ }
 {
     match extent {
         Extent::Short => Salvaged::Refused(Refusal::OutputTooShort),

@@ -2,7 +2,7 @@
 use mathlib.Core.Path.{_≡_, refl}
 use mathlib.Core.List.{[], _∷_}
 use lib.IntN.{pos, negsuc}
-use Rattle.text_numbers.specs.Digit.{among, digitOf, digits, spelt}
+use Rattle.text_numbers.specs.Digit.{isBetween, digitOf, digits, spelt}
 use Rattle.text_numbers.specs.Decimal.{plain, upTo, decimal, positive, negative, signed, digitsOf, decText}
 use Rattle.text_numbers.specs.declared.decimals.Number.the-variants as numbers
 use Rattle.text_numbers.specs.declared.decimals.Signed.the-variants as signs
@@ -20,7 +20,7 @@ pub decimal-rows
     × (decimal 4294967295 (52 ∷ 50 ∷ 57 ∷ 52 ∷ 57 ∷ 54 ∷ 55 ∷ 50 ∷ 57 ∷ 54 ∷ []) ≡ numbers.Bad)
     × (decimal 255 (50 ∷ 53 ∷ 53 ∷ []) ≡ numbers.Is 255)
     × (decimal 255 (50 ∷ 53 ∷ 54 ∷ []) ≡ numbers.Bad)
-unfolding among digitOf digits spelt plain upTo decimal
+unfolding isBetween digitOf digits spelt plain upTo decimal
 decimal-rows = (refl, refl, refl, refl, refl, refl, refl, refl, refl, refl, refl)
 
 -- `0`, `-0`, `-`, `-1`, `-01`, then the ends of 32 bits and one past each.
@@ -34,7 +34,7 @@ pub signed-rows
     × (signed (50 ∷ 49 ∷ 52 ∷ 55 ∷ 52 ∷ 56 ∷ 51 ∷ 54 ∷ 52 ∷ 56 ∷ []) ≡ signs.Bad)
     × (signed (45 ∷ 50 ∷ 49 ∷ 52 ∷ 55 ∷ 52 ∷ 56 ∷ 51 ∷ 54 ∷ 52 ∷ 56 ∷ []) ≡ signs.Is (negsuc 2147483647))
     × (signed (45 ∷ 50 ∷ 49 ∷ 52 ∷ 55 ∷ 52 ∷ 56 ∷ 51 ∷ 54 ∷ 52 ∷ 57 ∷ []) ≡ signs.Bad)
-unfolding among digitOf digits spelt plain upTo decimal positive negative signed
+unfolding isBetween digitOf digits spelt plain upTo decimal positive negative signed
 signed-rows = (refl, refl, refl, refl, refl, refl, refl, refl, refl)
 
 -- 0, 255 and the largest number of 64 bits.

@@ -8,7 +8,7 @@ use mathlib.Core.List.{List, [], _∷_, _++_}
 use lib.Dec.{ltb, leb}
 use lib.ListN.{length, getD, drop, drop-of-length-le}
 use borrow.Author.Tests.{ltb-true, lt-ltb, le-ltb, le-leb, lt-leb}
-use Rattle.text_numbers.specs.Digit.{among, digitOf, digits, spelt}
+use Rattle.text_numbers.specs.Digit.{isBetween, digitOf, digits, spelt}
 use Rattle.byte_parts.proofs.Part.{here}
 
 -- A test that ends in false.
@@ -17,19 +17,19 @@ and-false true = refl
 and-false false = refl
 
 module _ (low high x : ℕ) where
-  -- A number from low to high is among them.
-  pub amid : low ≤ x → x ≤ high → among low high x ≡ true
-  unfolding among
+  -- A number from low to high is isBetween them.
+  pub amid : low ≤ x → x ≤ high → isBetween low high x ≡ true
+  unfolding isBetween
   amid h k = rw (le-leb low x h, le-leb x high k)
 
   -- One below low is not.
-  pub under : x < low → among low high x ≡ false
-  unfolding among
+  pub under : x < low → isBetween low high x ≡ false
+  unfolding isBetween
   under h = rw (lt-leb low x h)
 
   -- Nor is one above high.
-  pub past : high < x → among low high x ≡ false
-  unfolding among
+  pub past : high < x → isBetween low high x ≡ false
+  unfolding isBetween
   past h = rw (lt-leb x high h) (and-false (leb low x))
 
 -- What a hex digit stands for, by its bits.

@@ -5,7 +5,7 @@ use mathlib.Core.List.{List, [], _∷_, _++_}
 use lib.Dec.{ltb, leb, eqb}
 use lib.IntN.{pos, negsuc}
 use lib.ListN.{length, getD, drop}
-use Rattle.text_numbers.specs.Digit.{among, digits, spelt}
+use Rattle.text_numbers.specs.Digit.{isBetween, digits, spelt}
 use Rattle.text_numbers.specs.declared.decimals.Number.{Number}
 use Rattle.text_numbers.specs.declared.decimals.Number.the-variants.{Is, Bad}
 use Rattle.text_numbers.specs.declared.decimals.Signed.{Signed}
@@ -32,7 +32,7 @@ positive Bad = signs.Bad
 
 -- a decimal after a sign: below 0, and no lower than 32 bits hold
 unfoldable pub negative : Number → Signed
-negative (Is n) = cond (among 1 2147483648 n) (signs.Is (negsuc (n - 1))) signs.Bad
+negative (Is n) = cond (isBetween 1 2147483648 n) (signs.Is (negsuc (n - 1))) signs.Bad
 negative Bad = signs.Bad
 
 -- a decimal of 32 bits with a sign: only a negative one has a sign (45)

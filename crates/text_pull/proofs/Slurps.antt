@@ -7,7 +7,7 @@ use mathlib.Core.Bool.{true, false}
 use lib.IntN.{ℤ}
 use borrow.Author.Tests.{eq-eqb, ne-eqb, lt-ltb, le-ltb, ltb-true}
 use Rattle.text_pull.specs.declared.Flow.{Flow}
-use Rattle.text_pull.specs.Pull.{startOf, moreOf, More, lacksOf, settledOf, Slurped}
+use Rattle.text_pull.specs.Pull.{flowStart, moreOf, More, lacksOf, settledOf, Slurped}
 use Rattle.text_pull.proofs.Stages.{never, read-none, stage-most, read-room}
 
 -- bytes held of a text
@@ -20,7 +20,7 @@ pub record Slurping (room : ℕ) (f : Flow) : Type 0 where
   pub made : f .made ≡ 0
   pub written : f .written ≡ 0
 
-pub slurp-start : (room : ℕ) → Slurping room startOf
+pub slurp-start : (room : ℕ) → Slurping room flowStart
 slurp-start room = record {
   filled = omega arith;
   stage = omega arith;

@@ -15,8 +15,8 @@ use Rattle.text_pull.specs.declared.Flow.{Flow}
 use Rattle.text_pull.specs.declared.Fault.{Fault}
 use Rattle.text_pull.specs.declared.Fault.the-variants.{Nothing, Unread, Unwritten, Untaken, Unended}
 
-abbrev pub startOf : Flow
-startOf = record { turns = 140737488355328; len = 0; filled = 0; at = 0; whole = 0; made = 0; stage = 0; read = 0; written = 0 }
+abbrev pub flowStart : Flow
+flowStart = record { turns = 140737488355328; len = 0; filled = 0; at = 0; whole = 0; made = 0; stage = 0; read = 0; written = 0 }
 
 -- the error that says that a signal interrupted the call
 unfoldable pub isInterrupt : ℤ → Bool
@@ -69,11 +69,11 @@ pub record Refilled (f : Flow) (chunk : List ℕ) (g : Flow) (chunk′ : List �
   pub written : g .written ≡ f .written
 
 -- whether a program goes on: turns are left, and neither all is printed nor something failed
-abbrev pub isOpen : ℕ → Bool
-isOpen stage = ltb stage 2
+abbrev pub stageOpen : ℕ → Bool
+stageOpen stage = ltb stage 2
 
 unfoldable pub goesOn : Flow → Bool
-goesOn f = cond (ltb 0 (f .turns)) (isOpen (f .stage)) false
+goesOn f = cond (ltb 0 (f .turns)) (stageOpen (f .stage)) false
 
 -- a line is whole where a LF ended it, or the text did and it has bytes
 unfoldable pub atEnd : ℕ → ℕ → ℕ

@@ -7,7 +7,7 @@ ghost use mathlib.Core.Path.{_≡_};
 ghost use mathlib.Core.Bool.{true, false};
 ghost use Prim.Native.Nat.{_+_, _≤_, _<_};
 ghost use lib.ListN.{length};
-ghost use Rattle.text_pull.specs.Pull.{startOf, isInterrupt, errorStage, cameStage, stageOf, readOf, Refilled, isOpen, goesOn, atEnd, lastOf, fedOf, isLine, isEnd, Pulled, tookOf, closedOf, writeFault, faultOf};
+ghost use Rattle.text_pull.specs.Pull.{flowStart, isInterrupt, errorStage, cameStage, stageOf, readOf, Refilled, stageOpen, goesOn, atEnd, lastOf, fedOf, isLine, isEnd, Pulled, tookOf, closedOf, writeFault, faultOf};
 
 // Stages: bytes may come, the text has ended, a read failed, a write failed, all is printed, a write took nothing, the buffer for a whole text
 // is full.
@@ -43,7 +43,7 @@ pub struct Flow {
 
 // A program that has read nothing. Nothing says that a text ends, so the turns are counted down from a number that no run uses up.
 pub fn start() -> Flow
-    ensures { λ r. ⌜ r ≡ startOf ⌝ }
+    ensures { λ r. ⌜ r ≡ flowStart ⌝ }
 {
     Flow {
         turns: 140737488355328,
@@ -142,7 +142,7 @@ fn refill(fd: i32, flow: Flow, chunk: &mut [u8]) -> Flow
 
 // Whether a stage is open: neither is all printed, nor has something failed.
 fn is_open(stage: u64) -> bool
-    ensures { λ r. ⌜ r ≡ isOpen stage ⌝ }
+    ensures { λ r. ⌜ r ≡ stageOpen stage ⌝ }
 {
     stage < UNREAD
 }

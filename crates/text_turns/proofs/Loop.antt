@@ -11,7 +11,7 @@ use borrow.Author.Tests.{lt-ltb, le-ltb}
 use Rattle.text_stream.specs.Stream.{Machine, between, fed, said, ended, saysOf, Blind}
 use Rattle.text_stream.proofs.Whole.{keeps-first, fed-append, said-append, whole}
 use Rattle.text_pull.specs.declared.Flow.{Flow}
-use Rattle.text_pull.specs.Pull.{startOf, dueOf, wroteOf, Flushed, Next, Ran}
+use Rattle.text_pull.specs.Pull.{flowStart, dueOf, wroteOf, Flushed, Next, Ran}
 use Rattle.text_turns.proofs.Uncut.{said-uncut}
 use Rattle.text_turns.specs.Turn.{Spoken, After, Roomy}
 use Rattle.text_turns.proofs.Turns.{two, speak-on}
@@ -137,5 +137,5 @@ module _ {S : Type 0} (M : Machine S) (cap : ℕ) (s₀ : S) (some : 1 ≤ cap) 
     }
 
 -- A program that has done nothing does not keep its contract.
-pub idle-refused : {S : Type 0} (M : Machine S) (s₀ : S) → Ran M s₀ startOf → ⊥
+pub idle-refused : {S : Type 0} (M : Machine S) (s₀ : S) → Ran M s₀ flowStart → ⊥
 idle-refused M s₀ r = omega (arith, r .turns (omega arith))

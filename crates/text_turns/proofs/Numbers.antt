@@ -10,7 +10,7 @@ use lib.ListN.{length}
 use borrow.Author.Tests.{lt-ltb, le-ltb, ltb-true, ltb-false}
 use Rattle.text_stream.specs.Stream.{Machine}
 use Rattle.text_pull.specs.declared.Flow.{Flow}
-use Rattle.text_pull.specs.Pull.{startOf, Pulled, goesOn, tookOf, closedOf, dueOf, wroteOf, Wrote, Flushed, Answered}
+use Rattle.text_pull.specs.Pull.{flowStart, Pulled, goesOn, tookOf, closedOf, dueOf, wroteOf, Wrote, Flushed, Answered}
 use Rattle.text_pull.proofs.Stages.{never}
 use Rattle.text_turns.specs.Turn.{Roomy}
 use Rattle.text_turns.proofs.Turns.{zero-of}
@@ -29,7 +29,7 @@ pub record Made (chunk cap room : ℕ) (f : Flow) : Type 0 where
   pub written : f .written + f .made + f .turns * 65536 ≤ 9223372036854775808
 
 -- They are so at the start.
-pub roomy-start : (chunk cap room most : ℕ) → most ≤ room → Roomy chunk cap room most startOf
+pub roomy-start : (chunk cap room most : ℕ) → most ≤ room → Roomy chunk cap room most flowStart
 roomy-start chunk cap room most h = record {
   stage = omega arith;
   over = λ e. absurd (omega arith);

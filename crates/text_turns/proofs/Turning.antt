@@ -7,7 +7,7 @@ use mathlib.Core.List.{List}
 use lib.ListN.{length, take}
 use Rattle.text_stream.specs.Stream.{Machine, saysOf, Blind, Dead}
 use Rattle.text_pull.specs.declared.Flow.{Flow}
-use Rattle.text_pull.specs.Pull.{startOf, Pulled, goesOn, Flushed, Answered, Next, Ran}
+use Rattle.text_pull.specs.Pull.{flowStart, Pulled, goesOn, Flushed, Answered, Next, Ran}
 use Rattle.text_turns.specs.Turn.{After, Turning, Turned}
 use Rattle.text_turns.proofs.Turns.{started, turned}
 use Rattle.text_turns.proofs.Numbers.{Made, roomy-start, made-again, roomy-again, used-up, going-on, turn-less}
@@ -17,7 +17,7 @@ module _ {S : Type 0} (M : Machine S) (cap : ℕ) (s₀ : S) (most : ℕ) where
   -- Ahead of the first.
   pub begun
       : (line chunk out : List ℕ) → length line ≡ cap → length chunk ≡ 65536 → length out ≡ 65536 → most ≤ 65536
-      → Turning M cap s₀ most startOf s₀ line chunk out
+      → Turning M cap s₀ most flowStart s₀ line chunk out
   begun line chunk out l c o m = record {
     after = started M cap s₀ line chunk out;
     roomy = roomy-start (length chunk) (length line) (length out) most (omega arith);

@@ -15,7 +15,7 @@ use Rattle.text_stream.proofs.Prints.{ended-none, ended-some}
 use Rattle.text_stream.proofs.Histories.{history-dead}
 use Rattle.text_pull.specs.declared.Flow.{Flow}
 use Rattle.text_stream.proofs.Steps.{fed-plain, said-plain}
-use Rattle.text_pull.specs.Pull.{startOf, restOf, Pulled, tookOf, closedOf, Answered}
+use Rattle.text_pull.specs.Pull.{flowStart, restOf, Pulled, tookOf, closedOf, Answered}
 use Rattle.text_turns.specs.Turn.{Spoken, Flowing, Closing, Done, After}
 
 -- Small numbers.
@@ -74,7 +74,7 @@ module _ {S : Type 0} (M : Machine S) (cap : ℕ) (s₀ : S) where
 
 module _ {S : Type 0} (M : Machine S) (cap : ℕ) (s₀ : S) where
   -- A program starts.
-  pub started : (line chunk out : List ℕ) → After M cap s₀ startOf s₀ line chunk out
+  pub started : (line chunk out : List ℕ) → After M cap s₀ flowStart s₀ line chunk out
   unfolding fed said
   started line chunk out = record {
     going = λ e. record { past = []; machine = refl; spoken = record { read = refl; count = refl; words = refl } };

@@ -7,7 +7,7 @@ use Prim.Native.Nat.{ℕ}
 use lib.ListN.{length, take, length-map}
 use denote.Ref.{now}
 use Rattle.request_plan.specs.declared.Reply.the-variants as replies
-use Rattle.board_lanes.specs.Board.{judgedOf}
+use Rattle.board_lanes.specs.Board.{boardJudged}
 use Rattle.board_read.specs.Refresh.{boardServed, refreshedBy, blocksAfter}
 use Rattle.board_read.proofs.Refreshing.{by-refusal, by-short, by-fault, by-blocks, read-room, blocks-front}
 use Rattle.board_read.proofs.refresh.Statement.{statement}
@@ -49,7 +49,7 @@ returns-2 c =
     let s = start k in
     let a = s .args in
     let front = ap (take 128) (after k) ∙ blocks-front (a .card) (now (a .arena)) (a .code) (now (a .bytes)) (records s) (was-done d) in
-    (c .made .ensures ∙ ap (λ (x : List ℕ). refreshedBy (judgedOf x)) front ∙ sym (by-blocks (a .card) (now (a .arena)) (a .code) (length (now (a .bytes))) (was-done d)), after k)
+    (c .made .ensures ∙ ap (λ (x : List ℕ). refreshedBy (boardJudged x)) front ∙ sym (by-blocks (a .card) (now (a .arena)) (a .code) (length (now (a .bytes))) (was-done d)), after k)
 
 returns-3 : tie.Need-returns-3
 returns-3 c =

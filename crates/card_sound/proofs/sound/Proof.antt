@@ -13,7 +13,7 @@ use Rattle.card_nodes.specs.Find.{sharedOf}
 use Rattle.card_nodes.proofs.Scan.{done}
 use Rattle.card_admit.specs.Admit.{firstIn}
 use Rattle.card_sound.specs.Sound.{stepOf, stepsFrom, stepsOf, endsAt, soundOf}
-use Rattle.card_sound.specs.Walk.{starting, isOpen}
+use Rattle.card_sound.specs.Walk.{starting, depthOpen}
 use Rattle.card_sound.proofs.Laws.{same-read}
 use Rattle.card_sound.proofs.Kept.{Within, open-within}
 use Rattle.card_sound.proofs.Turns.{stops}
@@ -73,7 +73,7 @@ node c =
 
 -- it may come there
 opened : (c : tie.Else3 Inv-loop μ-loop) →
-    isOpen (node (c .before .before .before .before) .depth) (c .before .before .before .before .before .loop .deepest) ≡ true
+    depthOpen (node (c .before .before .before .before) .depth) (c .before .before .before .before .before .loop .deepest) ≡ true
 opened c = sym (c .before .is-open .ensures) ∙ not-false _ (c .if3 .left)
 
 within : (c : tie.Else3 Inv-loop μ-loop) →

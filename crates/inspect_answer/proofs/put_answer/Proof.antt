@@ -8,7 +8,7 @@ use lib.ListN.{take}
 use denote.Ref.{now}
 use Rattle.text_stream.proofs.Prints.{written-more}
 use Rattle.text_print.specs.Print.{closed}
-use Rattle.inspect_answer.specs.Answer.{nameOf, answerText}
+use Rattle.inspect_answer.specs.Answer.{nameOf, toldText}
 use Rattle.inspect_answer.proofs.Fronts.{first-lent}
 use Rattle.inspect_answer.proofs.Names.{asked-name, name-long}
 use Rattle.inspect_answer.proofs.put_answer.Statement.{statement}
@@ -21,7 +21,7 @@ put-name-requires c κs =
     (rw e (name-long (s .args .asked)), omega (arith, s .pre .1))
 
 returns : tie.Need-returns
-unfolding answerText
+unfolding toldText
 returns c =
     let p = c .before .before in
     let l2 = p .before .before .before in

@@ -8,7 +8,7 @@ use Rattle.text_fields.specs.Field.{split}
 use Rattle.text_numbers.specs.declared.codes.Code.{Code}
 use Rattle.text_numbers.specs.declared.decimals.Number.{Number}
 use Rattle.line_fields.specs.Fields.{codeAt, numberAt}
-use Rattle.inspect_ask.specs.Question.{blockLine}
+use Rattle.inspect_ask.specs.Question.{blockQuestion}
 use Rattle.inspect_ask.proofs.block_line.Statement.{statement}
 use Rattle.inspect_ask.proofs.block_line.Tie as tie
 
@@ -24,18 +24,18 @@ number : (c : tie.After-number-at) {r : Number} → c .number-at .result ≡ r �
 number c e = sym (c .number-at .ensures) ∙ e
 
 returns : tie.Need-returns
-unfolding blockLine
+unfolding blockQuestion
 returns c = rw (code (c .before .before) (c .enum-told .given .1))
 
 returns-2 : tie.Need-returns-2
-unfolding blockLine
+unfolding blockQuestion
 returns-2 c =
     let second = c .before .before in
     let first = second .before .before .before .before in
     rw (code first (second .before .before .code .given .1), number second (c .enum-told2 .given .1))
 
 returns-3 : tie.Need-returns-3
-unfolding blockLine
+unfolding blockQuestion
 returns-3 c =
     let second = c .before .before .before in
     let first = second .before .before .before .before in

@@ -7,7 +7,7 @@ use Rattle.text_turns.proofs.Answers.{answer-line, answer-rest, rest-none}
 use Rattle.line_serve.specs.Text.{mostPrinted}
 use Rattle.replay_state.specs.Phases.{finishText}
 use Rattle.inspect_line.specs.Inspect.{inspectMachine}
-use Rattle.inspect_shell.specs.Stop.{stops}
+use Rattle.inspect_shell.specs.Stop.{seenStops}
 use Rattle.inspect_shell.proofs.answer.Statement.{statement}
 use Rattle.inspect_shell.proofs.answer.Tie as tie
 
@@ -24,7 +24,7 @@ returns c =
     let t = m .before in
     let z : k .kept .result - 0 ≡ k .kept .result = omega arith in
     let o = rw (k .kept .ensures, m .made .ensures) at (rw z at (l .line .ensures)) in
-    answer-line inspectMachine stops mostPrinted (sym (t .before .is-line .ensures) ∙ t .if1 .taken) (o .0) (o .1 .0 .0) (o .1 .0 .1) (c .before .stops-in .ensures) (c .took .ensures)
+    answer-line inspectMachine seenStops mostPrinted (sym (t .before .is-line .ensures) ∙ t .if1 .taken) (o .0) (o .1 .0 .0) (o .1 .0 .1) (c .before .stops-in .ensures) (c .took .ensures)
 
 close-requires : tie.Need-close-requires
 close-requires c κs =
@@ -35,12 +35,12 @@ returns-2 : tie.Need-returns-2
 returns-2 c =
     let k = c .before .before in
     let e = k .before .before .before .before .before in
-    answer-rest inspectMachine stops mostPrinted (sym (e .before .is-line .ensures) ∙ e .if1 .left) (k .close .ensures .0) (omega (arith, k .close .ensures .1))
+    answer-rest inspectMachine seenStops mostPrinted (sym (e .before .is-line .ensures) ∙ e .if1 .left) (k .close .ensures .0) (omega (arith, k .close .ensures .1))
 
 returns-3 : tie.Need-returns-3
 returns-3 c =
     let e = c .before .before in
-    answer-rest inspectMachine stops mostPrinted (sym (e .before .is-line .ensures) ∙ e .if1 .left) (rest-none (finishText (e .before .before .before .before .before .before .before .args .inspect .replay .phase)) (sym (c .before .is-end .ensures) ∙ c .if2 .left)) (omega arith)
+    answer-rest inspectMachine seenStops mostPrinted (sym (e .before .is-line .ensures) ∙ e .if1 .left) (rest-none (finishText (e .before .before .before .before .before .before .before .args .inspect .replay .phase)) (sym (c .before .is-end .ensures) ∙ c .if2 .left)) (omega arith)
 
 pub answer-spec : {M : Type 1} → statement M
 answer-spec =

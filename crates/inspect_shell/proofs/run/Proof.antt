@@ -8,16 +8,16 @@ use borrow.Author.Needs.{needs}
 use Rattle.text_turns.specs.Turn.{Turning}
 use Rattle.text_turns.proofs.Turning.{Answering, begun, pull-may, answer-may, ended, turn}
 use Rattle.line_serve.specs.Text.{mostPrinted}
-use Rattle.inspect_line.specs.Inspect.{seen, inspectMachine, atStart}
+use Rattle.inspect_line.specs.Inspect.{seen, inspectMachine, seenAtStart}
 use Rattle.inspect_line.proofs.Blind.{inspect-blind}
-use Rattle.inspect_shell.specs.Stop.{stops}
+use Rattle.inspect_shell.specs.Stop.{seenStops}
 use Rattle.inspect_shell.proofs.Stops.{stops-dead}
 use Rattle.inspect_shell.proofs.run.Statement.{statement}
 use Rattle.inspect_shell.proofs.run.Tie as tie
 
 abbrev Inv-loop : tie.InvT-loop
 Inv-loop fd arena₀ work₀ bytes₀ chunk₀ line₀ out₀ moved₀ arena work bytes chunk line out moved =
-    Turning inspectMachine 32769 atStart mostPrinted (moved .flow) (seen (moved .inspect) arena) line chunk out
+    Turning inspectMachine 32769 seenAtStart mostPrinted (moved .flow) (seen (moved .inspect) arena) line chunk out
     × (length arena ≡ length arena₀) × (length work ≡ length work₀) × (length bytes ≡ length bytes₀)
     × (length chunk ≡ length chunk₀) × (length line ≡ length line₀) × (length out ≡ length out₀)
 
@@ -29,12 +29,12 @@ loop-holds c =
     let s = c .before .before .before .before .before .before .before in
     let a = s .args in
     rw (c .start .ensures, s .pre .0 .1, s .pre .0 .0)
-    (begun inspectMachine 32769 atStart mostPrinted (now (a .line)) (now (a .chunk)) (now (a .out)) (omega (arith, s .pre .1)) (omega (arith, s .pre .1)) (omega (arith, s .pre .1)) (omega arith), refl, refl, refl, refl, refl, refl)
+    (begun inspectMachine 32769 seenAtStart mostPrinted (now (a .line)) (now (a .chunk)) (now (a .out)) (omega (arith, s .pre .1)) (omega (arith, s .pre .1)) (omega (arith, s .pre .1)) (omega arith), refl, refl, refl, refl, refl, refl)
 
 pull-requires : tie.Need-pull-requires Inv-loop μ-loop
 pull-requires c κs =
     let t = c .before .before in
-    pull-may inspectMachine 32769 atStart mostPrinted (t .before .before .loop .inv .0) (sym (t .before .goes-on .ensures) ∙ t .if1 .taken)
+    pull-may inspectMachine 32769 seenAtStart mostPrinted (t .before .before .loop .inv .0) (sym (t .before .goes-on .ensures) ∙ t .if1 .taken)
 
 answer-requires : tie.Need-answer-requires Inv-loop μ-loop
 answer-requires c κs =
@@ -42,19 +42,19 @@ answer-requires c κs =
     let l = d .before .before .before .before .before in
     let i = l .loop .inv in
     let p = l .before .before .before .before .before .before .before .before .pre .1 in
-    let m = answer-may inspectMachine 32769 atStart mostPrinted (i .0) (d .pull .ensures) (d .pull .kept .1 .1 .1 .0) in
+    let m = answer-may inspectMachine 32769 seenAtStart mostPrinted (i .0) (d .pull .ensures) (d .pull .kept .1 .1 .1 .0) in
     (omega (arith, p, i .2), omega (arith, p, i .3), m .0, m .1)
 
 -- what it has come to after an answer
 the-turn
     : (v : tie.After-answer Inv-loop μ-loop) →
     let d = v .before .before .before .before .before .before .before .before .before .before in
-    Answering inspectMachine 32769 atStart mostPrinted (d .before .before .before .before .before .loop .moved .flow) (v .answer .result .flow) (seen (v .answer .result .inspect) (v .answer .last .1 .1 .0)) (d .pull .last .1 .1 .1 .0) (d .pull .last .1 .1 .0) (v .answer .last .1 .1 .1 .1 .1 .1 .0)
+    Answering inspectMachine 32769 seenAtStart mostPrinted (d .before .before .before .before .before .loop .moved .flow) (v .answer .result .flow) (seen (v .answer .result .inspect) (v .answer .last .1 .1 .0)) (d .pull .last .1 .1 .1 .0) (d .pull .last .1 .1 .0) (v .answer .last .1 .1 .1 .1 .1 .1 .0)
 the-turn v =
     let d = v .before .before .before .before .before .before .before .before .before .before in
     let t = d .before .before .before in
     let k = d .pull .kept in
-    turn inspectMachine 32769 atStart mostPrinted (omega arith) inspect-blind stops stops-dead (t .before .before .loop .inv .0) (sym (t .before .goes-on .ensures) ∙ t .if1 .taken) (d .pull .ensures) (k .1 .1 .0) (k .1 .1 .1 .0) (v .answer .ensures) (v .answer .kept .1 .1 .1 .1 .1 .1 .0)
+    turn inspectMachine 32769 seenAtStart mostPrinted (omega arith) inspect-blind seenStops stops-dead (t .before .before .loop .inv .0) (sym (t .before .goes-on .ensures) ∙ t .if1 .taken) (d .pull .ensures) (k .1 .1 .0) (k .1 .1 .1 .0) (v .answer .ensures) (v .answer .kept .1 .1 .1 .1 .1 .1 .0)
 
 flush-requires : tie.Need-flush-requires Inv-loop μ-loop
 flush-requires c κs =
@@ -77,7 +77,7 @@ returns : tie.Need-returns Inv-loop μ-loop
 returns c =
     let e = c .before in
     let g = e .before in
-    ended inspectMachine 32769 atStart mostPrinted (g .before .loop .inv .0) (omega arith) inspect-blind (sym (g .goes-on .ensures) ∙ e .if1 .left)
+    ended inspectMachine 32769 seenAtStart mostPrinted (g .before .loop .inv .0) (omega arith) inspect-blind (sym (g .goes-on .ensures) ∙ e .if1 .left)
 
 pub run-spec : {M : Type 1} → statement M
 run-spec =

@@ -2,7 +2,7 @@
 use mathlib.Core.Path.{ap, _∙_}
 use denote.Ref.{now}
 use Rattle.salvage_walk.specs.declared.Extent.{Extent}
-use Rattle.salvage_text.specs.Text.{answerOf, landedBy, salvagedText, reportedText}
+use Rattle.salvage_text.specs.Text.{salvageAnswer, landedBy, salvagedText, reportedText}
 use borrow.Author.Needs.{needs}
 use Rattle.salvage_text.proofs.salvage.Statement.{statement}
 use Rattle.salvage_text.proofs.salvage.Tie as tie
@@ -13,7 +13,7 @@ returns c =
     let a = p .before .before .before .before .before .before .before .before .args in
     let t = now (a .text) in
     let e = p .passes .ensures in (
-      c .answer-of .ensures ∙ ap answerOf (e .0),
+      c .answer-of .ensures ∙ ap salvageAnswer (e .0),
       (
         e .1 .0 ∙ ap (λ (x : Extent). landedBy x (now (a .out)) (salvagedText t)) (e .0),
         e .1 .1 ∙ ap (λ (x : Extent). landedBy x (now (a .report)) (reportedText t)) (e .0),

@@ -50,7 +50,7 @@ use Rattle.block_list.specs.declared.element.Unpacked.{Unpacked}
 use Rattle.block_list.specs.declared.element.Unpacked.the-variants.{Element, Short}
 use Rattle.block_list.proofs.element.Unpacked as U
 use Rattle.block_list.proofs.element.Unpacked.Laws as U′
-use Rattle.block_list.specs.Read.{placePast, atStart, movedOn, finished}
+use Rattle.block_list.specs.Read.{elementPast, readerAtStart, movedOn, finished}
 use Rattle.block_list.specs.declared.reader.Reader.{Reader}
 use Rattle.block_list.proofs.Lent.{α, R, to, Held, Kept, Tokens, Lent, lends, backs}
 use Rattle.block_list.proofs.Turns.{none-left, some-left, one-less, fewer-left, less-fits, Turn, starts, Fewer, fewer, cut-off, turned}
@@ -148,8 +148,8 @@ module _ {M : Type 1} (𝓤 : URA M) (H : Heap 𝓤) (A : Atoms 𝓤) (at-mem : 
         use2 W (raw (New .pre to-new)) (qed W ((‵ (flft κ q) ⊛ ‵ ftrue) ∷ ‵ (owns (ShrSlice (named 0) κ u8 ∷ []) (s, tt) (v ∷ [], tt)) ∷ []) ∵ join ! $ frame ! $
         done !) $ frame ! $ done !
 
-    new-said : (d : Reader) → ent 𝓤 (ensured 𝓤 H A new.ended (new.clauses 𝓤 H A at-mem run) (κ, tt) (s, tt) tt d) (fact 𝓤 (d ≡ atStart s))
-    new-said d = exE 𝓤 _ (λ ws. snd∗ 𝓤 (sem 𝓤 H A (lasts new.ended (κ, tt) (s, tt) ws)) (fact 𝓤 (d ≡ atStart s)))
+    new-said : (d : Reader) → ent 𝓤 (ensured 𝓤 H A new.ended (new.clauses 𝓤 H A at-mem run) (κ, tt) (s, tt) tt d) (fact 𝓤 (d ≡ readerAtStart s))
+    new-said d = exE 𝓤 _ (λ ws. snd∗ 𝓤 (sem 𝓤 H A (lasts new.ended (κ, tt) (s, tt) ws)) (fact 𝓤 (d ≡ readerAtStart s)))
 
     -- `next`, at the reader in the block b, lent for ν under the name γ
     abbrev to-next : ℕ → ℕ → ℕ → GName → Next .Ghost
@@ -259,7 +259,7 @@ module _ {M : Type 1} (𝓤 : URA M) (H : Heap 𝓤) (A : Atoms 𝓤) (at-mem : 
 
       -- after `next`: the reader is moved on, and _7 has what was found
       abbrev Found : ℕ → ℕ → Unpacked → List (Item 𝓤)
-      Found n p t = Reads (placePast (found p) p) (Locals (‵ (fat fullShare ref l₈ 0 (vptr l₃ 0))) (‵ (fat fullShare U′.mir l₇ 0 (EL.val U.the-type U′.the-laws t)))
+      Found n p t = Reads (elementPast (found p) p) (Locals (‵ (fat fullShare ref l₈ 0 (vptr l₃ 0))) (‵ (fat fullShare U′.mir l₇ 0 (EL.val U.the-type U′.the-laws t)))
           (‵ (fat fullShare tyBool l₆ 0 (vbool true)))
           (‵ (froom reader l₅ 0)) (‵ (fat fullShare word l₄ 0 (vint w64 (suc n)))) (‵ (fat fullShare word l₂ 0 (vint w64 count))) (‵ (fat fullShare bytes l₁ 0 v))
           (‵ (froom tyBool l₀ 0)))
@@ -330,7 +330,7 @@ module _ {M : Type 1} (𝓤 : URA M) (H : Heap 𝓤) (A : Atoms 𝓤) (at-mem : 
           calls-at ! fm New known-new to-new (and-then ! (load ! (from ! (stop !)) (look ! 16 refl)) (no-more !)) (λ u.
           use1 W (later (some (λ (d : Reader). ((‵ (flft κ q) ⊛ ‵ ftrue) ⊛ ‵ (R κ .own d (u ∷ []))) ⊛ raw
           (ensured 𝓤 H A new.ended (new.clauses 𝓤 H A at-mem run) (κ, tt) (s, tt) tt d)))) (id⊢ 𝓤 _) $ await ! tt $ pick ! (λ d.
-          split ! $ move ! (1 ∷ []) $ use1 W (raw (fact 𝓤 (d ≡ atStart s))) (new-said d) $ heard ! (d ≡ atStart s) (λ e. split ! $ move ! (1 ∷ []) $
+          split ! $ move ! (1 ∷ []) $ use1 W (raw (fact 𝓤 (d ≡ readerAtStart s))) (new-said d) $ heard ! (d ≡ readerAtStart s) (λ e. split ! $ move ! (1 ∷ []) $
           rewrite ! 0 (λ (y : Reader). ‵ (R κ .own y (u ∷ []))) e refl $ peeks ! (R κ) (Is (R κ)) (shows 𝓤 H A (R κ)) (r 0) (u ∷ []) (λ made.
           rewrite ! 0 (λ (y : Val). ‵ (R κ .own (r 0) (y ∷ []))) (ap only (LL.tells (T.the-type (α κ)) (T′.the-laws (α κ)) (r 0) (u ∷ []) made)) refl $
           peeks ! (R κ) (Is (R κ)) (shows 𝓤 H A (R κ)) (r 0) (T′.lowered (r 0) ∷ []) (λ made′. move ! (1 ∷ []) $ split ! $ move ! (2 ∷ 0 ∷ []) $

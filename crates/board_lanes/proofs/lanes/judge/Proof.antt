@@ -3,12 +3,12 @@ use borrow.Author.Needs.{needs}
 use mathlib.Core.Path.{_≡_, ap, _∙_}
 use denote.Ref.{now}
 use Rattle.board_lanes.specs.declared.lanes.Judged.{Judged}
-use Rattle.board_lanes.specs.Board.{andThen, lanesJudged, judgedOf}
+use Rattle.board_lanes.specs.Board.{andThen, lanesJudged, boardJudged}
 use Rattle.board_lanes.proofs.lanes.judge.Statement.{statement}
 use Rattle.board_lanes.proofs.lanes.judge.Tie as tie
 
 returns : tie.Need-returns
-unfolding judgedOf
+unfolding boardJudged
 returns c =
     let l = c .before .before in
     c .and-then .ensures

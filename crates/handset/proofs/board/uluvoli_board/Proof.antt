@@ -9,7 +9,7 @@ use denote.Ref.{now}
 use borrow.Author.Needs.{needs}
 use Rattle.card_build.specs.declared.card.Card.{Card}
 use Rattle.board_read.specs.Refresh.{boardServed, refreshed}
-use Rattle.handset_bytes.specs.Card.{decodedOf}
+use Rattle.handset_bytes.specs.Card.{cardDecoded}
 use Rattle.handset_words.specs.Board.{refreshedAs, boardRoom, boardMade, recordsBy, recordsAfter}
 use Rattle.handset.proofs.board.uluvoli_board.Statement.{statement}
 use Rattle.handset.proofs.board.uluvoli_board.Tie as tie
@@ -32,7 +32,7 @@ returns c =
     let n = m .room .result in
     let z : n - 0 ≡ n = omega arith in
     let l = length-take-le {A = ℕ} (n - 0) (replicate 128 0) (omega (arith, m .room .ensures .1)) ∙ z in
-    board-is (d .decode .result) (decodedOf (now (a .card))) (now (a .arena)) (now (a .lanes)) (take (n - 0) (replicate 128 0)) (a .code)
+    board-is (d .decode .result) (cardDecoded (now (a .card))) (now (a .arena)) (now (a .lanes)) (take (n - 0) (replicate 128 0)) (a .code)
     (d .decode .ensures) (l ∙ m .room .ensures .0) (k .filled .ensures .0) (k .filled .ensures .1)
 
 pub uluvoli-board-spec : {M : Type 1} → statement M

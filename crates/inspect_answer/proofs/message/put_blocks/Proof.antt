@@ -4,7 +4,7 @@ use native.Mathlib.Omega.{arith}
 use lib.ListN.{length}
 use denote.Ref.{now}
 use Rattle.node_messages.specs.Information.{informationBytes}
-use Rattle.card_lists.specs.Information.{blocksOf, blocksPut, blocksOut}
+use Rattle.card_lists.specs.Information.{blocksTold, blocksPut, blocksOut}
 use Rattle.inspect_answer.specs.Fields.{infoFields}
 use Rattle.inspect_answer.proofs.Fronts.{Tells, shown}
 use Rattle.inspect_answer.proofs.message.put_blocks.Statement.{statement}
@@ -17,7 +17,7 @@ wrote
 unfolding infoFields blocksPut blocksOut
 wrote k =
     let a = k .before .before .before .before .before .before .args in
-    let b = blocksOf (a .card) (length (now (a .arena))) (now (a .asked)) in
+    let b = blocksTold (a .card) (length (now (a .arena))) (now (a .asked)) in
     shown (b .answer) (informationBytes (b .told)) (now (a .work)) (k .put-block-information .ensures .0) (k .put-block-information .ensures .1)
 
 put-message-requires : tie.Need-put-message-requires

@@ -6,12 +6,12 @@ use Rattle.answers.specs.Refusal.{refusalNumber}
 use Rattle.text_numbers.specs.Decimal.{decText}
 use Rattle.text_stream.proofs.Prints.{written-more}
 use Rattle.text_print.specs.Print.{closed}
-use Rattle.inspect_fields.specs.Fields.{refusalFields}
+use Rattle.inspect_fields.specs.Fields.{refusalTold}
 use Rattle.inspect_fields.proofs.put.put_refusal.Statement.{statement}
 use Rattle.inspect_fields.proofs.put.put_refusal.Tie as tie
 
 returns : tie.Need-returns
-unfolding refusalFields
+unfolding refusalTold
 returns c =
     let q = c .before .before in
     let p = q .before .before .before .before .before in

@@ -9,7 +9,7 @@ use lib.ListN.{length}
 use denote.Ref.{now}
 use Rattle.text_stream.proofs.Prints.{written-more}
 use Rattle.text_print.specs.Print.{closed, fourDigits}
-use Rattle.node_messages.specs.CodeList.{areasOf, servicesOf, rangesOf, codesOf}
+use Rattle.node_messages.specs.CodeList.{areasOf, servicesOf, rangesOf, codesListed}
 use Rattle.inspect_fields.specs.Fields.{flagText}
 use Rattle.inspect_fields.proofs.read.put_code_list.Statement.{statement}
 use Rattle.inspect_fields.proofs.read.put_code_list.Tie as tie
@@ -43,7 +43,7 @@ returns c =
     let ea : 2 * l1 .least .result - 0 ≡ 2 * areasOf m = sub-zero (2 * l1 .least .result) ∙ ap (λ (k : ℕ). 2 * k) (l1 .least .ensures) in
     let es : l2 .least2 .result - 0 ≡ servicesOf m = sub-zero (l2 .least2 .result) ∙ l2 .least2 .ensures ∙ rw (l1 .least .ensures) in
     let w = written-more (closed 9 (flagText (m .more))) (closed 9 (fourDigits (rangesOf m))) (p .put-flag .ensures .0) (rw ea at (q .put-numbers .ensures .0)) in
-    (written-more _ (closed 10 (fourDigits (codesOf m))) w (rw es at (r .put-numbers2 .ensures .0)), omega (arith, p .put-flag .ensures .1, q .put-numbers .ensures .1, r .put-numbers2 .ensures .1, take-le (2 * l1 .least .result - 0) (m .ranges), take-le (l2 .least2 .result - 0) (m .codes), ranges-long s, codes-long s))
+    (written-more _ (closed 10 (fourDigits (codesListed m))) w (rw es at (r .put-numbers2 .ensures .0)), omega (arith, p .put-flag .ensures .1, q .put-numbers .ensures .1, r .put-numbers2 .ensures .1, take-le (2 * l1 .least .result - 0) (m .ranges), take-le (l2 .least2 .result - 0) (m .codes), ranges-long s, codes-long s))
 
 pub put-code-list-spec : {M : Type 1} → statement M
 put-code-list-spec =

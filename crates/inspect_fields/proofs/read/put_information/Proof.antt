@@ -9,7 +9,7 @@ use lib.ListN.{length, take}
 use denote.Ref.{now}
 use Rattle.text_stream.proofs.Prints.{written-more}
 use Rattle.text_print.specs.Print.{closed, fourDigits}
-use Rattle.node_messages.specs.Information.{nodesOf}
+use Rattle.node_messages.specs.Information.{nodeCount}
 use Rattle.inspect_fields.proofs.read.put_information.Statement.{statement}
 use Rattle.inspect_fields.proofs.read.put_information.Tie as tie
 
@@ -37,8 +37,8 @@ returns c =
     let l = p .before .before .before .before .before in
     let s = l .before .before in
     let m = s .args .told in
-    let e : l .least .result - 0 ≡ nodesOf m = sub-zero (l .least .result) ∙ l .least .ensures in
-    (written-more (closed 9 (fourDigits (take (nodesOf m) (m .assigned)))) (closed 10 (fourDigits (take (nodesOf m) (m .free)))) (rw e at (p .put-numbers .ensures .0)) (rw e at (q .put-numbers2 .ensures .0)), omega (arith, p .put-numbers .ensures .1, q .put-numbers2 .ensures .1, take-le (l .least .result - 0) (m .assigned), take-le (l .least .result - 0) (m .free), assigned-long s, free-long s))
+    let e : l .least .result - 0 ≡ nodeCount m = sub-zero (l .least .result) ∙ l .least .ensures in
+    (written-more (closed 9 (fourDigits (take (nodeCount m) (m .assigned)))) (closed 10 (fourDigits (take (nodeCount m) (m .free)))) (rw e at (p .put-numbers .ensures .0)) (rw e at (q .put-numbers2 .ensures .0)), omega (arith, p .put-numbers .ensures .1, q .put-numbers2 .ensures .1, take-le (l .least .result - 0) (m .assigned), take-le (l .least .result - 0) (m .free), assigned-long s, free-long s))
 
 pub put-information-spec : {M : Type 1} → statement M
 put-information-spec =

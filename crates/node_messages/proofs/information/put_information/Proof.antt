@@ -7,7 +7,7 @@ use denote.Ref.{now}
 use borrow.Author.Needs.{needs}
 use borrow.Author.Tests.{ltb-true, ltb-false}
 use Rattle.node_messages.specs.declared.information.BlockInformation.{BlockInformation}
-use Rattle.node_messages.specs.Information.{nodesOf}
+use Rattle.node_messages.specs.Information.{nodeCount}
 use Rattle.node_messages.proofs.Writes.{InformationSized, information-long, information-put, short, whole, put-long}
 use Rattle.node_messages.proofs.information.put_information.Statement.{statement}
 use Rattle.node_messages.proofs.information.put_information.Tie as tie
@@ -18,7 +18,7 @@ sized c = record { assigned = search needs; free = search needs }
 
 -- the message fits
 record Room (m : BlockInformation) (out n : ℕ) : Type 0 where
-  nodes : n ≡ nodesOf m
+  nodes : n ≡ nodeCount m
   enough : 1 + 4 * n ≤ out
   arrays : InformationSized m
 

@@ -4,7 +4,7 @@ use denote.Ref.{now}
 use borrow.Author.Needs.{needs}
 use Rattle.rule_purse.specs.declared.fields.PurseWrite.{PurseWrite}
 use Rattle.rule_purse.specs.declared.fields.PurseWrite.the-variants.{Unchanged, Whole, Stored, Failed}
-use Rattle.rule_purse.specs.Bytes.{blockOf, purseOf}
+use Rattle.rule_purse.specs.Bytes.{blockOf, purseApplied}
 use Rattle.rule_purse.proofs.Stores.{stored-block}
 use Rattle.rule_purse.proofs.bytes.apply_purse_write.Statement.{statement}
 use Rattle.rule_purse.proofs.bytes.apply_purse_write.Tie as tie
@@ -12,8 +12,8 @@ use Rattle.rule_purse.proofs.bytes.apply_purse_write.Tie as tie
 -- What the rule makes of the fields decides.
 decided
     : (k : tie.After-purse-write) (w : PurseWrite) → k .purse-write .result ≡ w
-    → (let a = k .before .before .before .before .before .before .args in purseOf (a .operation) (a .limit) (now (a .block)) (now (a .command)) ≡ blockOf (now (a .block)) (now (a .command)) w)
-unfolding purseOf
+    → (let a = k .before .before .before .before .before .before .args in purseApplied (a .operation) (a .limit) (now (a .block)) (now (a .command)) ≡ blockOf (now (a .block)) (now (a .command)) w)
+unfolding purseApplied
 decided k w e = rw (sym (k .before .before .purse-data .ensures), sym (k .before .purse-data2 .ensures), sym (k .purse-write .ensures) ∙ e)
 
 returns : tie.Need-returns

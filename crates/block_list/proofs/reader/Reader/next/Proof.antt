@@ -52,7 +52,7 @@ use Rattle.block_list.proofs.element.unpack as unpack
 use Rattle.block_list.proofs.element.unpack.Symbol as unpack-def
 use Rattle.block_list.proofs.element.unpack.Symbol.{name as #unpack}
 use Rattle.block_list.proofs.element.unpack.Met as unpack-thm
-use Rattle.block_list.specs.Read.{nextOf, placePast, movedOn}
+use Rattle.block_list.specs.Read.{nextOf, elementPast, movedOn}
 use Rattle.block_list.specs.declared.reader.Reader.{Reader}
 use Rattle.block_list.proofs.reader.Reader as T
 use Rattle.block_list.proofs.reader.Reader.Laws as T′
@@ -148,8 +148,8 @@ module _ {M : Type 1} (𝓤 : URA M) (H : Heap 𝓤) (A : Atoms 𝓤) (at-mem : 
         qed W [] ∵ nothing ! $ owned ! usize (Is usize) (uint-makes 𝓤 H A W w64) (h .at) _ (refl, fits) $ fjoin ! $
         owned ! U.the-row (Is U.the-row) (EL.makes U.the-type U′.the-plain 𝓤 H A) r (u ∷ []) is $ fjoin ! $ nothing ! $ join ! $ frame ! $ done !
 
-    past-said : (r : Unpacked) (n : ℕ) → ent 𝓤 (ensured 𝓤 H A place-past.ended (place-past.clauses 𝓤 H A at-mem run) tt (r, (h .at, tt)) tt n) (fact 𝓤 (n ≡ placePast r (h .at)))
-    past-said r n = exE 𝓤 _ (λ ws. snd∗ 𝓤 (sem 𝓤 H A (lasts place-past.ended tt (r, (h .at, tt)) ws)) (fact 𝓤 (n ≡ placePast r (h .at))))
+    past-said : (r : Unpacked) (n : ℕ) → ent 𝓤 (ensured 𝓤 H A place-past.ended (place-past.clauses 𝓤 H A at-mem run) tt (r, (h .at, tt)) tt n) (fact 𝓤 (n ≡ elementPast r (h .at)))
+    past-said r n = exE 𝓤 _ (λ ws. snd∗ 𝓤 (sem 𝓤 H A (lasts place-past.ended tt (r, (h .at, tt)) ws)) (fact 𝓤 (n ≡ elementPast r (h .at))))
 
     -- what the list owns is kept, and the place's facts are made anew
     again : (n : ℕ) → n < 2 ^ 64 → ent 𝓤 (sem 𝓤 H A Own) (sem 𝓤 H A (R .own (moved n) (T′.lowered (moved n) ∷ [])))
@@ -196,7 +196,7 @@ module _ {M : Type 1} (𝓤 : URA M) (H : Heap 𝓤) (A : Atoms 𝓤) (at-mem : 
           (and-then ! (load ! (from ! (stop !)) (look ! 8 refl)) (no-more !))) (λ w.
           use1 W (later (some (λ (n : ℕ). (‵ ftrue ⊛ ‵ (usize .own n (w ∷ []))) ⊛ raw
           (ensured 𝓤 H A place-past.ended (place-past.clauses 𝓤 H A at-mem run) tt (r, (h .at, tt)) tt n)))) (id⊢ 𝓤 _) $ await ! tt $ pick ! (λ n.
-          split ! $ move ! (1 ∷ []) $ use1 W (raw (fact 𝓤 (n ≡ placePast r (h .at)))) (past-said r n) $ heard ! (n ≡ placePast r (h .at)) (λ e′. split ! $ drop ! $
+          split ! $ move ! (1 ∷ []) $ use1 W (raw (fact 𝓤 (n ≡ elementPast r (h .at)))) (past-said r n) $ heard ! (n ≡ elementPast r (h .at)) (λ e′. split ! $ drop ! $
           facts ! usize (Is usize) (shows 𝓤 H A usize) n (w ∷ []) (λ is′.
           land ! (from ! (stop !)) (store ! 9 refl (uint-lawful 𝓤 H A W w64 .typed n _ is′ .0)) $
           rewrite ! 9 (λ (y : Val). ‵ (fat fullShare (tyInt w64) l₄ 0 y)) (ap only (is′ .0)) refl $
@@ -211,7 +211,7 @@ module _ {M : Type 1} (𝓤 : URA M) (H : Heap 𝓤) (A : Atoms 𝓤) (at-mem : 
           returns ! (look ! 15 refl) $ forget ! 5 refl $ forget ! 7 refl $ forget ! 9 refl $ forget ! 11 refl $ forget ! 13 refl $ forget ! 15 refl $
           move ! (15 ∷ 16 ∷ []) $ free1 ! $ move ! (13 ∷ 14 ∷ []) $ free1 ! $ move ! (11 ∷ 12 ∷ []) $ free1 ! $ move ! (9 ∷ 10 ∷ []) $ free1 ! $ move ! (7 ∷ 8 ∷ []) $ free1 ! $
           move ! (5 ∷ 6 ∷ []) $ free1 ! $ free0 ! $
-          keep ! (0 ∷ 1 ∷ 2 ∷ 3 ∷ []) $ by ! (exits r u n is (e, ap moved (e′ ∙ ap (λ (z : Unpacked). placePast z (h .at)) e)))))))))))))))))))
+          keep ! (0 ∷ 1 ∷ 2 ∷ 3 ∷ []) $ by ! (exits r u n is (e, ap moved (e′ ∙ ap (λ (z : Unpacked). elementPast z (h .at)) e)))))))))))))))))))
 
 module _ {M : Type 1} (𝓤 : URA M) (H : Heap 𝓤) (A : Atoms 𝓤) (W : Given 𝓤 H A) (mem : Memory → SProp 𝓤) (run : Routine → Fun 𝓤) where
   next-walks : (C : Calls 𝓤 H) (Λ : Loops 𝓤 H) → FmC 𝓤 H (W .laws) C → Triple 𝓤 (C #unpack) (Unpack 𝓤 H A mem run) → Triple 𝓤 (C #place-past) (PlacePast 𝓤 H A mem run)

@@ -9,7 +9,7 @@ use Rattle.card_admit.specs.declared.Placed.{Placed}
 use Rattle.card_admit.specs.Admit.{placedOf, agreed}
 use Rattle.card_admit.proofs.Counts.{agreed-stored}
 use Rattle.card_build.specs.Card.{nodesOf, isSound}
-use Rattle.card_build.specs.Grow.{aheadOf}
+use Rattle.card_build.specs.Grow.{aheadOfService}
 use Rattle.card_build.proofs.Accepted.{Fits, service-accepted}
 use Rattle.card_build.proofs.Answers.{grew, Clear, service-clear, service-ahead, service-refused, service-stored, arena-after, arena-kept}
 use Rattle.card_build.proofs.card.Card.add_service.Statement.{statement}
@@ -18,7 +18,7 @@ use Rattle.card_build.proofs.card.Card.add_service.Tie as tie
 -- what is ahead, of the card and the arena
 told : (c : tie.After-ahead) →
     let a = c .before .before .before .before .args in
-    c .ahead .result ≡ aheadOf (isSound (a .self)) (ltb (length (a .arena .now) / 16) (a .self .used)) (leb 64 (a .self .count))
+    c .ahead .result ≡ aheadOfService (isSound (a .self)) (ltb (length (a .arena .now) / 16) (a .self .used)) (leb 64 (a .self .count))
 told c = c .ahead .ensures ∙ rw (c .before .before .is-sound .ensures, c .before .is-full .ensures)
 
 -- once nothing is, the arena holds the blocks in use, and a record is free

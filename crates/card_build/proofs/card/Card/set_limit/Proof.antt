@@ -11,7 +11,7 @@ use Rattle.card_nodes.specs.declared.node.Node.{Node}
 use Rattle.card_nodes.specs.Node.{rootNode}
 use Rattle.card_sound.proofs.Laws.{Counted, sound-count, same-read}
 use Rattle.card_build.specs.Card.{isSound}
-use Rattle.card_build.specs.Grow.{lastOf}
+use Rattle.card_build.specs.Grow.{lastNode}
 use Rattle.card_build.proofs.Answers.{with-last, limit-unsound, limit-refused, limit-set}
 use Rattle.card_build.proofs.card.Card.set_limit.Statement.{statement}
 use Rattle.card_build.proofs.card.Card.set_limit.Tie as tie
@@ -29,7 +29,7 @@ counted : (c : tie.Else1) → Counted (c .before .before .args .t1 .count)
 counted c = sound-count _ _ _ (sound c)
 
 -- which is read
-last : (c : tie.Else1) (z : Node) → let k = c .before .before .args .t1 in getD (k .nodes) (k .count - 1) z ≡ lastOf k
+last : (c : tie.Else1) (z : Node) → let k = c .before .before .args .t1 in getD (k .nodes) (k .count - 1) z ≡ lastNode k
 last c z = let n = counted c in same-read (c .before .before .args .t1 .nodes) (c .before .before .args .t1 .count - 1) z rootNode (omega (arith, records (c .before .before)))
 
 returns : tie.Need-returns
