@@ -5,6 +5,7 @@ use mathlib.Core.Bool.{Bool, true, false, cond, not, _&&_}
 use mathlib.Core.List.{List, [], _∷_}
 use lib.Dec.{leb, eqb}
 use lib.ListN.{getD, take}
+use Rattle.byte_parts.specs.Sizes.{blockSize}
 use Rattle.byte_parts.specs.Part.{part}
 use Rattle.board_lanes.specs.declared.refusal.BoardRefusal.{BoardRefusal}
 use Rattle.board_lanes.specs.declared.refusal.BoardRefusal.the-variants.{RacesDiffer, WrongLane, BadCrew, TailNotZero}
@@ -20,7 +21,7 @@ boardNumber TailNotZero = 43
 
 -- the block of lane k + 1
 abbrev pub blockAt : List ℕ → ℕ → List ℕ
-blockAt bytes k = part bytes (16 * k) 16
+blockAt bytes k = part bytes (blockSize * k) 16
 
 -- an empty lane: every byte is zero
 unfoldable pub isEmpty : List ℕ → Bool

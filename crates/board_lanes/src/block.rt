@@ -1,5 +1,6 @@
 // One block of a board: byte 0 the lane, 1 and 2 the race, 3 to 14 the crew, 15 zero. Bytes that a short slice lacks count as zero, or
 // are left out of a part.
+use byte_parts::sizes::BLOCK_SIZE;
 ghost use mathlib.Core.Path.{_≡_};
 ghost use Prim.Native.Nat.{_<_, _≤_};
 ghost use lib.ListN.{length, getD};
@@ -31,7 +32,7 @@ pub fn block<'a>(bytes: &'a [u8], k: usize) -> &'a [u8]
     requires { ⌜ k < 8 ⌝ }
     ensures { λ r. ⌜ now r ≡ blockAt (now (bytes .entry)) k ⌝ }
 {
-    part_of(bytes, 16 * k, 16)
+    part_of(bytes, BLOCK_SIZE * k, 16)
 }
 
 // Gives the bytes of a block's crew, with its spaces.

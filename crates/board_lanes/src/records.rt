@@ -3,6 +3,7 @@ use crate::block::block;
 use crate::block::crew_of;
 use crate::block::is_empty;
 use crate::block::race;
+use byte_parts::sizes::BLOCK_SIZE;
 use byte_parts::spans;
 ghost use mathlib.Core.Path.{_≡_};
 ghost use Prim.Native.Nat.{_+_, _≤_};
@@ -47,7 +48,7 @@ pub fn put_records(bytes: &[u8], out: &mut [u8])
 {
     let mut i = 0;
     while i < 8 {
-        put_record(block(bytes, i), out, 16 * i);
+        put_record(block(bytes, i), out, BLOCK_SIZE * i);
         i += 1;
     }
 }

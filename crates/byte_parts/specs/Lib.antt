@@ -2,3 +2,4 @@ pub mod Part
 pub mod Sizes
 pub mod Word
 pub mod Half
+pub mod Values

@@ -4,6 +4,7 @@ use mathlib.Core.List.{List}
 use mathlib.Core.Bool.{Bool, true, false, cond, not, _&&_}
 use lib.Dec.{eqb, ltb, leb}
 use lib.ListN.{getD}
+use Rattle.byte_parts.specs.Sizes.{blockSize, mostBlocks}
 use Rattle.answers.specs.declared.refusal.Refusal.the-variants.{InvalidAreaRange, InvalidRootAreaRange, NodeCodeOutOfRange, InvalidAreaAttribute, ChildAreaForbidden, UndefinedServiceAttribute, ServiceOutOfRange, AreaOutOfRange, OverlapKindMismatch, NoParent, NoRoom, CountsDiffer}
 use Rattle.service_code.specs.declared.code.ServiceKind.the-variants.{Random, Cyclic, Purse}
 use Rattle.service_code.specs.declared.code.Decoded.{Decoded}
@@ -110,13 +111,6 @@ unfoldable pub joinedTo : Node → ℕ → ℕ → Placed
 joinedTo first code used =
     cond (not (sameKind (first .code) code)) (NotPlaced OverlapKindMismatch)
     (Store (startOf (first .entry)) (blocksOf (first .entry)) used)
-
--- the bytes of a block, and the most blocks of an arena that are used
-abbrev pub blockSize : ℕ
-blockSize = 16
-
-abbrev pub mostBlocks : ℕ
-mostBlocks = 4096
 
 -- the blocks of an arena of `arenaLen` bytes that can be used
 unfoldable pub usable : ℕ → ℕ

@@ -4,6 +4,7 @@ use mathlib.Core.List.{List}
 use mathlib.Core.Bool.{cond, not}
 use lib.IntN.{ℤ}
 use lib.ListN.{replicate}
+use Rattle.byte_parts.specs.Sizes.{blockSize}
 use Rattle.answers.specs.declared.refusal.Refusal.the-variants.{NotBuilt}
 use Rattle.byte_parts.specs.Part.{put}
 use Rattle.card_build.specs.declared.card.Card.{Card}
@@ -23,7 +24,7 @@ serviceAdded c arenaLen depth code blocks version =
 -- the bytes of the blocks that are newly in use are zero, all others as they were
 unfoldable pub arenaAdded : Card → Added → List ℕ → List ℕ
 arenaAdded c a arena =
-    put arena (16 * c .used) (16 * (a .card .used - c .used)) (replicate (16 * (a .card .used - c .used)) 0)
+    put arena (blockSize * c .used) (blockSize * (a .card .used - c .used)) (replicate (blockSize * (a .card .used - c .used)) 0)
 
 -- 8, then 28
 unfoldable pub limitAdded : Card → ℤ → ℤ → ℕ → Added

@@ -4,6 +4,7 @@ use mathlib.Core.Bool.{Bool, cond, not}
 use lib.Dec.{ltb, leb}
 use lib.IntN.{ℤ}
 use lib.ListN.{getD, set}
+use Rattle.byte_parts.specs.Sizes.{blockSize}
 use Rattle.answers.specs.declared.refusal.Refusal.the-variants.{NotBuilt, TableFull, ShortArena, NotAService}
 use Rattle.service_code.specs.declared.limit.Limit.{Limit}
 use Rattle.service_code.specs.declared.limit.Limit.the-variants.{Unlimited, Limited}
@@ -60,7 +61,7 @@ serviceBy c depth code version (Store s b used) = accepted (grown c (nodeAs dept
 -- 7 ahead of the others, for an arena of `arenaLen` bytes; then 20, then those of the placing, 24 among them
 unfoldable pub addService : Card → ℕ → ℕ → ℕ → ℕ → ℕ → Added
 addService c arenaLen depth code blocks version =
-    cond (ltb arenaLen (16 * c .used)) (refused c ShortArena)
+    cond (ltb arenaLen (blockSize * c .used)) (refused c ShortArena)
     (cond (leb 64 (c .count)) (refused c TableFull)
     (serviceBy c depth code version (agreed (c .system .join) blocks (placedOf (nodesOf c) (c .used) arenaLen depth code blocks))))
 

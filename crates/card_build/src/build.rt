@@ -4,6 +4,7 @@ use crate::card::Card;
 use crate::fits;
 use answers::refusal::Answer;
 use answers::refusal::Refusal;
+use byte_parts::sizes::BLOCK_SIZE;
 use byte_parts::spans;
 use card_admit::Placed;
 use card_nodes::node::Entry;
@@ -13,6 +14,7 @@ ghost use mathlib.Core.Path.{_≡_};
 ghost use Prim.Native.Nat.{_-_, _*_, _/_, _≤_, _<_};
 ghost use lib.Dec.{ltb, leb};
 ghost use lib.ListN.{length, replicate};
+ghost use Rattle.byte_parts.specs.Sizes.{blockSize};
 ghost use Rattle.service_code.specs.declared.limit.Limit.the-variants.{Limited};
 ghost use Rattle.byte_parts.specs.Part.{put};
 ghost use Rattle.card_nodes.specs.declared.node.Entry.the-variants.{Service};
@@ -46,14 +48,14 @@ fn is_full(count: usize) -> bool
 
 // Whether an arena of `arena_len` bytes is shorter than the blocks in use.
 fn is_short(arena_len: usize, used: usize) -> bool
-    ensures { λ r. ⌜ r ≡ ltb («arena_len» / 16) used ⌝ }
+    ensures { λ r. ⌜ r ≡ ltb («arena_len» / blockSize) used ⌝ }
 {
-    arena_len / 16 < used
+    arena_len / BLOCK_SIZE < used
 }
 
 // What is refused ahead of a service's own refusals, in an arena of `arena_len` bytes, or nothing.
 fn ahead(sound: bool, arena_len: usize, used: usize, full: bool) -> Answer
-    ensures { λ r. ⌜ r ≡ aheadOfService sound (ltb («arena_len» / 16) used) full ⌝ }
+    ensures { λ r. ⌜ r ≡ aheadOfService sound (ltb («arena_len» / blockSize) used) full ⌝ }
 {
     // 8
     if !sound {
@@ -96,10 +98,10 @@ fn next_record(
 
 // Makes the blocks that an addition takes, from `used` to `after`, 0.
 fn zero_blocks(arena: &mut [u8], used: usize, after: usize)
-    requires { ⌜ (used ≤ after) × (after ≤ length (now arena) / 16) ⌝ }
-    ensures { λ _. ⌜ now (arena .exit) ≡ put (now (arena .entry)) (16 * used) (16 * (after - used)) (replicate (16 * (after - used)) 0) ⌝ }
+    requires { ⌜ (used ≤ after) × (after ≤ length (now arena) / blockSize) ⌝ }
+    ensures { λ _. ⌜ now (arena .exit) ≡ put (now (arena .entry)) (blockSize * used) (blockSize * (after - used)) (replicate (blockSize * (after - used)) 0) ⌝ }
 {
-    spans::zero(arena, 16 * used, 16 * (after - used));
+    spans::zero(arena, BLOCK_SIZE * used, BLOCK_SIZE * (after - used));
 }
 
 // The record of a service's node, of a store, with a purse limit.

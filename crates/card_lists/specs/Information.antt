@@ -4,6 +4,7 @@ use mathlib.Core.List.{List, map}
 use mathlib.Core.Bool.{cond, not}
 use lib.Dec.{ltb}
 use lib.ListN.{length}
+use Rattle.byte_parts.specs.Sizes.{blockSize}
 use Rattle.answers.specs.declared.refusal.Answer.{Answer}
 use Rattle.answers.specs.declared.refusal.Answer.the-variants.{Done, Refused}
 use Rattle.answers.specs.declared.refusal.Refusal.the-variants.{NotBuilt, ShortArena, TooManyNodes}
@@ -40,7 +41,7 @@ informationOf ns unused asked = informationTold (record {
 -- what is refused ahead of any node, in an arena of `arenaLen` bytes: 7, then 46
 unfoldable pub aheadOf : ℕ → ℕ → ℕ → Answer
 aheadOf arenaLen used many =
-    cond (ltb arenaLen (16 * used)) (Refused ShortArena)
+    cond (ltb arenaLen (blockSize * used)) (Refused ShortArena)
     (cond (ltb mostNodes many) (Refused TooManyNodes)
     Done)
 
@@ -48,7 +49,7 @@ aheadOf arenaLen used many =
 unfoldable pub blocksTold : Card → ℕ → List ℕ → Informed
 blocksTold c arenaLen asked =
     cond (not (isSound c)) (informationRefused NotBuilt)
-    (cond (ltb arenaLen (16 * c .used)) (informationRefused ShortArena)
+    (cond (ltb arenaLen (blockSize * c .used)) (informationRefused ShortArena)
     (cond (ltb mostNodes (length asked)) (informationRefused TooManyNodes)
     (informationOf (nodesOf c) (usable arenaLen - c .used) asked)))
 

@@ -2,6 +2,7 @@
 use crate::outcome;
 use answers::refusal::Answer;
 use answers::refusal::Refusal;
+use byte_parts::sizes::BLOCK_SIZE;
 use byte_parts::spans;
 use handset_bytes::decoding;
 use request_check::table;
@@ -71,7 +72,7 @@ pub extern "C" fn uluvoli_stored_block(
         Answer::Done => {
             let nodes = own.nodes;
             let found = table::row_of(nodes, own.count, code);
-            *offset = 16 * (found.start as usize + number as usize);
+            *offset = BLOCK_SIZE * (found.start as usize + number as usize);
             0
         }
     }

@@ -8,6 +8,7 @@ use request_serve::writing;
 ghost use mathlib.Core.Path.{_≡_};
 ghost use Prim.Native.Nat.{_*_};
 ghost use lib.ListN.{length};
+ghost use Rattle.byte_parts.specs.Sizes.{blockSize};
 ghost use Rattle.request_plan.specs.Request.{readRequest, writeRequest};
 ghost use Rattle.request_plan.specs.Serve.{serve, outputAfter, stagingBy};
 ghost use Rattle.handset_bytes.specs.Card.{cardDecoded};
@@ -64,7 +65,7 @@ pub extern "C" fn uluvoli_write(
 ) -> u32
     ensures { λ r. ⌜ r ≡ replyAs (serve (cardDecoded (now (card .entry))) (now (arena .entry)) (writeRequest «open» (now (codes .entry)) count (now (list .entry)) (now («data» .entry)) (length (now (staging .entry)))) .reply) ⌝ }
     ensures { λ _. ⌜ now (arena .exit) ≡ serve (cardDecoded (now (card .entry))) (now (arena .entry)) (writeRequest «open» (now (codes .entry)) count (now (list .entry)) (now («data» .entry)) (length (now (staging .entry)))) .arena ⌝ }
-    ensures { λ _. ⌜ now (staging .exit) ≡ stagingBy (serve (cardDecoded (now (card .entry))) (now (arena .entry)) (writeRequest «open» (now (codes .entry)) count (now (list .entry)) (now («data» .entry)) (length (now (staging .entry)))) .reply) (16 * cardDecoded (now (card .entry)) .used) (now (staging .entry)) ⌝ }
+    ensures { λ _. ⌜ now (staging .exit) ≡ stagingBy (serve (cardDecoded (now (card .entry))) (now (arena .entry)) (writeRequest «open» (now (codes .entry)) count (now (list .entry)) (now («data» .entry)) (length (now (staging .entry)))) .reply) (blockSize * cardDecoded (now (card .entry)) .used) (now (staging .entry)) ⌝ }
 {
     let own = decoding::decode(card);
     replied(writing::write(own, arena, staging, open, codes, count, list, data))

@@ -6,6 +6,7 @@ use native.Mathlib.Omega.{arith}
 use lib.IntN.{ℤ}
 use lib.ListN.{length, set, replicate, drop-of-length-le}
 use lib.Seq.{sets, sets-eq}
+use Rattle.byte_parts.specs.Values.{flagOf}
 use Rattle.byte_parts.specs.Part.{put}
 use Rattle.byte_parts.specs.Word.{wordBytes, wordOf}
 use Rattle.service_code.specs.declared.limit.Limit.{Limit}
@@ -18,7 +19,7 @@ use Rattle.card_build.specs.Grow.{nodeAs}
 use Rattle.byte_parts.specs.Half.{halfBytes}
 use Rattle.handset_bytes.specs.Layout.{headSize, recordSize}
 use Rattle.handset_bytes.specs.Node.{kindByte, limitBytes, entryBytes, nodeBytes}
-use Rattle.handset_bytes.specs.Card.{flagOf, headBytes}
+use Rattle.handset_bytes.specs.Card.{headBytes}
 use Rattle.handset_bytes.proofs.Long.{node-long}
 
 -- a limit

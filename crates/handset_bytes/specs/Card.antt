@@ -4,6 +4,7 @@ use mathlib.Core.List.{List, [], _∷_, _++_}
 use mathlib.Core.Bool.{Bool, true, false, cond, _&&_}
 use lib.Dec.{eqb, leb}
 use lib.ListN.{length, take, drop, replicate}
+use Rattle.byte_parts.specs.Values.{flagOf}
 use Rattle.card_nodes.specs.declared.node.Node.{Node}
 use Rattle.card_nodes.specs.Node.{rootNode}
 use Rattle.card_build.specs.declared.card.System.{System}
@@ -12,11 +13,6 @@ use Rattle.byte_parts.specs.Half.{halfBytes, halfAt}
 use Rattle.card_build.specs.Card.{systemOf}
 use Rattle.handset_bytes.specs.Layout.{headSize, recordSize, cardSize}
 use Rattle.handset_bytes.specs.Node.{nodeBytes, nodeIn, isRecord}
-
--- yes or no as a number
-abbrev pub flagOf : Bool → ℕ
-flagOf false = 0
-flagOf true = 1
 
 abbrev pub headBytes : ℕ → ℕ → System → List ℕ
 headBytes count used system =

@@ -37,6 +37,3 @@ pub record Fits (c : Card) : Type 0 where
   pub count : c .count < 2 ^ 16
   pub used : c .used < 2 ^ 16
   pub system : SystemFits (c .system)
-
-abbrev pub Bytes : List ℕ → Type 0
-Bytes s = (i : ℕ) → getD s i 0 < 2 ^ 8

@@ -6,9 +6,10 @@ use card_build::card::Card;
 ghost use mathlib.Core.Path.{_≡_};
 ghost use Prim.Native.Nat.{_≤_};
 ghost use lib.ListN.{length};
+ghost use Rattle.byte_parts.specs.Values.{flagOf};
 ghost use Rattle.byte_parts.specs.Part.{put};
 ghost use Rattle.handset_bytes.specs.Layout.{headSize};
-ghost use Rattle.handset_bytes.specs.Card.{flagOf, headBytes, cardPut};
+ghost use Rattle.handset_bytes.specs.Card.{headBytes, cardPut};
 
 // Yes or no as a number.
 fn flag(yes: bool) -> usize

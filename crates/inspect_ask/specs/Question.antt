@@ -4,6 +4,7 @@ use mathlib.Core.Bool.{cond}
 use mathlib.Core.List.{List, [], _∷_}
 use lib.Dec.{ltb}
 use lib.ListN.{length, getD}
+use Rattle.byte_parts.specs.Sizes.{longestLine}
 use Rattle.text_fields.specs.Field.{split}
 use Rattle.text_numbers.specs.Hex.{hexField}
 use Rattle.text_numbers.specs.Codes.{codesField}
@@ -137,4 +138,4 @@ messageAsked fs =
 
 -- a line of at most 32,768 bytes, its fields parted by tabs (9)
 unfoldable pub questionOf : List ℕ → Question
-questionOf line = cond (ltb 32768 (length line)) Unknown (messageAsked (split 9 line))
+questionOf line = cond (ltb longestLine (length line)) Unknown (messageAsked (split 9 line))

@@ -3,6 +3,7 @@ use Prim.Native.Nat.{ℕ, _*_, _<_}
 use mathlib.Core.List.{List, [], _∷_}
 use mathlib.Core.Path.{_≡_}
 use lib.ListN.{length}
+use Rattle.byte_parts.specs.Sizes.{blockSize}
 use Rattle.service_code.specs.Code.{numberOf}
 use Rattle.byte_parts.specs.Part.{part, put}
 use Rattle.card_build.specs.declared.card.Card.{Card}
@@ -76,4 +77,4 @@ LibraryShows c =
     → Drawn c n k d a w xs m
     → k < 8 → numberOf code ≡ n
     → refreshedAs (boardMade c m code old) ≡ 0
-    → part (recordsAfter c m code old) (16 * k) 16 ≡ laneRecord (laneOf d)
+    → part (recordsAfter c m code old) (blockSize * k) 16 ≡ laneRecord (laneOf d)

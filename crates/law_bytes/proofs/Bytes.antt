@@ -5,7 +5,7 @@ use native.Mathlib.Omega.{arith}
 use native.Mathlib.Decide.{decLt}
 use lib.ListN.{length, take, drop, length-take, List·getD-eq-default}
 use lib.Seq.{getD-take, getD-drop}
-use Rattle.handset_bytes.specs.Fits.{Bytes}
+use Rattle.byte_parts.specs.Values.{Bytes}
 
 -- a part of bytes is bytes
 pub bytes-take : (n : ℕ) (s : List ℕ) → Bytes s → Bytes (take n s)

@@ -11,6 +11,7 @@ use lib.IntN.{ℤ}
 use lib.Signed.{mag}
 use lib.ListN.{length, getD, set, take, drop, replicate, length-set}
 use borrow.Author.Tests.{lt-ltb, le-ltb}
+use Rattle.byte_parts.specs.Values.{Bytes}
 use Rattle.answers.specs.declared.refusal.Refusal.{Refusal}
 use Rattle.answers.specs.declared.refusal.Refusal.the-variants.{TableFull, ShortArena}
 use Rattle.byte_parts.specs.Word.{wordAt, signedOf}
@@ -41,7 +42,7 @@ use Rattle.byte_parts.proofs.Halves.{half-fits}
 use Rattle.handset_bytes.specs.Layout.{headSize, recordSize}
 use Rattle.handset_bytes.specs.Node.{nodeIn}
 use Rattle.handset_bytes.specs.Card.{nodesIn, cardBytes, cardIn, isCard, noCard, cardDecoded}
-use Rattle.handset_bytes.specs.Fits.{LimitFits, EntryFits, NodeFits, SystemFits, Fits, Bytes}
+use Rattle.handset_bytes.specs.Fits.{LimitFits, EntryFits, NodeFits, SystemFits, Fits}
 use Rattle.law_bytes.proofs.Bytes.{bytes-take, bytes-drop}
 use Rattle.law_bytes.proofs.Round.{written-is, card-says}
 

@@ -6,6 +6,7 @@ use Prim.Native.Nat.{ℕ, _<_, _^_}
 use lib.IntN.{ℤ}
 use lib.ListN.{length}
 use borrow.Author.Tests.{eq-eqb}
+use Rattle.byte_parts.specs.Values.{Bytes}
 use Rattle.service_code.specs.declared.limit.Limit.the-variants.{Limited}
 use Rattle.card_build.specs.declared.card.System.{System}
 use Rattle.card_build.specs.declared.card.Card.{Card}
@@ -15,7 +16,7 @@ use Rattle.card_build.specs.Build.{areaAdded, serviceAdded, limitAdded}
 use Rattle.card_laws.proofs.Built.{built-sound, past-eight}
 use Rattle.handset_bytes.specs.Layout.{cardSize}
 use Rattle.handset_bytes.specs.Card.{cardPut, isCard, cardDecoded}
-use Rattle.handset_bytes.specs.Fits.{LimitFits, SystemFits, Fits, Bytes}
+use Rattle.handset_bytes.specs.Fits.{LimitFits, SystemFits, Fits}
 use Rattle.law_bytes.proofs.Round.{valid-long, read-back, unsound}
 use Rattle.law_bytes.proofs.Fitting.{decoded-fits, new-fits, area-fits, service-fits, limit-fits}
 use Rattle.handset_words.specs.Kept.{cardAfter}

@@ -11,6 +11,7 @@ use lib.Signed.{mag}
 use lib.ListN.{length, getD, take, drop}
 use lib.Seq.{drop-cons, take-all}
 use borrow.Author.Tests.{lt-ltb, le-ltb, ltb-false, eqb-true, eqb-false}
+use Rattle.byte_parts.specs.Values.{Bytes}
 use Rattle.byte_parts.specs.Word.{wordAt, wordBytes, signedOf, wordOf}
 use Rattle.byte_parts.proofs.Laws.{word-fits}
 use Rattle.byte_parts.proofs.Halves.{digit, small, split, half-back, half-says}
@@ -21,7 +22,7 @@ use Rattle.card_nodes.specs.declared.node.Node.{Node}
 use Rattle.card_build.specs.Grow.{nodeAs}
 use Rattle.byte_parts.specs.Half.{halfBytes, halfAt}
 use Rattle.handset_bytes.specs.Node.{nodeBytes, nodeIn, isRecord}
-use Rattle.handset_bytes.specs.Fits.{EntryFits, NodeFits, Bytes}
+use Rattle.handset_bytes.specs.Fits.{EntryFits, NodeFits}
 
 -- four
 word-back : (v : ℕ) → v < 2 ^ 32 →

@@ -8,6 +8,7 @@ use lib.Dec.{eqb, leb}
 use lib.ListN.{length, getD, take, drop, length-append, length-drop, take-append-drop}
 use lib.Seq.{take-at, drop-at, length-take-le}
 use borrow.Author.Tests.{eq-eqb, eqb-true, le-leb, leb-true}
+use Rattle.byte_parts.specs.Values.{flagOf, Bytes}
 use Rattle.card_nodes.specs.declared.node.Node.{Node}
 use Rattle.card_nodes.specs.Node.{rootNode}
 use Rattle.card_sound.specs.Sound.{soundOf}
@@ -16,8 +17,8 @@ use Rattle.card_build.specs.Card.{isSound}
 use Rattle.byte_parts.specs.Half.{halfBytes, halfAt}
 use Rattle.handset_bytes.specs.Layout.{headSize, recordSize, cardSize}
 use Rattle.handset_bytes.specs.Node.{nodeBytes}
-use Rattle.handset_bytes.specs.Card.{flagOf, nodesBytes, cardBytes, nodesIn, areRecords, cardIn, isCard, cardDecoded}
-use Rattle.handset_bytes.specs.Fits.{NodeFits, Fits, Bytes}
+use Rattle.handset_bytes.specs.Card.{nodesBytes, cardBytes, nodesIn, areRecords, cardIn, isCard, cardDecoded}
+use Rattle.handset_bytes.specs.Fits.{NodeFits, Fits}
 use Rattle.law_bytes.proofs.Bytes.{bytes-take, bytes-drop}
 use Rattle.handset_bytes.proofs.Long.{node-long}
 use Rattle.law_bytes.proofs.Records.{node-record, node-back, spread, spread-is, node-says}

@@ -4,6 +4,7 @@ use mathlib.Core.Bool.{true}
 use mathlib.Core.List.{List, [], _∷_}
 use mathlib.Core.Path.{_≡_}
 use lib.ListN.{length}
+use Rattle.byte_parts.specs.Sizes.{blockSize}
 use Rattle.service_code.specs.declared.code.ServiceKind.{ServiceKind}
 use Rattle.service_code.specs.declared.code.ServiceKind.the-variants.{Cyclic, Purse}
 use Rattle.service_code.specs.declared.code.DecodedKind.the-variants.{Defined as OfKind}
@@ -46,7 +47,7 @@ IdleThen c a w rs = Idle c (arenaAfter c a w) rs
 
 -- staging of so many bytes is long enough: it has room for all stores
 abbrev pub Enough : Card → ℕ → Type 0
-Enough c room = 16 * c .used ≤ room
+Enough c room = blockSize * c .used ≤ room
 
 -- the same request, with so many bytes lent to it
 abbrev pub lending : ℕ → Request → Request

@@ -4,6 +4,7 @@ use mathlib.Core.Bool.{true, false}
 use mathlib.Core.List.{List, [], _∷_}
 use mathlib.Core.Path.{_≡_}
 use lib.ListN.{length, getD}
+use Rattle.byte_parts.specs.Sizes.{blockSize}
 use Rattle.service_code.specs.declared.code.ServiceKind.the-variants.{Random}
 use Rattle.service_code.specs.declared.code.DecodedKind.the-variants.{Defined as OfKind}
 use Rattle.service_code.specs.Code.{numberOf, codeKindOf}
@@ -41,7 +42,7 @@ pub record LastBrings (n b : ℕ) (d : List ℕ) (r : Request) : Type 0 where
   -- its service is of the random kind
   pub random : codeKindOf (codeNamed r place) ≡ OfKind Random
   -- of the data its own sixteen bytes are d
-  pub bytes : part (r .«data») (16 * place) 16 ≡ d
+  pub bytes : part (r .«data») (blockSize * place) 16 ≡ d
 
 -- From an arena on, no accepted write of the list has an element that names block b of number n. Reads may name it, and writes that
 -- fail or are refused; accepted writes may name other blocks of the number.
@@ -76,4 +77,4 @@ TowerReads c =
     → Redrawn c n b d a w rs q
     → (j : ℕ) → NamesBlock n b q j
     → (out : List ℕ) → length out ≡ q .room
-    → part (outputAfter out (serve c (arenaThen c a w rs) q)) (16 * j) 16 ≡ d
+    → part (outputAfter out (serve c (arenaThen c a w rs) q)) (blockSize * j) 16 ≡ d

@@ -6,6 +6,7 @@ use mathlib.Core.Bool.{Bool, true, false}
 use mathlib.Core.List.{List, [], _∷_, _++_, map}
 use mathlib.Core.Path.{_≡_}
 use lib.ListN.{length}
+use Rattle.byte_parts.specs.Sizes.{blockSize}
 use Rattle.byte_parts.specs.Part.{part}
 use Rattle.card_build.specs.declared.card.Card.{Card}
 use Rattle.request_plan.specs.declared.Reply.{Reply}
@@ -78,8 +79,8 @@ module _ (c : Card) {K L : Type 0} (ask : K → Request) (leave : K → Answer �
         → RedrawnBy n b d a w xs m q e
         → (x : Answer)
         × (q .left ≡ leave (q .call) x)
-        × ((j : ℕ) → NamesBlock n b (ask (q .call)) j → (part (x .read) (16 * j) 16 ≡ d)
-        × ((out : List ℕ) → length out ≡ ask (q .call) .room → part (outputOf x out) (16 * j) 16 ≡ d))
+        × ((j : ℕ) → NamesBlock n b (ask (q .call)) j → (part (x .read) (blockSize * j) 16 ≡ d)
+        × ((out : List ℕ) → length out ≡ ask (q .call) .room → part (outputOf x out) (blockSize * j) 16 ≡ d))
 
 -- A call of `read`, with the output lent to it, or of `write`, with the staging lent to it.
 pub data Call : Type 0 where

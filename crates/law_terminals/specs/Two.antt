@@ -5,6 +5,7 @@ use mathlib.Core.List.{List, [], _∷_}
 use mathlib.Core.Logic.{_⊎_}
 use mathlib.Core.Path.{_≡_}
 use lib.ListN.{length}
+use Rattle.byte_parts.specs.Sizes.{blockSize}
 use Rattle.service_code.specs.Code.{numberOf}
 use Rattle.byte_parts.specs.Part.{put}
 use Rattle.card_nodes.specs.declared.node.Node.{Node}
@@ -33,7 +34,7 @@ abbrev pub outputOf : Answer → List ℕ → List ℕ
 outputOf x out = put out 0 (length (x .read)) (x .read)
 
 abbrev pub stagingOf : Card → Answer → List ℕ → List ℕ
-stagingOf c x staging = stagingBy (x .reply) (16 * c .used) staging
+stagingOf c x staging = stagingBy (x .reply) (blockSize * c .used) staging
 
 -- the arena that the next request finds; it finds the same card, since no request makes another
 abbrev pub arenaAfter : Card → List ℕ → Request → List ℕ

@@ -4,6 +4,7 @@ use mathlib.Core.Bool.{Bool, true, false, cond, _&&_, _||_}
 use mathlib.Core.List.{List, [], _∷_}
 use lib.Dec.{ltb, eqb}
 use lib.ListN.{length, getD}
+use Rattle.byte_parts.specs.Sizes.{longestLine}
 use Rattle.byte_parts.specs.Part.{sameBytes}
 use Rattle.card_build.specs.Card.{systemOf}
 use Rattle.text_fields.specs.Field.{split}
@@ -109,5 +110,5 @@ laterLine fs =
 -- a line of at most 32,768 bytes, its fields parted by tabs (9)
 unfoldable pub imageLine : Bool → List ℕ → Line
 imageLine first s =
-    cond (ltb 32768 (length s)) Malformed
+    cond (ltb longestLine (length s)) Malformed
     (cond first (firstLine (split 9 s)) (laterLine (split 9 s)))

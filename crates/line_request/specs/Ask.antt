@@ -5,6 +5,7 @@ use mathlib.Core.Bool.{Bool, cond, _&&_, _||_}
 use mathlib.Core.List.{List}
 use lib.Dec.{ltb, eqb}
 use lib.ListN.{length, getD}
+use Rattle.byte_parts.specs.Sizes.{longestLine}
 use Rattle.text_fields.specs.Field.{split}
 use Rattle.text_numbers.specs.declared.decimals.Number.{Number}
 use Rattle.text_numbers.specs.declared.decimals.Number.the-variants.{Is, Bad}
@@ -53,4 +54,4 @@ countedAsk line (Is count) =
     cond (shaped 82 5 line) (Read (isOpen line) count) (cond (isWrite line) (Write (isOpen line) count) Malformed)
 
 unfoldable pub askOf : List ℕ → Ask
-askOf line = cond (ltb 32768 (length line)) Malformed (countedAsk line (countIn line))
+askOf line = cond (ltb longestLine (length line)) Malformed (countedAsk line (countIn line))

@@ -2,6 +2,7 @@
 use Prim.Native.Nat.{ℕ, _*_}
 use mathlib.Core.List.{List, [], _++_}
 use lib.ListN.{length}
+use Rattle.byte_parts.specs.Sizes.{blockSize}
 use Rattle.answers.specs.declared.refusal.Refusal.the-variants.{MalformedRequest}
 use Rattle.byte_parts.specs.Part.{put}
 use Rattle.text_numbers.specs.Hex.{unhex}
@@ -48,7 +49,7 @@ workBy size work served (Read «open» count) = outputAfter work served
 workBy size work served (Write «open» count) = stagingBy (served .reply) size work
 
 unfoldable pub workAfter : Card → List ℕ → List ℕ → List ℕ → List ℕ
-workAfter card arena work line = workBy (16 * card .used) work (lineServed card arena (length work) line) (askOf line)
+workAfter card arena work line = workBy (blockSize * card .used) work (lineServed card arena (length work) line) (askOf line)
 
 -- the bytes of list and data, one after the other
 abbrev pub spelledBy : List ℕ → Ask → List ℕ

@@ -9,10 +9,6 @@ use Rattle.line_serve.specs.Line.{lineServed}
 abbrev pub mostSpelled : ℕ
 mostSpelled = 16384
 
--- no answer line is longer: 8,192 bytes read are 16,384 digits
-abbrev pub mostPrinted : ℕ
-mostPrinted = 16448
-
 unfoldable pub requestText : Card → List ℕ → ℕ → List ℕ → ℕ → List ℕ
 requestText card arena room line ordinal =
     answerText ordinal (lineServed card arena room line .reply) (lineServed card arena room line .read)

@@ -1,5 +1,6 @@
 // Request lines, carried out on a card and answered.
 use answers::refusal::Refusal;
+use byte_parts::sizes::BLOCK_SIZE;
 use card_build::card::Card;
 use line_fields::put_field;
 use line_fields::read_codes;
@@ -11,13 +12,14 @@ use text_fields::Ends;
 ghost use mathlib.Core.Path.{_≡_};
 ghost use Prim.Native.Nat.{_+_, _≤_};
 ghost use lib.ListN.{length};
+ghost use Rattle.byte_parts.specs.Sizes.{mostPrinted};
 ghost use Rattle.text_fields.specs.Field.{endsOf};
 ghost use Rattle.request_plan.specs.Serve.{lengthRead};
 ghost use Rattle.line_request.specs.declared.Ask.the-variants.{Read, Write};
 ghost use Rattle.line_request.specs.Ask.{askOf};
 ghost use Rattle.text_stream.specs.Stream.{Written};
 ghost use Rattle.line_serve.specs.Line.{outcomeOf, lineServed, workAfter, spelledAfter};
-ghost use Rattle.line_serve.specs.Text.{mostSpelled, mostPrinted, requestText};
+ghost use Rattle.line_serve.specs.Text.{mostSpelled, requestText};
 
 // Carries out a read that a line asks. Seventeen codes are as good as all: more than sixteen are refused.
 fn read_asked(
@@ -80,7 +82,7 @@ fn length_read(reply: Reply, count: u32) -> usize
 {
     match reply {
         Reply::Refused(_) => 0,
-        Reply::Done => 16 * (count as usize),
+        Reply::Done => BLOCK_SIZE * (count as usize),
         Reply::ShortData => 0,
         Reply::Failed { index: _, fault: _ } => 0,
     }

@@ -6,12 +6,13 @@ use mathlib.Core.Path.{_≡_, refl, sym, ap, _∙_}
 use mathlib.Core.List.{List, [], _∷_, _++_}
 use lib.ListN.{length, getD, set, take, drop, replicate, length-append, length-take, length-replicate}
 use lib.Seq.{getD-drop, take-all, take-take, take-at, take-append-add, sets-eq}
+use Rattle.byte_parts.specs.Values.{Bytes}
 use Rattle.byte_parts.specs.Half.{halfBytes, halfAt}
 use Rattle.byte_parts.specs.Part.{put, padded}
 use Rattle.byte_parts.proofs.Put.{put-pair, put-snoc}
 use Rattle.byte_parts.proofs.Halves.{half-back, half-says}
 use Rattle.node_messages.specs.Numbers.{numbersBytes, numbersIn}
-use Rattle.node_messages.specs.Kept.{Halves, Bytes}
+use Rattle.node_messages.specs.Kept.{Halves}
 
 -- two bytes each
 pub length-bytes : (vs : List ℕ) → length (numbersBytes vs) ≡ 2 * length vs

@@ -9,13 +9,14 @@ use lib.Dec.{eqb}
 use lib.ListN.{length, getD, take, drop, length-append, length-drop, length-take, take-append-drop, List·getD-eq-default}
 use lib.Seq.{getD-at, drop-at, getD-take, getD-drop, take-at, take-all, split-at, drop-append-add}
 use borrow.Author.Tests.{le-leb, eq-eqb}
+use Rattle.byte_parts.specs.Values.{flagOf, Bytes}
 use Rattle.byte_parts.specs.Part.{padded}
 use Rattle.node_messages.specs.declared.code_list.CodeList.{CodeList}
 use Rattle.node_messages.specs.declared.information.BlockInformation.{BlockInformation}
 use Rattle.node_messages.specs.Numbers.{numbersBytes, numbersIn}
-use Rattle.node_messages.specs.CodeList.{flagOf, areasOf, servicesOf, rangesOf, codesListed, codeListBytes, areasIn, servicesIn, isCodeList, codeListIn, listTold, readCodeList}
+use Rattle.node_messages.specs.CodeList.{areasOf, servicesOf, rangesOf, codesListed, codeListBytes, areasIn, servicesIn, isCodeList, codeListIn, listTold, readCodeList}
 use Rattle.node_messages.specs.Information.{nodeCount, informationBytes, nodeCountIn, isInformation, informationIn, informationTold, readInformation}
-use Rattle.node_messages.specs.Kept.{Halves, Bytes, listKept, ListFits, ListWhole, informationKept, InformationFits, InformationWhole}
+use Rattle.node_messages.specs.Kept.{Halves, listKept, ListFits, ListWhole, informationKept, InformationFits, InformationWhole}
 use Rattle.node_messages.proofs.NumberLaws.{length-bytes, length-in, numbers-back, numbers-say, padded-front}
 use Rattle.node_messages.proofs.Writes.{ListSized, ranges-long, codes-long, InformationSized, assigned-long, free-long}
 use Rattle.node_messages.proofs.Takes.{list-bytes, information-bytes}

@@ -6,6 +6,7 @@ use mathlib.Core.Path.{_≡_, refl, sym, ap, _∙_}
 use mathlib.Core.List.{List, [], _∷_, _++_, append-assoc}
 use lib.ListN.{length, set, take, length-append, length-take}
 use borrow.Author.Tests.{lt-ltb, le-ltb}
+use Rattle.byte_parts.specs.Values.{flagOf}
 use Rattle.answers.specs.declared.refusal.Refusal.the-variants.{ShortOutput}
 use Rattle.byte_parts.specs.Part.{put}
 use Rattle.byte_parts.proofs.Part.{length-put}
@@ -16,7 +17,7 @@ use Rattle.node_messages.specs.declared.code_list.CodeList.{CodeList}
 use Rattle.node_messages.specs.declared.information.BlockInformation.{BlockInformation}
 use Rattle.node_messages.specs.Numbers.{numbersBytes}
 use Rattle.node_messages.specs.Message.{messagePut, messageAfter}
-use Rattle.node_messages.specs.CodeList.{flagOf, areasOf, servicesOf, rangesOf, codesListed, codeListBytes}
+use Rattle.node_messages.specs.CodeList.{areasOf, servicesOf, rangesOf, codesListed, codeListBytes}
 use Rattle.node_messages.specs.Information.{nodeCount, informationBytes}
 use Rattle.node_messages.proofs.NumberLaws.{length-bytes}
 

@@ -4,6 +4,7 @@ use mathlib.Core.List.{List, _∷_, _++_}
 use mathlib.Core.Bool.{Bool, true, false, cond, _&&_}
 use lib.Dec.{eqb, leb}
 use lib.ListN.{length, getD, take, drop, replicate}
+use Rattle.byte_parts.specs.Values.{flagOf}
 use Rattle.byte_parts.specs.Part.{padded}
 use Rattle.answers.specs.declared.refusal.Refusal.{Refusal}
 use Rattle.answers.specs.declared.refusal.Refusal.the-variants.{NotAMessage}
@@ -15,10 +16,6 @@ use Rattle.node_messages.specs.Numbers.{numbersBytes, numbersIn}
 -- the most entries of a packet, areas and services together
 abbrev pub mostEntries : ℕ
 mostEntries = 16
-
-abbrev pub flagOf : Bool → ℕ
-flagOf true = 1
-flagOf false = 0
 
 -- how many areas and services of a list are written: a list that counts more than sixteen entries is cut to them
 abbrev pub areasOf : CodeList → ℕ

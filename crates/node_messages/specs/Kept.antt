@@ -13,9 +13,6 @@ use Rattle.node_messages.specs.Information.{mostNodes, nodeCount}
 abbrev pub Halves : List ℕ → Type 0
 Halves vs = (i : ℕ) → getD vs i 0 < 2 ^ 16
 
-abbrev pub Bytes : List ℕ → Type 0
-Bytes s = (i : ℕ) → getD s i 0 < 2 ^ 8
-
 -- a code list cut to its sixteen entries, unused ones 0
 abbrev pub listKept : CodeList → CodeList
 listKept m = record { more = m .more; areas = areasOf m; ranges = padded 32 (rangesOf m); services = servicesOf m; codes = padded 16 (codesListed m) }

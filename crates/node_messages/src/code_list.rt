@@ -8,8 +8,9 @@ use byte_parts::spans;
 ghost use mathlib.Core.Path.{_≡_};
 ghost use Prim.Native.Nat.{_+_, _-_, _*_, _≤_, min};
 ghost use lib.ListN.{length, getD};
+ghost use Rattle.byte_parts.specs.Values.{flagOf};
 ghost use Rattle.node_messages.specs.Message.{messagePut, messageAfter};
-ghost use Rattle.node_messages.specs.CodeList.{mostEntries, emptyList, listRefused, flagOf, codeListBytes, isCounted, isCodeList, readCodeList};
+ghost use Rattle.node_messages.specs.CodeList.{mostEntries, emptyList, listRefused, codeListBytes, isCounted, isCodeList, readCodeList};
 
 // Whether more packets follow; how many areas this one has, with code and end of each; how many services, with their codes. Entries
 // past their count are 0.

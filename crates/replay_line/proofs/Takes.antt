@@ -5,6 +5,7 @@ use mathlib.Core.Path.{_≡_, refl, sym, ap, _∙_}
 use mathlib.Core.Bool.{Bool}
 use mathlib.Core.List.{List}
 use lib.ListN.{length}
+use Rattle.byte_parts.specs.Sizes.{mostPrinted}
 use Rattle.answers.specs.declared.refusal.Refusal.{Refusal}
 use Rattle.answers.specs.declared.refusal.Answer.{Answer}
 use Rattle.answers.specs.declared.refusal.Answer.the-variants as answers
@@ -13,7 +14,7 @@ use Rattle.text_stream.specs.Stream.{Written}
 use Rattle.text_stream.proofs.Prints.{written-none}
 use Rattle.line_build.specs.Image.{Imaged, imageStep}
 use Rattle.line_serve.specs.Line.{lineServed, workAfter, spelledAfter}
-use Rattle.line_serve.specs.Text.{mostPrinted, requestText}
+use Rattle.line_serve.specs.Text.{requestText}
 use Rattle.board_line.specs.Line.{boardLineText}
 use Rattle.replay_state.specs.declared.Phase.the-variants.{Image, Requests, Ended}
 use Rattle.replay_state.specs.declared.Replay.{Replay}

@@ -4,6 +4,7 @@ use mathlib.Core.List.{List, []}
 use mathlib.Core.Bool.{Bool, cond, not}
 use lib.Dec.{ltb, leb}
 use lib.ListN.{length}
+use Rattle.byte_parts.specs.Sizes.{blockSize}
 use Rattle.answers.specs.declared.refusal.Refusal.the-variants.{ShortArena, NoSuchBlock, NotBuilt}
 use Rattle.byte_parts.specs.Part.{part, put}
 use Rattle.answers.specs.declared.refusal.Answer.{Answer}
@@ -15,7 +16,7 @@ use Rattle.request_check.specs.Row.{rowOf}
 
 -- where a row's block lies in the arena
 abbrev pub blockPlace : Row → ℕ → ℕ
-blockPlace w number = 16 * (w .start + number)
+blockPlace w number = blockSize * (w .start + number)
 
 -- a row has no block of a number not below its count; an unknown service has none
 abbrev pub lacksBlock : Row → ℕ → Bool
@@ -25,7 +26,7 @@ lacksBlock w number = leb (w .blocks) number
 unfoldable pub blockJudged : Card → ℕ → ℕ → ℕ → Answer
 blockJudged c arenaLen code number =
     cond (not (isSound c)) (Refused NotBuilt)
-    (cond (ltb arenaLen (16 * c .used)) (Refused ShortArena)
+    (cond (ltb arenaLen (blockSize * c .used)) (Refused ShortArena)
     (cond (lacksBlock (rowOf (nodesOf c) code) number) (Refused NoSuchBlock)
     Done))
 

@@ -1,6 +1,7 @@
 // One stored block: as the caller's own arena bytes, and set.
 use answers::refusal::Answer;
 use answers::refusal::Refusal;
+use byte_parts::sizes::BLOCK_SIZE;
 use byte_parts::spans;
 use card_build::card::Card;
 use request_check::table;
@@ -15,7 +16,7 @@ pub fn judge_block(card: Card, arena_len: usize, code: u16, number: u32) -> Answ
     if !card.is_sound() {
         return Answer::Refused(Refusal::NotBuilt);
     }
-    if arena_len / 16 < card.used {
+    if arena_len / BLOCK_SIZE < card.used {
         return Answer::Refused(Refusal::ShortArena);
     }
     let nodes = card.nodes;
@@ -35,8 +36,8 @@ pub fn stored_block<'a>(card: Card, arena: &'a [u8], code: u16, number: u32) -> 
         Answer::Done => {
             let nodes = card.nodes;
             let own = table::row_of(nodes, card.count, code);
-            let at = 16 * (own.start as usize + number as usize);
-            &arena[at..at + 16]
+            let at = BLOCK_SIZE * (own.start as usize + number as usize);
+            &arena[at..at + BLOCK_SIZE]
         }
     }
 }
@@ -51,7 +52,7 @@ pub fn set_block(card: Card, arena: &mut [u8], code: u16, number: u32, block: [u
         Answer::Done => {
             let nodes = card.nodes;
             let own = table::row_of(nodes, card.count, code);
-            let at = 16 * (own.start as usize + number as usize);
+            let at = BLOCK_SIZE * (own.start as usize + number as usize);
             spans::copy(arena, at, &block, 0, 16);
             Answer::Done
         }

@@ -4,6 +4,7 @@ use mathlib.Core.List.{List}
 use mathlib.Core.Bool.{Bool, cond, not}
 use lib.Dec.{ltb}
 use lib.ListN.{length}
+use Rattle.byte_parts.specs.Sizes.{mostElements, mostCodes, blockSize}
 use Rattle.block_list.specs.declared.element.BlockListElement.{BlockListElement}
 use Rattle.answers.specs.declared.refusal.Refusal.the-variants.{TooManyElements, TooManyCodes, ListLength, ShortStaging, ShortOutput, ShortArena, NotBuilt}
 use Rattle.answers.specs.declared.refusal.Answer.{Answer}
@@ -36,14 +37,6 @@ rowsIn c r = rowsOf (nodesOf c) (r .codes)
 abbrev pub elementsIn : Request → List BlockListElement
 elementsIn r = elementsFrom (r .list) (r .count) 0
 
--- more elements are refusal 1
-abbrev pub mostElements : ℕ
-mostElements = 512
-
--- more codes are refusal 2
-abbrev pub mostCodes : ℕ
-mostCodes = 16
-
 -- 1, 2, 3
 unfoldable pub boundsJudged : List ℕ → Sizes → Answer
 boundsJudged list n =
@@ -55,20 +48,20 @@ boundsJudged list n =
 -- 4 (staging: 16 bytes per block in use), then FF AC (data: 16 bytes per element)
 unfoldable pub writeJudged : Sizes → Judged
 writeJudged n =
-    cond (ltb (n .room) (16 * n .used)) (NotFit ShortStaging)
-    (cond (ltb (n .«data») (16 * n .count)) NoData
+    cond (ltb (n .room) (blockSize * n .used)) (NotFit ShortStaging)
+    (cond (ltb (n .«data») (blockSize * n .count)) NoData
     Fit)
 
 -- 5 (output: 16 bytes per element)
 unfoldable pub readJudged : Sizes → Judged
 readJudged n =
-    cond (ltb (n .room) (16 * n .count)) (NotFit ShortOutput)
+    cond (ltb (n .room) (blockSize * n .count)) (NotFit ShortOutput)
     Fit
 
 -- 7, then what is lent to a write or a read
 unfoldable pub lentJudged : Bool → Sizes → Judged
 lentJudged write n =
-    cond (ltb (n .arena) (16 * n .used)) (NotFit ShortArena)
+    cond (ltb (n .arena) (blockSize * n .used)) (NotFit ShortArena)
     (cond write (writeJudged n) (readJudged n))
 
 -- 8, 1, 2, 3, 7, then what is lent to a write or a read; of the card it is asked whether it is sound and how many blocks are in use
@@ -78,7 +71,7 @@ judgedWith sound write list n =
     (cond (ltb mostElements (n .count)) (NotFit TooManyElements)
     (cond (ltb mostCodes (n .codes)) (NotFit TooManyCodes)
     (cond (not (endsAfter list (n .count))) (NotFit ListLength)
-    (cond (ltb (n .arena) (16 * n .used)) (NotFit ShortArena)
+    (cond (ltb (n .arena) (blockSize * n .used)) (NotFit ShortArena)
     (cond write (writeJudged n) (readJudged n))))))
 
 -- how a request is judged on an arena of so many bytes

@@ -3,6 +3,7 @@ use Prim.Native.Nat.{ℕ, _*_}
 use mathlib.Core.List.{List, [], _∷_, _++_}
 use mathlib.Core.Bool.{Bool, true, false}
 use lib.ListN.{length, take, replicate}
+use Rattle.byte_parts.specs.Sizes.{blockSize}
 use Rattle.block_list.specs.declared.element.BlockListElement.{BlockListElement}
 use Rattle.byte_parts.specs.Part.{part, put}
 use Rattle.card_build.specs.declared.card.Card.{Card}
@@ -27,12 +28,12 @@ answeredOnly a x = record { reply = x; read = []; arena = a }
 
 -- the bytes of a row's store
 abbrev pub storeIn : List ℕ → Row → List ℕ
-storeIn a w = part a (16 * w .start) (16 * w .blocks)
+storeIn a w = part a (blockSize * w .start) (blockSize * w .blocks)
 
 -- the blocks that the elements name, one after the other
 unfoldable pub blocksRead : List Row → List ℕ → List BlockListElement → List ℕ
 blocksRead rows a [] = []
-blocksRead rows a (e ∷ es) = part (storeIn a (rowIn rows e)) (16 * e .number) 16 ++ blocksRead rows a es
+blocksRead rows a (e ∷ es) = part (storeIn a (rowIn rows e)) (blockSize * e .number) 16 ++ blocksRead rows a es
 
 -- the staged stores go into the arena only if every run passed; else the first failing run answers
 unfoldable pub committed : ℕ → List ℕ → Walked (List ℕ) → Served
@@ -47,7 +48,7 @@ carried false rows size d a es = record { reply = Done; read = blocksRead rows a
 -- a request, once its plan is settled
 abbrev pub planServed : Card → List ℕ → Request → Plan → Served
 planServed c a r (stop x) = answeredOnly a x
-planServed c a r (go es) = carried (r .write) (rowsIn c r) (16 * c .used) (r .«data») a es
+planServed c a r (go es) = carried (r .write) (rowsIn c r) (blockSize * c .used) (r .«data») a es
 
 -- a whole request, on a card and an arena
 unfoldable pub serve : Card → List ℕ → Request → Served
@@ -56,7 +57,7 @@ serve c a r = planServed c a r (planOf c (length a) r)
 -- how many bytes a read puts out: sixteen for each element, if it is carried out
 abbrev pub lengthRead : Reply → ℕ → ℕ
 lengthRead (Refused r) count = 0
-lengthRead Done count = 16 * count
+lengthRead Done count = blockSize * count
 lengthRead ShortData count = 0
 lengthRead (Failed i f) count = 0
 

@@ -9,12 +9,13 @@ use byte_parts::sizes::MOST_CODES;
 use byte_parts::sizes::MOST_ELEMENTS;
 ghost use mathlib.Core.Path.{_≡_};
 ghost use mathlib.Core.Bool.{cond, not};
+ghost use Rattle.byte_parts.specs.Sizes.{mostElements, mostCodes, blockSize};
 ghost use Rattle.answers.specs.Refusal.{refusalNumber};
 ghost use Rattle.block_list.specs.Element.{endsAfter};
 ghost use Rattle.request_plan.specs.Request.{flag1In, flag2In, responseOf, causeIn};
 ghost use Prim.Native.Nat.{_*_};
 ghost use lib.Dec.{ltb};
-ghost use Rattle.request_plan.specs.Plan.{mostElements, mostCodes, boundsJudged, writeJudged, readJudged, lentJudged, judgedWith};
+ghost use Rattle.request_plan.specs.Plan.{boundsJudged, writeJudged, readJudged, lentJudged, judgedWith};
 
 // The reply to a request. Only `Done` is a request carried out.
 pub enum Reply {
@@ -125,7 +126,7 @@ fn many_codes(codes: usize) -> bool
 
 // Tells whether so many bytes are too few for a number of blocks.
 fn too_short(bytes: usize, blocks: usize) -> bool
-    ensures { λ r. ⌜ r ≡ ltb bytes (16 * blocks) ⌝ }
+    ensures { λ r. ⌜ r ≡ ltb bytes (blockSize * blocks) ⌝ }
 {
     bytes / BLOCK_SIZE < blocks
 }
@@ -155,7 +156,7 @@ fn bounds_judged(list: &[u8], sizes: Sizes) -> Answer
 
 // Whether a write has data for each of its elements.
 fn data_judged(sizes: Sizes) -> Judged
-    ensures { λ r. ⌜ r ≡ cond (ltb (sizes .«data») (16 * sizes .count)) Judged.ShortData Judged.Fit ⌝ }
+    ensures { λ r. ⌜ r ≡ cond (ltb (sizes .«data») (blockSize * sizes .count)) Judged.ShortData Judged.Fit ⌝ }
 {
     if too_short(sizes.data, sizes.count) {
         return Judged::ShortData; // FF AC, ahead of all elements

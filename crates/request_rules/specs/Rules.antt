@@ -3,6 +3,7 @@ use Prim.Native.Nat.{ℕ, _*_}
 use mathlib.Core.List.{List}
 use mathlib.Core.Bool.{cond}
 use lib.Dec.{eqb}
+use Rattle.byte_parts.specs.Sizes.{blockSize}
 use Rattle.service_code.specs.declared.code.Decoded.{Decoded}
 use Rattle.service_code.specs.declared.code.Decoded.the-variants.{Defined, Undefined}
 use Rattle.service_code.specs.declared.code.ServiceAttribute.the-variants.{RandomReadWrite, RandomReadOnly, CyclicReadWrite, CyclicReadOnly, PurseDirect, PurseCashback, PurseDecrement, PurseReadOnly}
@@ -21,7 +22,7 @@ use Rattle.request_rules.specs.Lens.{within}
 
 -- a block of a purse store
 abbrev pub purseIn : PurseOperation → Limit → ℕ → List ℕ → List ℕ → Outcome
-purseIn operation limit number block store = within (16 * number) 16 (λ b. purseApplied operation limit b block) store
+purseIn operation limit number block store = within (blockSize * number) 16 (λ b. purseApplied operation limit b block) store
 
 -- a cashback service in mode 1 gives cashback, in mode 0 it decrements
 unfoldable pub cashbackIn : ℕ → PurseOperation
@@ -34,7 +35,7 @@ cyclicElement number = cond (eqb number 0) Done (Failed CyclicBlock)
 -- One element with its sixteen bytes. Random: the block is replaced. Cyclic: it must name block 0, and the run's end does the rest.
 -- Purse: by the attribute, and for cashback by the mode too.
 unfoldable pub elementBy : Decoded → Limit → ℕ → ℕ → List ℕ → List ℕ → Outcome
-elementBy (Defined RandomReadWrite) limit number mode block store = passed (put store (16 * number) 16 block)
+elementBy (Defined RandomReadWrite) limit number mode block store = passed (put store (blockSize * number) 16 block)
 elementBy (Defined RandomReadOnly) limit number mode block store = failed ReadOnly
 elementBy (Defined CyclicReadWrite) limit number mode block store = cond (eqb number 0) (passed store) (failed CyclicBlock)
 elementBy (Defined CyclicReadOnly) limit number mode block store = failed ReadOnly
@@ -58,4 +59,4 @@ endBy Undefined run store = passed store
 
 -- a rule on a row's store among the staged ones
 unfoldable pub onStore : Row → (List ℕ → Outcome) → List ℕ → Outcome
-onStore w rule stage = within (16 * w .start) (16 * w .blocks) rule stage
+onStore w rule stage = within (blockSize * w .start) (blockSize * w .blocks) rule stage

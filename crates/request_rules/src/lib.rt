@@ -1,6 +1,7 @@
 // What an element, and the end of a run, do to one store; and to that store where it lies in the stage.
 use answers::status::Fault;
 use answers::status::Written;
+use byte_parts::sizes::BLOCK_SIZE;
 use byte_parts::spans;
 use request_check::table::Row;
 use rule_purse::bytes;
@@ -11,6 +12,7 @@ use service_code::limit::Limit;
 ghost use mathlib.Core.Path.{_≡_};
 ghost use Prim.Native.Nat.{_+_, _*_, _≤_};
 ghost use lib.ListN.{length};
+ghost use Rattle.byte_parts.specs.Sizes.{blockSize};
 ghost use Rattle.answers.specs.Outcome.{writtenOf, bytesAfter};
 ghost use Rattle.request_rules.specs.Rules.{purseIn, cashbackIn, cyclicElement, elementBy, endBy, onStore};
 
@@ -22,12 +24,12 @@ fn purse_in(
     limit: Limit,
     number: u16,
 ) -> Written
-    requires { ⌜ (16 * number + 16 ≤ length (now store)) × (16 ≤ length (now block)) ⌝ }
+    requires { ⌜ (blockSize * number + blockSize ≤ length (now store)) × (16 ≤ length (now block)) ⌝ }
     ensures { λ r. ⌜ r ≡ writtenOf (purseIn operation limit number (now (block .entry)) (now (store .entry))) ⌝ }
     ensures { λ r. ⌜ now (store .exit) ≡ bytesAfter (now (store .entry)) (purseIn operation limit number (now (block .entry)) (now (store .entry))) ⌝ }
 {
-    let at = 16 * (number as usize);
-    bytes::apply_purse_write(&mut store[at..at + 16], block, operation, limit)
+    let at = BLOCK_SIZE * (number as usize);
+    bytes::apply_purse_write(&mut store[at..at + BLOCK_SIZE], block, operation, limit)
 }
 
 // Gives what a cashback service does in an access mode: in mode 1 cashback, else a decrement.
@@ -62,13 +64,13 @@ fn element_by(
     number: u16,
     mode: u8,
 ) -> Written
-    requires { ⌜ (16 * number + 16 ≤ length (now store)) × (16 ≤ length (now block)) ⌝ }
+    requires { ⌜ (blockSize * number + blockSize ≤ length (now store)) × (16 ≤ length (now block)) ⌝ }
     ensures { λ r. ⌜ r ≡ writtenOf (elementBy (Decoded.Defined attribute) limit number mode (now (block .entry)) (now (store .entry))) ⌝ }
     ensures { λ r. ⌜ now (store .exit) ≡ bytesAfter (now (store .entry)) (elementBy (Decoded.Defined attribute) limit number mode (now (block .entry)) (now (store .entry))) ⌝ }
 {
     match attribute {
         ServiceAttribute::RandomReadWrite => {
-            spans::copy(store, 16 * (number as usize), block, 0, 16);
+            spans::copy(store, BLOCK_SIZE * (number as usize), block, 0, 16);
             Written::Done
         }
         ServiceAttribute::RandomReadOnly => Written::Failed(Fault::ReadOnly),
@@ -89,19 +91,19 @@ fn element_by(
 
 // Gives where a row's store begins in the stage.
 fn place_of(row: Row) -> usize
-    ensures { λ r. ⌜ r ≡ 16 * row .start ⌝ }
+    ensures { λ r. ⌜ r ≡ blockSize * row .start ⌝ }
 {
-    16 * (row.start as usize)
+    BLOCK_SIZE * (row.start as usize)
 }
 
 // Carries out one element where its row's store lies in the stage.
 pub fn element_on(stage: &mut [u8], block: &[u8], row: Row, number: u16, mode: u8) -> Written
-    requires { ⌜ (16 * row .start + 16 * row .blocks ≤ length (now stage)) × (16 * number + 16 ≤ 16 * row .blocks) × (16 ≤ length (now block)) ⌝ }
+    requires { ⌜ (blockSize * row .start + blockSize * row .blocks ≤ length (now stage)) × (blockSize * number + blockSize ≤ blockSize * row .blocks) × (16 ≤ length (now block)) ⌝ }
     ensures { λ r. ⌜ r ≡ writtenOf (onStore row (elementBy (row .attribute) (row .limit) number mode (now (block .entry))) (now (stage .entry))) ⌝ }
     ensures { λ r. ⌜ now (stage .exit) ≡ bytesAfter (now (stage .entry)) (onStore row (elementBy (row .attribute) (row .limit) number mode (now (block .entry))) (now (stage .entry))) ⌝ }
 {
     let at = place_of(row);
-    let end = at + 16 * (row.blocks as usize);
+    let end = at + BLOCK_SIZE * (row.blocks as usize);
     let decoded = row.attribute;
     let limit = row.limit;
     match decoded {
@@ -131,12 +133,12 @@ fn end_by(store: &mut [u8], run: &[u8], attribute: ServiceAttribute) -> Written
 
 // Ends a run where its row's store lies in the stage.
 pub fn end_on(stage: &mut [u8], run: &[u8], row: Row) -> Written
-    requires { ⌜ 16 * row .start + 16 * row .blocks ≤ length (now stage) ⌝ }
+    requires { ⌜ blockSize * row .start + blockSize * row .blocks ≤ length (now stage) ⌝ }
     ensures { λ r. ⌜ r ≡ writtenOf (onStore row (endBy (row .attribute) (now (run .entry))) (now (stage .entry))) ⌝ }
     ensures { λ r. ⌜ now (stage .exit) ≡ bytesAfter (now (stage .entry)) (onStore row (endBy (row .attribute) (now (run .entry))) (now (stage .entry))) ⌝ }
 {
     let at = place_of(row);
-    let end = at + 16 * (row.blocks as usize);
+    let end = at + BLOCK_SIZE * (row.blocks as usize);
     let decoded = row.attribute;
     match decoded {
         Decoded::Defined(attribute) => end_by(&mut stage[at..end], run, attribute),

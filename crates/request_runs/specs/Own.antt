@@ -3,6 +3,7 @@ use Prim.Native.Nat.{ℕ, _*_}
 use mathlib.Core.List.{List}
 use mathlib.Core.Bool.{cond}
 use lib.Dec.{eqb}
+use Rattle.byte_parts.specs.Sizes.{blockSize}
 use Rattle.block_list.specs.declared.element.BlockListElement.{BlockListElement}
 use Rattle.byte_parts.specs.Part.{part}
 use Rattle.request_check.specs.declared.table.Row.{Row}
@@ -15,13 +16,13 @@ use Rattle.request_runs.specs.Staged.{atIndex}
 abbrev pub ownElement : List Row → List ℕ → ℕ → ℕ → BlockListElement → List ℕ → Walked (List ℕ)
 ownElement rows d n i e store =
     cond (eqb (numberIn rows e) n)
-    (atIndex i (elementBy (rowIn rows e .attribute) (rowIn rows e .limit) (e .number) (e .mode) (part d (16 * i) 16) store))
+    (atIndex i (elementBy (rowIn rows e .attribute) (rowIn rows e .limit) (e .number) (e .mode) (part d (blockSize * i) 16) store))
     (good store)
 
 -- the end of a run of m elements, of which e is the first, of index i
 abbrev pub ownEnd : List Row → List ℕ → ℕ → ℕ → BlockListElement → ℕ → List ℕ → Walked (List ℕ)
 ownEnd rows d n i e m store =
-    cond (eqb (numberIn rows e) n) (atIndex i (endBy (rowIn rows e .attribute) (part d (16 * i) (16 * m)) store)) (good store)
+    cond (eqb (numberIn rows e) n) (atIndex i (endBy (rowIn rows e .attribute) (part d (blockSize * i) (blockSize * m)) store)) (good store)
 
 -- the runs of the number n among those of a write
 unfoldable pub ownRuns : List Row → List ℕ → ℕ → List BlockListElement → List ℕ → Walked (List ℕ)

@@ -4,12 +4,14 @@ use answers::status::Written;
 use block_list::element;
 use block_list::element::BlockListElement;
 use block_list::element::Unpacked;
+use byte_parts::sizes::BLOCK_SIZE;
 use request_check::table::Row;
 use request_check::table::Table;
 use service_code::code::ServiceCode;
 ghost use mathlib.Core.Path.{_≡_};
 ghost use Prim.Native.Nat.{_+_, _*_, _≤_};
 ghost use lib.ListN.{length, take};
+ghost use Rattle.byte_parts.specs.Sizes.{blockSize};
 ghost use Rattle.service_code.specs.Code.{numberOf};
 ghost use Rattle.block_list.specs.Element.{elementsFrom};
 ghost use Rattle.request_runs.specs.Staged.{carriedOn, closedOn, staged};
@@ -30,10 +32,10 @@ fn number_of(row: Row) -> u16
 
 // Carries out an element, number `i` of its list, on the store of its row, with its own sixteen bytes of the data.
 fn carry_element(stage: &mut [u8], data: &[u8], row: Row, i: usize, e: BlockListElement) -> Applied
-    requires { ⌜ (16 * i + 16 ≤ length (now «data»)) × (16 * row .start + 16 * row .blocks ≤ length (now stage)) × (16 * e .number + 16 ≤ 16 * row .blocks) ⌝ }
+    requires { ⌜ (blockSize * i + blockSize ≤ length (now «data»)) × (blockSize * row .start + blockSize * row .blocks ≤ length (now stage)) × (blockSize * e .number + blockSize ≤ blockSize * row .blocks) ⌝ }
     ensures { λ r. ⌜ carriedOn row (now («data» .entry)) i e (now (stage .entry)) ≡ walkedTo r (now (stage .exit)) ⌝ }
 {
-    let block = &data[16 * i..16 * i + 16];
+    let block = &data[BLOCK_SIZE * i..16 * i + 16];
     if let Written::Failed(fault) = request_rules::element_on(stage, block, row, e.number, e.mode) {
         return Applied::Failed { index: i, fault };
     }
@@ -42,10 +44,10 @@ fn carry_element(stage: &mut [u8], data: &[u8], row: Row, i: usize, e: BlockList
 
 // Ends the run of the elements `from` up to `end` on the store of its row: AF is told at the run's first element.
 fn close_run(stage: &mut [u8], data: &[u8], row: Row, from: usize, end: usize) -> Applied
-    requires { ⌜ (from ≤ end) × (16 * end ≤ length (now «data»)) × (16 * row .start + 16 * row .blocks ≤ length (now stage)) ⌝ }
+    requires { ⌜ (from ≤ end) × (blockSize * end ≤ length (now «data»)) × (blockSize * row .start + blockSize * row .blocks ≤ length (now stage)) ⌝ }
     ensures { λ r. ⌜ closedOn row (now («data» .entry)) from end (now (stage .entry)) ≡ walkedTo r (now (stage .exit)) ⌝ }
 {
-    let run = &data[16 * from..16 * end];
+    let run = &data[BLOCK_SIZE * from..16 * end];
     if let Written::Failed(fault) = request_rules::end_on(stage, run, row) {
         return Applied::Failed { index: from, fault };
     }
@@ -55,7 +57,7 @@ fn close_run(stage: &mut [u8], data: &[u8], row: Row, from: usize, end: usize) -
 // Carries out the counted elements of a list on the staged stores, run by run: each element as it comes, then the run's end.
 // The first failure stops it, and of the stage nothing is said then.
 pub fn apply(stage: &mut [u8], table: Table, list: &[u8], count: usize, data: &[u8]) -> Applied
-    requires { ⌜ (16 * count ≤ length (now «data»)) × AllReady (take (table .count) (table .rows)) (length (now stage)) (elementsFrom (now list) count 0) ⌝ }
+    requires { ⌜ (blockSize * count ≤ length (now «data»)) × AllReady (take (table .count) (table .rows)) (length (now stage)) (elementsFrom (now list) count 0) ⌝ }
     ensures { λ r. ⌜ staged (take (table .count) (table .rows)) (now («data» .entry)) (elementsFrom (now (list .entry)) count 0) (now (stage .entry)) ≡ walkedTo r (now (stage .exit)) ⌝ }
 {
     let mut ended = Applied::Done;

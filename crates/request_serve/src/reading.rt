@@ -2,6 +2,7 @@
 use block_list::element;
 use block_list::element::BlockListElement;
 use block_list::element::Unpacked;
+use byte_parts::sizes::BLOCK_SIZE;
 use byte_parts::spans;
 use card_build::card::Card;
 use request_check::check;
@@ -15,6 +16,7 @@ use request_plan::Sizes;
 ghost use mathlib.Core.Path.{_≡_};
 ghost use Prim.Native.Nat.{_+_, _*_, _≤_};
 ghost use lib.ListN.{length, take};
+ghost use Rattle.byte_parts.specs.Sizes.{blockSize};
 ghost use Rattle.block_list.specs.Element.{elementsFrom};
 ghost use Rattle.byte_parts.specs.Part.{put};
 ghost use Rattle.request_runs.specs.Ready.{AllReady};
@@ -23,14 +25,14 @@ ghost use Rattle.request_plan.specs.Serve.{blocksRead, serve, outputAfter};
 
 // Gives where the block that an element names in its row's store stands in the arena.
 fn block_at(row: Row, e: BlockListElement) -> usize
-    ensures { λ r. ⌜ r ≡ 16 * row .start + 16 * e .number ⌝ }
+    ensures { λ r. ⌜ r ≡ blockSize * row .start + blockSize * e .number ⌝ }
 {
-    16 * (row.start as usize) + 16 * (e.number as usize)
+    BLOCK_SIZE * (row.start as usize) + BLOCK_SIZE * (e.number as usize)
 }
 
 // Copies the blocks that the elements name to the front of the output.
 fn copy_blocks(out: &mut [u8], arena: &[u8], table: Table, list: &[u8], count: usize)
-    requires { ⌜ (16 * count ≤ length (now out)) × AllReady (take (table .count) (table .rows)) (length (now arena)) (elementsFrom (now list) count 0) ⌝ }
+    requires { ⌜ (blockSize * count ≤ length (now out)) × AllReady (take (table .count) (table .rows)) (length (now arena)) (elementsFrom (now list) count 0) ⌝ }
     ensures { λ _. ⌜ now (out .exit) ≡ put (now (out .entry)) 0 (length (blocksRead (take (table .count) (table .rows)) (now (arena .entry)) (elementsFrom (now (list .entry)) count 0))) (blocksRead (take (table .count) (table .rows)) (now (arena .entry)) (elementsFrom (now (list .entry)) count 0)) ⌝ }
 {
     let mut at = 0;
@@ -41,7 +43,7 @@ fn copy_blocks(out: &mut [u8], arena: &[u8], table: Table, list: &[u8], count: u
         };
         let own = table.rows[e.index as usize];
         let from = block_at(own, e);
-        spans::copy(out, 16 * i, arena, from, 16);
+        spans::copy(out, BLOCK_SIZE * i, arena, from, 16);
         at = next;
         i += 1;
     }

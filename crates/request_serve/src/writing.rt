@@ -1,5 +1,6 @@
 // Writing: all elements are checked, then the runs work on the stores that the codes name, staged, which are committed
 // only if every run passes.
+use byte_parts::sizes::BLOCK_SIZE;
 use byte_parts::spans;
 use card_build::card::Card;
 use request_check::check;
@@ -14,6 +15,7 @@ use request_runs::run::Applied;
 ghost use mathlib.Core.Path.{_≡_};
 ghost use Prim.Native.Nat.{_*_, _≤_};
 ghost use lib.ListN.{length, take, drop};
+ghost use Rattle.byte_parts.specs.Sizes.{blockSize};
 ghost use Rattle.block_list.specs.Element.{elementsFrom};
 ghost use Rattle.request_runs.specs.Staged.{staged};
 ghost use Rattle.request_runs.specs.Ready.{AllReady};
@@ -31,8 +33,8 @@ fn copy_stores(to: &mut [u8], from: &[u8], table: Table)
     let mut i = 0;
     while i < table.count {
         let row = table.rows[i];
-        let at = 16 * (row.start as usize);
-        spans::copy(to, at, from, at, 16 * (row.blocks as usize));
+        let at = BLOCK_SIZE * (row.start as usize);
+        spans::copy(to, at, from, at, BLOCK_SIZE * (row.blocks as usize));
         i += 1;
     }
 }
@@ -48,7 +50,7 @@ fn carry_out(
     count: usize,
     data: &[u8],
 ) -> Reply
-    requires { ⌜ (size ≤ length (now arena)) × (size ≤ length (now staging)) × (16 * count ≤ length (now «data»)) × AllReady (take (table .count) (table .rows)) size (elementsFrom (now list) count 0) × (table .count ≤ 16) × AllIn (take (table .count) (table .rows)) size ⌝ }
+    requires { ⌜ (size ≤ length (now arena)) × (size ≤ length (now staging)) × (blockSize * count ≤ length (now «data»)) × AllReady (take (table .count) (table .rows)) size (elementsFrom (now list) count 0) × (table .count ≤ 16) × AllIn (take (table .count) (table .rows)) size ⌝ }
     ensures { λ r. ⌜ (let x = committed size (now (arena .entry)) (staged (take (table .count) (table .rows)) (now («data» .entry)) (elementsFrom (now (list .entry)) count 0) (take size (now (arena .entry)))) in (r ≡ x .reply) × ((now (arena .exit) ≡ x .arena) × (drop size (now (staging .exit)) ≡ drop size (now (staging .entry))))) ⌝ }
 {
     copy_stores(staging, arena, table);
@@ -73,13 +75,21 @@ fn checked_write(
     data: &[u8],
 ) -> Reply
     requires { ⌜ judgedOf card (length (now arena)) (writeRequest «open» (now codes) count (now list) (now «data») (length (now staging))) ≡ Fit ⌝ }
-    ensures { λ r. ⌜ (let x = serve card (now (arena .entry)) (writeRequest «open» (now (codes .entry)) count (now (list .entry)) (now («data» .entry)) (length (now (staging .entry)))) in (r ≡ x .reply) × ((now (arena .exit) ≡ x .arena) × (drop (16 * card .used) (now (staging .exit)) ≡ drop (16 * card .used) (now (staging .entry))))) ⌝ }
+    ensures { λ r. ⌜ (let x = serve card (now (arena .entry)) (writeRequest «open» (now (codes .entry)) count (now (list .entry)) (now («data» .entry)) (length (now (staging .entry)))) in (r ≡ x .reply) × ((now (arena .exit) ≡ x .arena) × (drop (blockSize * card .used) (now (staging .exit)) ≡ drop (blockSize * card .used) (now (staging .entry))))) ⌝ }
 {
     let nodes = card.nodes;
     let table = table::table_of(nodes, card.count, codes);
     match check::check_all(table, true, open, list, count) {
         Checked::Failed { index, fault } => Reply::Failed { index, fault },
-        Checked::Passed => carry_out(arena, staging, 16 * card.used, table, list, count, data),
+        Checked::Passed => carry_out(
+            arena,
+            staging,
+            BLOCK_SIZE * card.used,
+            table,
+            list,
+            count,
+            data,
+        ),
     }
 }
 
@@ -95,10 +105,10 @@ fn wiped_write(
     data: &[u8],
 ) -> Reply
     requires { ⌜ judgedOf card (length (now arena)) (writeRequest «open» (now codes) count (now list) (now «data») (length (now staging))) ≡ Fit ⌝ }
-    ensures { λ r. ⌜ (let x = serve card (now (arena .entry)) (writeRequest «open» (now (codes .entry)) count (now (list .entry)) (now («data» .entry)) (length (now (staging .entry)))) in (r ≡ x .reply) × ((now (arena .exit) ≡ x .arena) × (now (staging .exit) ≡ stagingBy (x .reply) (16 * card .used) (now (staging .entry))))) ⌝ }
+    ensures { λ r. ⌜ (let x = serve card (now (arena .entry)) (writeRequest «open» (now (codes .entry)) count (now (list .entry)) (now («data» .entry)) (length (now (staging .entry)))) in (r ≡ x .reply) × ((now (arena .exit) ≡ x .arena) × (now (staging .exit) ≡ stagingBy (x .reply) (blockSize * card .used) (now (staging .entry))))) ⌝ }
 {
     let reply = checked_write(card, arena, staging, open, codes, list, count, data);
-    spans::zero(staging, 0, 16 * card.used); // wherever a store was staged
+    spans::zero(staging, 0, BLOCK_SIZE * card.used); // wherever a store was staged
     reply
 }
 
@@ -115,7 +125,7 @@ pub fn write(
     list: &[u8],
     data: &[u8],
 ) -> Reply
-    ensures { λ r. ⌜ (let x = serve card (now (arena .entry)) (writeRequest «open» (now (codes .entry)) count (now (list .entry)) (now («data» .entry)) (length (now (staging .entry)))) in (r ≡ x .reply) × ((now (arena .exit) ≡ x .arena) × (now (staging .exit) ≡ stagingBy r (16 * card .used) (now (staging .entry))))) ⌝ }
+    ensures { λ r. ⌜ (let x = serve card (now (arena .entry)) (writeRequest «open» (now (codes .entry)) count (now (list .entry)) (now («data» .entry)) (length (now (staging .entry)))) in (r ≡ x .reply) × ((now (arena .exit) ≡ x .arena) × (now (staging .exit) ≡ stagingBy r (blockSize * card .used) (now (staging .entry))))) ⌝ }
 {
     let sound = card.is_sound();
     let sizes = Sizes {
@@ -129,7 +139,7 @@ pub fn write(
     match request_plan::judge(sound, true, list, sizes) {
         Judged::Refused(refusal) => Reply::Refused(refusal),
         Judged::ShortData => {
-            spans::zero(staging, 0, 16 * card.used); // as after every status pair
+            spans::zero(staging, 0, BLOCK_SIZE * card.used); // as after every status pair
             Reply::ShortData
         }
         Judged::Fit => {
