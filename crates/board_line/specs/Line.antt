@@ -5,6 +5,7 @@ use mathlib.Core.Bool.{Bool, cond, _&&_}
 use mathlib.Core.List.{List, []}
 use lib.Dec.{ltb, eqb}
 use lib.ListN.{length}
+use Rattle.byte_parts.specs.Letters.{tab}
 use Rattle.byte_parts.specs.Sizes.{longestLine}
 use Rattle.answers.specs.declared.refusal.Refusal.the-variants.{MalformedRequest}
 use Rattle.text_fields.specs.Field.{split}
@@ -29,7 +30,7 @@ boardLine line = isLetter 76 (fieldIn line 0)
 unfoldable pub boardCode : List ℕ → Code
 boardCode line =
     cond (ltb longestLine (length line)) Bad
-    (cond (boardLine line && eqb (length (split 9 line)) 2) (hex16 (fieldIn line 1)) Bad)
+    (cond (boardLine line && eqb (length (split tab line)) 2) (hex16 (fieldIn line 1)) Bad)
 
 -- eight lines of the blocks read; or one line, with the ordinal: a refusal of the board's own, or the card's answer
 abbrev pub refreshedText : ℕ → List ℕ → Refreshed → List ℕ

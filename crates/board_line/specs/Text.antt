@@ -1,14 +1,15 @@
 -- The board as it is printed: eight lines.
 use Prim.Native.Nat.{ℕ, _+_}
 use mathlib.Core.List.{List, [], _∷_, _++_}
+use Rattle.byte_parts.specs.Letters.{dash, lf, tab}
 use Rattle.text_numbers.specs.Decimal.{decText}
 use Rattle.text_print.specs.Print.{closed}
 use Rattle.board_lanes.specs.Board.{Lane, empty, filled}
 
 -- lane, race and crew, parted by tabs (9) and ended by LF (10); an empty lane has `-` (45) twice
 abbrev pub laneText : ℕ → Lane → List ℕ
-laneText number empty = closed 9 (decText number) ++ closed 9 (45 ∷ []) ++ closed 10 (45 ∷ [])
-laneText number (filled race crew) = closed 9 (decText number) ++ closed 9 (decText race) ++ closed 10 crew
+laneText number empty = closed tab (decText number) ++ closed tab (dash ∷ []) ++ closed lf (dash ∷ [])
+laneText number (filled race crew) = closed tab (decText number) ++ closed tab (decText race) ++ closed lf crew
 
 -- lane after lane, from a number on
 unfoldable pub lanesText : ℕ → List Lane → List ℕ

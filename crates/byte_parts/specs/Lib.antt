@@ -3,3 +3,4 @@ pub mod Sizes
 pub mod Word
 pub mod Half
 pub mod Values
+pub mod Letters

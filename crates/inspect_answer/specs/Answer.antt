@@ -3,6 +3,7 @@ use Prim.Native.Nat.{ℕ, _/_, min}
 use mathlib.Core.Bool.{true, false}
 use mathlib.Core.List.{List, [], _∷_, _++_}
 use lib.ListN.{length, take, getD}
+use Rattle.byte_parts.specs.Letters.{lf, tab, what}
 use Rattle.text_fields.specs.Field.{split}
 use Rattle.text_numbers.specs.Decimal.{decText}
 use Rattle.text_numbers.specs.Hex.{unhex}
@@ -20,7 +21,7 @@ use Rattle.inspect_answer.specs.Fields.{listFields, infoFields, toldFiel
 
 -- a line's first field, which is the name of what it asks
 abbrev pub fieldZero : List ℕ → List ℕ
-fieldZero line = getD (split 9 line) 0 []
+fieldZero line = getD (split tab line) 0 []
 
 abbrev pub nameOf : Asked → List ℕ
 nameOf (asks.List parent p) = listName
@@ -53,8 +54,8 @@ fieldsOf c a room line (asks.Attribute code) = attributeFields code
 
 -- lent are the first bytes of the arena, and of an output of 4,096 bytes
 unfoldable pub toldText : Card → List ℕ → ℕ → ℕ → List ℕ → Asked → List ℕ
-toldText c arena lent room line asked = closed 9 (nameOf asked) ++ fieldsOf c (take lent arena) (min room mostRoom) line asked
+toldText c arena lent room line asked = closed tab (nameOf asked) ++ fieldsOf c (take lent arena) (min room mostRoom) line asked
 
 -- `?` (63), line number
 unfoldable pub unknownText : ℕ → List ℕ
-unknownText number = closed 9 (63 ∷ []) ++ closed 10 (decText number)
+unknownText number = closed tab (what ∷ []) ++ closed lf (decText number)

@@ -2,6 +2,7 @@
 use Prim.Native.Nat.{ℕ}
 use mathlib.Core.Bool.{Bool, true, false}
 use mathlib.Core.List.{List, [], _∷_}
+use Rattle.byte_parts.specs.Letters.{lf, e, n, o, s, y}
 use Rattle.answers.specs.declared.refusal.Told.{Told}
 use Rattle.answers.specs.declared.refusal.Told.the-variants as tolds
 use Rattle.text_numbers.specs.Decimal.{decText}
@@ -27,7 +28,7 @@ use Rattle.inspect_fields.specs.Fields.{refusalTold}
 
 -- `list`, `info`: the message's bytes, where the writer wrote them
 abbrev pub putFields : List ℕ → Put → List ℕ
-putFields message (puts.Bytes n) = closed 10 (hexText message)
+putFields message (puts.Bytes n) = closed lf (hexText message)
 putFields message (puts.Refused refusal) = refusalTold refusal
 
 -- how many bytes it wrote
@@ -52,12 +53,12 @@ countText true n = fourDigits (n ∷ [])
 countText false n = decText n
 
 abbrev pub toldFields : Bool → Told → List ℕ
-toldFields version (tolds.Number n) = closed 10 (countText version n)
+toldFields version (tolds.Number n) = closed lf (countText version n)
 toldFields version (tolds.Refused refusal) = refusalTold refusal
 
 -- `dir`: pairs, where an output of so many numbers has room for one of each node
 abbrev pub listingFields : List ℕ → Listing → List ℕ
-listingFields pairs (listings.Listed n) = closed 10 (fourDigits pairs)
+listingFields pairs (listings.Listed n) = closed lf (fourDigits pairs)
 listingFields pairs (listings.Refused refusal) = refusalTold refusal
 
 unfoldable pub directoryFields : Card → ℕ → List ℕ
@@ -69,14 +70,14 @@ listAnswer true c codes = areaListAnswer c codes
 listAnswer false c codes = serviceListAnswer c codes
 
 abbrev pub checkedFields : Checked → List ℕ
-checkedFields checks.WellFormed = closed 10 (121 ∷ 101 ∷ 115 ∷ [])
-checkedFields checks.Malformed = closed 10 (110 ∷ 111 ∷ [])
+checkedFields checks.WellFormed = closed lf (y ∷ e ∷ s ∷ [])
+checkedFields checks.Malformed = closed lf (n ∷ o ∷ [])
 checkedFields (checks.Refused refusal) = refusalTold refusal
 
 -- `block`: the stored block, `-` if there is none
 abbrev pub blockFields : Card → List ℕ → ℕ → ℕ → List ℕ
-blockFields c a code number = closed 10 (hexText (storedBlock c a code number))
+blockFields c a code number = closed lf (hexText (storedBlock c a code number))
 
 -- `used`: the blocks in use
 abbrev pub usedFields : Card → List ℕ
-usedFields c = closed 10 (decText (c .used))
+usedFields c = closed lf (decText (c .used))

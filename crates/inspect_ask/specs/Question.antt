@@ -4,6 +4,7 @@ use mathlib.Core.Bool.{cond}
 use mathlib.Core.List.{List, [], _∷_}
 use lib.Dec.{ltb}
 use lib.ListN.{length, getD}
+use Rattle.byte_parts.specs.Letters.{tab, a, b, c, d, e, f, i, k, l, m, n, o, r, s, t, u, v}
 use Rattle.byte_parts.specs.Sizes.{longestLine}
 use Rattle.text_fields.specs.Field.{split}
 use Rattle.text_numbers.specs.Hex.{hexField}
@@ -18,46 +19,46 @@ use Rattle.inspect_ask.specs.declared.Question.the-variants.{Unknown, Of
 
 -- the names of the questions, as bytes
 abbrev pub listName : List ℕ
-listName = 108 ∷ 105 ∷ 115 ∷ 116 ∷ []
+listName = l ∷ i ∷ s ∷ t ∷ []
 
 abbrev pub infoName : List ℕ
-infoName = 105 ∷ 110 ∷ 102 ∷ 111 ∷ []
+infoName = i ∷ n ∷ f ∷ o ∷ []
 
 abbrev pub readlistName : List ℕ
-readlistName = 114 ∷ 101 ∷ 97 ∷ 100 ∷ 108 ∷ 105 ∷ 115 ∷ 116 ∷ []
+readlistName = r ∷ e ∷ a ∷ d ∷ l ∷ i ∷ s ∷ t ∷ []
 
 abbrev pub readinfoName : List ℕ
-readinfoName = 114 ∷ 101 ∷ 97 ∷ 100 ∷ 105 ∷ 110 ∷ 102 ∷ 111 ∷ []
+readinfoName = r ∷ e ∷ a ∷ d ∷ i ∷ n ∷ f ∷ o ∷ []
 
 abbrev pub totalName : List ℕ
-totalName = 116 ∷ 111 ∷ 116 ∷ 97 ∷ 108 ∷ []
+totalName = t ∷ o ∷ t ∷ a ∷ l ∷ []
 
 abbrev pub verName : List ℕ
-verName = 118 ∷ 101 ∷ 114 ∷ []
+verName = v ∷ e ∷ r ∷ []
 
 abbrev pub dirName : List ℕ
-dirName = 100 ∷ 105 ∷ 114 ∷ []
+dirName = d ∷ i ∷ r ∷ []
 
 abbrev pub areasName : List ℕ
-areasName = 97 ∷ 114 ∷ 101 ∷ 97 ∷ 115 ∷ []
+areasName = a ∷ r ∷ e ∷ a ∷ s ∷ []
 
 abbrev pub svcsName : List ℕ
-svcsName = 115 ∷ 118 ∷ 99 ∷ 115 ∷ []
+svcsName = s ∷ v ∷ c ∷ s ∷ []
 
 abbrev pub blockName : List ℕ
-blockName = 98 ∷ 108 ∷ 111 ∷ 99 ∷ 107 ∷ []
+blockName = b ∷ l ∷ o ∷ c ∷ k ∷ []
 
 abbrev pub usedName : List ℕ
-usedName = 117 ∷ 115 ∷ 101 ∷ 100 ∷ []
+usedName = u ∷ s ∷ e ∷ d ∷ []
 
 abbrev pub attrName : List ℕ
-attrName = 97 ∷ 116 ∷ 116 ∷ 114 ∷ []
+attrName = a ∷ t ∷ t ∷ r ∷ []
 
 abbrev pub roomName : List ℕ
-roomName = 114 ∷ 111 ∷ 111 ∷ 109 ∷ []
+roomName = r ∷ o ∷ o ∷ m ∷ []
 
 abbrev pub arenaName : List ℕ
-arenaName = 97 ∷ 114 ∷ 101 ∷ 110 ∷ 97 ∷ []
+arenaName = a ∷ r ∷ e ∷ n ∷ a ∷ []
 
 -- the most that `room` and `arena` may lend
 abbrev pub mostRoom : ℕ
@@ -138,4 +139,4 @@ messageAsked fs =
 
 -- a line of at most 32,768 bytes, its fields parted by tabs (9)
 unfoldable pub questionOf : List ℕ → Question
-questionOf line = cond (ltb longestLine (length line)) Unknown (messageAsked (split 9 line))
+questionOf line = cond (ltb longestLine (length line)) Unknown (messageAsked (split tab line))

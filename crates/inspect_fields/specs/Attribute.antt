@@ -2,6 +2,7 @@
 use Prim.Native.Nat.{ℕ}
 use mathlib.Core.Bool.{Bool, true, false}
 use mathlib.Core.List.{List, [], _∷_, _++_}
+use Rattle.byte_parts.specs.Letters.{dash, lf, tab, a, b, c, d, e, f, h, i, k, l, m, n, o, p, r, s, t, u, w, y}
 use Rattle.service_code.specs.declared.code.ServiceKind.{ServiceKind}
 use Rattle.service_code.specs.declared.code.ServiceKind.the-variants.{Random, Cyclic, Purse}
 use Rattle.service_code.specs.declared.code.ServiceAttribute.{ServiceAttribute}
@@ -14,39 +15,39 @@ use Rattle.text_print.specs.Print.{closed}
 
 -- `random`, `cyclic`, `purse`
 abbrev pub kindText : ServiceKind → List ℕ
-kindText Random = 114 ∷ 97 ∷ 110 ∷ 100 ∷ 111 ∷ 109 ∷ []
-kindText Cyclic = 99 ∷ 121 ∷ 99 ∷ 108 ∷ 105 ∷ 99 ∷ []
-kindText Purse = 112 ∷ 117 ∷ 114 ∷ 115 ∷ 101 ∷ []
+kindText Random = r ∷ a ∷ n ∷ d ∷ o ∷ m ∷ []
+kindText Cyclic = c ∷ y ∷ c ∷ l ∷ i ∷ c ∷ []
+kindText Purse = p ∷ u ∷ r ∷ s ∷ e ∷ []
 
 -- `read-write`, `read-only`; of purses `direct`, `cashback`, `decrement`, `read-only`
 abbrev pub readWrite : List ℕ
-readWrite = 114 ∷ 101 ∷ 97 ∷ 100 ∷ 45 ∷ 119 ∷ 114 ∷ 105 ∷ 116 ∷ 101 ∷ []
+readWrite = r ∷ e ∷ a ∷ d ∷ dash ∷ w ∷ r ∷ i ∷ t ∷ e ∷ []
 
 abbrev pub readOnly : List ℕ
-readOnly = 114 ∷ 101 ∷ 97 ∷ 100 ∷ 45 ∷ 111 ∷ 110 ∷ 108 ∷ 121 ∷ []
+readOnly = r ∷ e ∷ a ∷ d ∷ dash ∷ o ∷ n ∷ l ∷ y ∷ []
 
 abbrev pub rightText : ServiceAttribute → List ℕ
 rightText RandomReadWrite = readWrite
 rightText RandomReadOnly = readOnly
 rightText CyclicReadWrite = readWrite
 rightText CyclicReadOnly = readOnly
-rightText PurseDirect = 100 ∷ 105 ∷ 114 ∷ 101 ∷ 99 ∷ 116 ∷ []
-rightText PurseCashback = 99 ∷ 97 ∷ 115 ∷ 104 ∷ 98 ∷ 97 ∷ 99 ∷ 107 ∷ []
-rightText PurseDecrement = 100 ∷ 101 ∷ 99 ∷ 114 ∷ 101 ∷ 109 ∷ 101 ∷ 110 ∷ 116 ∷ []
+rightText PurseDirect = d ∷ i ∷ r ∷ e ∷ c ∷ t ∷ []
+rightText PurseCashback = c ∷ a ∷ s ∷ h ∷ b ∷ a ∷ c ∷ k ∷ []
+rightText PurseDecrement = d ∷ e ∷ c ∷ r ∷ e ∷ m ∷ e ∷ n ∷ t ∷ []
 rightText PurseReadOnly = readOnly
 
 -- `key`, `free`
 abbrev pub keyText : Bool → List ℕ
-keyText true = 107 ∷ 101 ∷ 121 ∷ []
-keyText false = 102 ∷ 114 ∷ 101 ∷ 101 ∷ []
+keyText true = k ∷ e ∷ y ∷ []
+keyText false = f ∷ r ∷ e ∷ e ∷ []
 
 abbrev pub definedFields : ServiceAttribute → Bool → List ℕ
-definedFields a keyed = closed 9 (kindText (kindOf a)) ++ closed 9 (rightText a) ++ closed 10 (keyText keyed)
+definedFields a keyed = closed tab (kindText (kindOf a)) ++ closed tab (rightText a) ++ closed lf (keyText keyed)
 
 -- an undefined attribute has `-` (45) three times
 abbrev pub rightsFields : ℕ → Decoded → List ℕ
 rightsFields code (Defined a) = definedFields a (requiresKey code)
-rightsFields code Undefined = closed 9 (45 ∷ []) ++ closed 9 (45 ∷ []) ++ closed 10 (45 ∷ [])
+rightsFields code Undefined = closed tab (dash ∷ []) ++ closed tab (dash ∷ []) ++ closed lf (dash ∷ [])
 
 unfoldable pub attributeFields : ℕ → List ℕ
-attributeFields code = closed 9 (decText (numberOf code)) ++ rightsFields code (attributeOf code)
+attributeFields code = closed tab (decText (numberOf code)) ++ rightsFields code (attributeOf code)

@@ -3,6 +3,7 @@ use Prim.Native.Nat.{ℕ}
 use mathlib.Core.Bool.{Bool, true, false}
 use mathlib.Core.List.{List, [], _∷_, _++_}
 use lib.ListN.{take, getD}
+use Rattle.byte_parts.specs.Letters.{bang, lf, tab}
 use Rattle.answers.specs.declared.refusal.Refusal.{Refusal}
 use Rattle.answers.specs.declared.refusal.Answer.{Answer}
 use Rattle.answers.specs.declared.refusal.Answer.the-variants as answers
@@ -17,7 +18,7 @@ use Rattle.node_messages.specs.Information.{nodeCount, readInformation}
 
 -- codes and bytes of a question stand in field 1
 abbrev pub fieldOne : List ℕ → List ℕ
-fieldOne line = getD (split 9 line) 1 []
+fieldOne line = getD (split tab line) 1 []
 
 -- no answer's fields are longer: 4,096 bytes in hex are 8,192 digits
 abbrev pub mostFields : ℕ
@@ -25,7 +26,7 @@ mostFields = 8256
 
 -- refused: `!` (33), the refusal's number
 unfoldable pub refusalTold : Refusal → List ℕ
-refusalTold refusal = closed 9 (33 ∷ []) ++ closed 10 (decText (refusalNumber refusal))
+refusalTold refusal = closed tab (bang ∷ []) ++ closed lf (decText (refusalNumber refusal))
 
 -- `readlist`: flag, areas (code and end), services
 abbrev pub flagText : Bool → List ℕ
@@ -33,7 +34,7 @@ flagText true = 49 ∷ []
 flagText false = 48 ∷ []
 
 abbrev pub codeListFields : CodeList → List ℕ
-codeListFields m = closed 9 (flagText (m .more)) ++ closed 9 (fourDigits (rangesOf m)) ++ closed 10 (fourDigits (codesListed m))
+codeListFields m = closed tab (flagText (m .more)) ++ closed tab (fourDigits (rangesOf m)) ++ closed lf (fourDigits (codesListed m))
 
 abbrev pub listedFields : CodeList → Answer → List ℕ
 listedFields m answers.Done = codeListFields m
@@ -44,7 +45,7 @@ readListFields s = listedFields (readCodeList s .list) (readCodeList s .answer)
 
 -- `readinfo`: assigned, free
 abbrev pub informationFields : BlockInformation → List ℕ
-informationFields m = closed 9 (fourDigits (take (nodeCount m) (m .assigned))) ++ closed 10 (fourDigits (take (nodeCount m) (m .free)))
+informationFields m = closed tab (fourDigits (take (nodeCount m) (m .assigned))) ++ closed lf (fourDigits (take (nodeCount m) (m .free)))
 
 abbrev pub informedFields : BlockInformation → Answer → List ℕ
 informedFields m answers.Done = informationFields m

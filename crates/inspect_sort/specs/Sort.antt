@@ -2,6 +2,7 @@
 use Prim.Native.Nat.{ℕ}
 use mathlib.Core.Bool.{true, false, cond}
 use mathlib.Core.List.{List}
+use Rattle.byte_parts.specs.Letters.{tab}
 use Rattle.text_fields.specs.Field.{split}
 use Rattle.line_image.specs.Line.{imageNamed}
 use Rattle.line_request.specs.Ask.{requestLine}
@@ -16,7 +17,7 @@ use Rattle.inspect_sort.specs.declared.Sort.the-variants as sorts
 -- the first field decides: an image line, a request, a refresh of the board, or a question
 unfoldable pub laterSort : List ℕ → Sort
 laterSort line =
-    cond (imageNamed (split 9 line)) (sorts.Replayed (kinds.Image false))
+    cond (imageNamed (split tab line)) (sorts.Replayed (kinds.Image false))
     (cond (requestLine line) (sorts.Replayed kinds.Request)
     (cond (boardLine line) (sorts.Replayed kinds.Board) (sorts.Asked (questionOf line))))
 

@@ -5,6 +5,7 @@ use mathlib.Core.Bool.{false}
 use mathlib.Core.List.{List, [], _∷_}
 use mathlib.Core.Path.{_≡_}
 use lib.ListN.{getD}
+use Rattle.byte_parts.specs.Letters.{tab}
 use Rattle.service_code.specs.Code.{numberOf}
 use Rattle.text_fields.specs.Field.{split}
 use Rattle.text_numbers.specs.declared.codes.Code.the-variants.{Is}
@@ -60,7 +61,7 @@ pub record LooksOnly (s : Seen) (line : List ℕ) : Type 0 where
 -- RULES 16.5
 abbrev pub InspectLeaves : Type 0
 InspectLeaves =
-    (s : Seen) (line : List ℕ) → GoesOn (s .inspect .replay .phase) → imageNamed (split 9 line) ≡ false → requestLine line ≡ false
+    (s : Seen) (line : List ℕ) → GoesOn (s .inspect .replay .phase) → imageNamed (split tab line) ≡ false → requestLine line ≡ false
     → LooksOnly s line
 
 -- what a line does to blocks, by what it is taken for: a `blk` line sets one, a request line makes a request
@@ -70,7 +71,7 @@ imageDeed line (New system) = neither
 imageDeed line (Area depth code end version) = neither
 imageDeed line (Service depth code blocks version) = neither
 imageDeed line (Limit upper lower generation) = neither
-imageDeed line (Block code number) = blockSet code number (unhex (getD (split 9 line) 3 []))
+imageDeed line (Block code number) = blockSet code number (unhex (getD (split tab line) 3 []))
 
 abbrev pub kindDeed : Kind → List ℕ → Deed
 kindDeed (kinds.Image first) line = imageDeed line (imageLine first line)

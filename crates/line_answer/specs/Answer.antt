@@ -3,6 +3,7 @@ use Prim.Native.Nat.{ℕ}
 use mathlib.Core.Bool.{cond}
 use mathlib.Core.List.{List, [], _∷_, _++_}
 use lib.Dec.{eqb}
+use Rattle.byte_parts.specs.Letters.{bang, dash, lf, star, tab}
 use Rattle.text_numbers.specs.Decimal.{decText}
 use Rattle.text_numbers.specs.Hex.{hexText}
 use Rattle.text_print.specs.Print.{closed}
@@ -13,11 +14,11 @@ use Rattle.request_plan.specs.Request.{responseOf, causeIn}
 
 -- five fields parted by tabs
 abbrev pub fiveFields : List ℕ → List ℕ → List ℕ → List ℕ → List ℕ → List ℕ
-fiveFields a b c d e = closed 9 a ++ closed 9 b ++ closed 9 c ++ closed 9 d ++ e
+fiveFields a b c d e = closed tab a ++ closed tab b ++ closed tab c ++ closed tab d ++ e
 
 -- where: `-` (45) for a status flag 1 of 00, `*` (42) for FF, which names no one place of the list, else the place in decimal
 unfoldable pub whereText : ℕ → List ℕ
-whereText flag = cond (eqb flag 0) (45 ∷ []) (cond (eqb flag 0xff) (42 ∷ []) (decText flag))
+whereText flag = cond (eqb flag 0) (dash ∷ []) (cond (eqb flag 0xff) (star ∷ []) (decText flag))
 
 -- ordinal, status flags in hex, where, data read
 unfoldable pub statusFields : ℕ → ℕ → ℕ → List ℕ → List ℕ
@@ -26,7 +27,7 @@ statusFields ordinal flag1 flag2 read =
 
 -- ordinal, `!` (33), the refusal's number, `-`, `-`
 unfoldable pub refusalFields : ℕ → ℕ → List ℕ
-refusalFields ordinal number = fiveFields (decText ordinal) (33 ∷ []) (decText number) (45 ∷ []) (45 ∷ [])
+refusalFields ordinal number = fiveFields (decText ordinal) (bang ∷ []) (decText number) (dash ∷ []) (dash ∷ [])
 
 -- a refused request is told by its number, any other by its status pair
 abbrev pub responseFields : ℕ → Response → List ℕ → List ℕ
@@ -38,12 +39,12 @@ answerFields ordinal reply read = responseFields ordinal (responseOf reply) read
 
 -- which A5 it was, in decimal; `-` (45) where it was none
 unfoldable pub causeText : ℕ → List ℕ
-causeText cause = cond (eqb cause 0) (45 ∷ []) (decText cause)
+causeText cause = cond (eqb cause 0) (dash ∷ []) (decText cause)
 
 -- the whole line
 abbrev pub answerText : ℕ → Reply → List ℕ → List ℕ
-answerText ordinal reply read = closed 9 (answerFields ordinal reply read) ++ closed 10 (causeText (causeIn reply))
+answerText ordinal reply read = closed tab (answerFields ordinal reply read) ++ closed lf (causeText (causeIn reply))
 
 -- the whole line of a refusal, by its number
 abbrev pub refusedText : ℕ → ℕ → List ℕ
-refusedText ordinal number = closed 9 (refusalFields ordinal number) ++ closed 10 (45 ∷ [])
+refusedText ordinal number = closed tab (refusalFields ordinal number) ++ closed lf (dash ∷ [])

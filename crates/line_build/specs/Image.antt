@@ -3,6 +3,7 @@ use Prim.Native.Nat.{ℕ}
 use mathlib.Core.Bool.{Bool}
 use mathlib.Core.List.{List, []}
 use lib.ListN.{length, getD}
+use Rattle.byte_parts.specs.Letters.{tab}
 use Rattle.answers.specs.declared.refusal.Refusal.the-variants.{MalformedImage}
 use Rattle.text_fields.specs.Field.{split}
 use Rattle.text_numbers.specs.Hex.{unhex}
@@ -38,4 +39,4 @@ lineCarried c a fs (Block code number) =
 
 -- a whole image line, the first of the image or a later one
 unfoldable pub imageStep : Bool → Card → List ℕ → List ℕ → Imaged
-imageStep first c a s = lineCarried c a (split 9 s) (imageLine first s)
+imageStep first c a s = lineCarried c a (split tab s) (imageLine first s)

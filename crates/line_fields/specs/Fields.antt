@@ -5,6 +5,7 @@ use mathlib.Core.List.{List, []}
 use lib.Dec.{eqb}
 use lib.IntN.{ℤ}
 use lib.ListN.{length, getD}
+use Rattle.byte_parts.specs.Letters.{tab}
 use Rattle.byte_parts.specs.Part.{sameBytes}
 use Rattle.text_fields.specs.Field.{split}
 use Rattle.text_numbers.specs.declared.codes.Code.{Code}
@@ -18,7 +19,7 @@ use Rattle.text_numbers.specs.Decimal.{decimal, signed}
 
 -- field k of a line, from 0; nothing where it has no such field
 abbrev pub fieldIn : List ℕ → ℕ → List ℕ
-fieldIn line k = getD (split 9 line) k []
+fieldIn line k = getD (split tab line) k []
 
 -- codes and versions are four hex digits; decimals are at most what their field's width holds; bounds have a sign
 abbrev pub codeAt : List (List ℕ) → ℕ → Code

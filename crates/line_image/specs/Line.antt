@@ -4,6 +4,7 @@ use mathlib.Core.Bool.{Bool, true, false, cond, _&&_, _||_}
 use mathlib.Core.List.{List, [], _∷_}
 use lib.Dec.{ltb, eqb}
 use lib.ListN.{length, getD}
+use Rattle.byte_parts.specs.Letters.{tab, a, b, c, d, e, i, j, k, l, m, n, o, r, s, v}
 use Rattle.byte_parts.specs.Sizes.{longestLine}
 use Rattle.byte_parts.specs.Part.{sameBytes}
 use Rattle.card_build.specs.Card.{systemOf}
@@ -70,22 +71,22 @@ blockLine fs =
 
 -- the words that name the kinds, and `join`, as bytes
 abbrev pub cardWord : List ℕ
-cardWord = 99 ∷ 97 ∷ 114 ∷ 100 ∷ []
+cardWord = c ∷ a ∷ r ∷ d ∷ []
 
 abbrev pub joinWord : List ℕ
-joinWord = 106 ∷ 111 ∷ 105 ∷ 110 ∷ []
+joinWord = j ∷ o ∷ i ∷ n ∷ []
 
 abbrev pub areaWord : List ℕ
-areaWord = 97 ∷ 114 ∷ 101 ∷ 97 ∷ []
+areaWord = a ∷ r ∷ e ∷ a ∷ []
 
 abbrev pub svcWord : List ℕ
-svcWord = 115 ∷ 118 ∷ 99 ∷ []
+svcWord = s ∷ v ∷ c ∷ []
 
 abbrev pub limWord : List ℕ
-limWord = 108 ∷ 105 ∷ 109 ∷ []
+limWord = l ∷ i ∷ m ∷ []
 
 abbrev pub blkWord : List ℕ
-blkWord = 98 ∷ 108 ∷ 107 ∷ []
+blkWord = b ∷ l ∷ k ∷ []
 
 -- whether the first field names a kind of image line, well formed or not
 unfoldable pub imageNamed : List (List ℕ) → Bool
@@ -111,4 +112,4 @@ laterLine fs =
 unfoldable pub imageLine : Bool → List ℕ → Line
 imageLine first s =
     cond (ltb longestLine (length s)) Malformed
-    (cond first (firstLine (split 9 s)) (laterLine (split 9 s)))
+    (cond first (firstLine (split tab s)) (laterLine (split tab s)))

@@ -5,6 +5,7 @@ use mathlib.Core.Bool.{Bool, cond, _&&_, _||_}
 use mathlib.Core.List.{List}
 use lib.Dec.{ltb, eqb}
 use lib.ListN.{length, getD}
+use Rattle.byte_parts.specs.Letters.{tab}
 use Rattle.byte_parts.specs.Sizes.{longestLine}
 use Rattle.text_fields.specs.Field.{split}
 use Rattle.text_numbers.specs.declared.decimals.Number.{Number}
@@ -36,7 +37,7 @@ isOpen line = isLetter 79 (fieldIn line 1)
 unfoldable pub shaped : ℕ → ℕ → List ℕ → Bool
 shaped letter n line =
     isLetter letter (fieldIn line 0)
-    && (eqb (length (split 9 line)) n
+    && (eqb (length (split tab line)) n
     && (isEither 79 83 (fieldIn line 1)
     && (codesField (fieldIn line 2) && hexField (fieldIn line 4))))
 
@@ -46,7 +47,7 @@ isWrite line = shaped 87 6 line && hexField (fieldIn line 5)
 
 -- an element count has 32 bits
 abbrev pub countIn : List ℕ → Number
-countIn line = numberAt (split 9 line) 3 4294967295
+countIn line = numberAt (split tab line) 3 4294967295
 
 abbrev pub countedAsk : List ℕ → Number → Ask
 countedAsk line Bad = Malformed

@@ -3,6 +3,7 @@ use Prim.Native.Nat.{ℕ, _+_}
 use mathlib.Core.Bool.{Bool, true, false, cond}
 use mathlib.Core.List.{List, [], _∷_, _++_}
 use lib.Dec.{ltb}
+use Rattle.byte_parts.specs.Letters.{lf, tab, a, e, g, i, m}
 use Rattle.answers.specs.declared.refusal.Refusal.{Refusal}
 use Rattle.answers.specs.declared.refusal.Refusal.the-variants.{MalformedImage}
 use Rattle.answers.specs.Refusal.{refusalNumber}
@@ -24,7 +25,7 @@ oneMore n = cond (ltb n 18446744073709551615) (n + 1) n
 -- `image` (105 109 97 103 101), line number, refusal number
 unfoldable pub refusalText : ℕ → Refusal → List ℕ
 refusalText line refusal =
-    closed 9 (105 ∷ 109 ∷ 97 ∷ 103 ∷ 101 ∷ []) ++ closed 9 (decText line) ++ closed 10 (decText (refusalNumber refusal))
+    closed tab (i ∷ m ∷ a ∷ g ∷ e ∷ []) ++ closed tab (decText line) ++ closed lf (decText (refusalNumber refusal))
 
 -- the end of a text: empty input is refused at line 1
 abbrev pub finishText : Phase → List ℕ

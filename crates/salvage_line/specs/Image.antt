@@ -3,6 +3,7 @@ use Prim.Native.Nat.{ℕ}
 use mathlib.Core.Bool.{Bool, true, false}
 use mathlib.Core.List.{List, [], _∷_}
 use lib.ListN.{replicate}
+use Rattle.byte_parts.specs.Letters.{tab}
 use Rattle.answers.specs.declared.refusal.Answer.{Answer}
 use Rattle.answers.specs.declared.refusal.Answer.the-variants.{Done, Refused}
 use Rattle.answers.specs.Refusal.{refusalNumber}
@@ -62,7 +63,7 @@ unfoldable pub depthOf : List ℕ → Depth
 depthOf l = depthBy (imageLine false l)
 
 unfoldable pub isWord : List ℕ → List ℕ → Bool
-isWord word l = named word (split 9 l)
+isWord word l = named word (split tab l)
 
 abbrev pub imageBuilder : Builder Image
 imageBuilder =

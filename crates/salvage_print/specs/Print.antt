@@ -4,6 +4,7 @@ use mathlib.Core.Bool.{Bool, true, false, cond}
 use mathlib.Core.List.{List, [], _∷_, _++_}
 use lib.Dec.{ltb}
 use lib.ListN.{length}
+use Rattle.byte_parts.specs.Letters.{lf, tab, a, d, e, n, p, r, t}
 use Rattle.byte_parts.specs.Part.{put}
 use Rattle.text_numbers.specs.Decimal.{decText}
 use Rattle.text_print.specs.Print.{closed}
@@ -17,12 +18,12 @@ use Rattle.salvage_print.specs.declared.Spot.the-variants.{Full, At}
 -- why a line is gone: `parent`, or a number; a kept line is not told
 abbrev pub saidOf : ℕ → Fate → List ℕ
 saidOf line Kept = []
-saidOf line Parent = closed 9 (decText line) ++ closed 10 (112 ∷ 97 ∷ 114 ∷ 101 ∷ 110 ∷ 116 ∷ [])
-saidOf line (Number m) = closed 9 (decText line) ++ closed 10 (decText m)
+saidOf line Parent = closed tab (decText line) ++ closed lf (p ∷ a ∷ r ∷ e ∷ n ∷ t ∷ [])
+saidOf line (Number m) = closed tab (decText line) ++ closed lf (decText m)
 
 -- a notice's line: 0 and `added`, or the line's number and why
 abbrev pub noticeText : Notice → List ℕ
-noticeText added = closed 9 (48 ∷ []) ++ closed 10 (97 ∷ 100 ∷ 100 ∷ 101 ∷ 100 ∷ [])
+noticeText added = closed tab (48 ∷ []) ++ closed lf (a ∷ d ∷ d ∷ e ∷ d ∷ [])
 noticeText (lost n f) = saidOf n f
 
 unfoldable pub reportText : List Notice → List ℕ
