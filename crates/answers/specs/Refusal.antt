@@ -6,6 +6,7 @@ use Rattle.answers.specs.declared.refusal.Refusal.{Refusal}
 use Rattle.answers.specs.declared.refusal.Refusal.the-variants.{TooManyElements, TooManyCodes, ListLength, ShortStaging, ShortOutput, MalformedRequest, ShortArena, NotBuilt, InvalidAreaRange, InvalidRootAreaRange, NodeCodeOutOfRange, InvalidAreaAttribute, ChildAreaForbidden, UndefinedServiceAttribute, ServiceOutOfRange, AreaOutOfRange, OverlapKindMismatch, TableFull, NoParent, NoRoom, NoSuchBlock, CountsDiffer, NotAService, MalformedImage, ParentNoArea, PacketPastEnd, TooManyNodes, NotAMessage, OutputTooShort}
 
 -- 9, 10, 25 to 27, 29 and 31 to 39 are no refusal's; 40 to 43 are a board's (board_lanes)
+-- RULES 2.2
 abbrev pub refusalNumber : Refusal → ℕ
 refusalNumber TooManyElements = 1
 refusalNumber TooManyCodes = 2

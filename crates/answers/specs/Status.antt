@@ -6,10 +6,12 @@ use Rattle.answers.specs.declared.status.Fault.{Fault}
 use Rattle.answers.specs.declared.status.Fault.the-variants.{ListIndex, AccessMode, Attribute, NoService, KeyNeeded, ReadOnly, NoCashback, BlockNumber, CyclicBlock, PurseRaised, CashbackRaised, SumTooLarge, OutsideLimits, OutsideWord, CashbackExceeds, CyclicTooLong}
 
 -- the place of an error at an index of the list, counted from 0: min(index + 1, 255)
+-- RULES 8.1
 abbrev pub sf1Of : ℕ → ℕ
 sf1Of index = min (index + 1) 255
 
 -- tables 4-11 and 4-12
+-- RULES 8.2
 abbrev pub sf2Of : Fault → ℕ
 sf2Of ListIndex = 0xa3
 sf2Of AccessMode = 0xa7
@@ -29,6 +31,7 @@ sf2Of CashbackExceeds = 0x02
 sf2Of CyclicTooLong = 0xaf
 
 -- which of its causes an A5 has: those of the element check in its order, then those of the rules; 0 for every other fault
+-- RULES 2.7
 abbrev pub causeOf : Fault → ℕ
 causeOf ListIndex = 0
 causeOf AccessMode = 0

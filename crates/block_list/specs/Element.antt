@@ -11,6 +11,7 @@ use Rattle.block_list.specs.declared.element.Unpacked.the-variants.{Elem
 use Rattle.byte_parts.specs.Part.{padded}
 
 -- mode mod 8 and index mod 16 in the first byte, whose top bit says how many bytes there are
+-- RULES 7.2
 abbrev pub headOf : BlockListElement → ℕ
 headOf e = 16 * (e .mode % 8) + e .index % 16
 
@@ -23,6 +24,7 @@ abbrev pub threeBytes : BlockListElement → List ℕ
 threeBytes e = headOf e ∷ (e .number % 256) ∷ (e .number / 256) ∷ []
 
 -- a number below 256 takes two bytes, any other three
+-- RULES 7.2
 unfoldable pub packOf : BlockListElement → List ℕ
 packOf e = cond (ltb (e .number) 256) (twoBytes e) (threeBytes e)
 
@@ -34,6 +36,7 @@ abbrev pub elementOf : ℕ → ℕ → BlockListElement
 elementOf head number = record { number = number; index = head % 16; mode = head / 16 % 8 }
 
 -- top bit set is two bytes, clear is three, any number allowed
+-- RULES 7.3
 unfoldable pub unpackAt : List ℕ → ℕ → Unpacked
 unpackAt s at =
     cond (leb (length s) at) Short
@@ -51,6 +54,7 @@ unfoldable pub endsFrom : List ℕ → ℕ → ℕ → Bool
 endsFrom s zero at = eqb at (length s)
 endsFrom s (suc n) at = afterElement false (λ e next. endsFrom s n next) (unpackAt s at)
 
+-- RULES 7.4
 unfoldable pub endsAfter : List ℕ → ℕ → Bool
 endsAfter s n = endsFrom s n 0
 

@@ -22,9 +22,11 @@ abbrev pub elementPast : Unpacked → ℕ → ℕ
 elementPast u at = afterElement at (λ e next. next) u
 
 -- the same list, with the next element taken
+-- RULES 7.4
 abbrev pub movedOn : Reader → Reader
 movedOn r = record { list = r .list; at = elementPast (nextOf r) (r .at) }
 
 -- all bytes are taken
+-- RULES 7.4
 abbrev pub finished : Reader → Bool
 finished r = eqb (r .at) (length (now (r .list)))

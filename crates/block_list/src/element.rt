@@ -5,6 +5,7 @@ ghost use Prim.Native.Nat.{_<_};
 ghost use Rattle.block_list.specs.Element.{headOf, elementOf, packedOf, unpackAt};
 
 // What an element names: a block's number, the index of its service's code in the request's list, and an access mode.
+// RULES 7.1
 pub struct BlockListElement {
     pub number: u16,
     pub index: u8,

@@ -13,6 +13,7 @@ use Rattle.board_lanes.specs.declared.lanes.Judged.{Judged}
 use Rattle.board_lanes.specs.declared.lanes.Judged.the-variants.{Sound, Refused}
 
 -- the numbers of the board's own refusals
+-- RULES 17.3
 abbrev pub boardNumber : BoardRefusal → ℕ
 boardNumber RacesDiffer = 40
 boardNumber WrongLane = 41
@@ -20,14 +21,17 @@ boardNumber BadCrew = 42
 boardNumber TailNotZero = 43
 
 -- the block of lane k + 1
+-- RULES 17.1
 abbrev pub blockAt : List ℕ → ℕ → List ℕ
 blockAt bytes k = part bytes (blockSize * k) 16
 
 -- an empty lane: every byte is zero
+-- RULES 17.1
 unfoldable pub isEmpty : List ℕ → Bool
 isEmpty [] = true
 isEmpty (x ∷ s) = eqb x 0 && isEmpty s
 
+-- RULES 17.1
 abbrev pub raceOf : List ℕ → ℕ
 raceOf b = getD b 1 0 + 256 * getD b 2 0
 
@@ -36,10 +40,12 @@ unfoldable pub areCrew : List ℕ → Bool
 areCrew [] = true
 areCrew (x ∷ s) = (leb 0x20 x && leb x 0x7e) && areCrew s
 
+-- RULES 17.1
 abbrev pub crewBytes : List ℕ → List ℕ
 crewBytes b = part b 3 12
 
 -- a filled block: 41 for another lane's byte, then 42 for its crew, then 43 for its last byte
+-- RULES 17.3
 unfoldable pub filledJudged : ℕ → List ℕ → Judged
 filledJudged k b =
     cond (not (eqb (getD b 0 0) (k + 1))) (Refused WrongLane)
@@ -56,6 +62,7 @@ andThen Sound next = next
 andThen (Refused x) next = Refused x
 
 -- n lanes from k on, one after the other: whatever is wrong with a lane comes before the next lane
+-- RULES 17.3
 unfoldable pub lanesJudged : List ℕ → ℕ → ℕ → Judged
 lanesJudged bytes zero k = Sound
 lanesJudged bytes (suc n) k = andThen (laneJudged k (blockAt bytes k)) (lanesJudged bytes n (k + 1))
@@ -76,10 +83,12 @@ oneRace bytes (suc n) k =
     cond (isEmpty (blockAt bytes k)) (oneRace bytes n (k + 1)) (sameRace bytes (raceOf (blockAt bytes k)) n (k + 1))
 
 -- 40 for two filled lanes of different races
+-- RULES 17.3
 unfoldable pub racesJudged : List ℕ → Judged
 racesJudged bytes = cond (oneRace bytes 8 0) Sound (Refused RacesDiffer)
 
 -- 40 comes last
+-- RULES 17.3
 unfoldable pub boardJudged : List ℕ → Judged
 boardJudged bytes = andThen (lanesJudged bytes 8 0) (racesJudged bytes)
 
@@ -96,6 +105,7 @@ pub data Lane : Type 0 where
   empty : Lane
   filled : (race : ℕ) (crew : List ℕ) → Lane
 
+-- RULES 17.1
 unfoldable pub laneOf : List ℕ → Lane
 laneOf b = cond (isEmpty b) empty (filled (raceOf b) (crewOf b))
 

@@ -10,6 +10,7 @@ abbrev pub laneHead : ℕ → List ℕ → List ℕ
 laneHead race crew = 1 ∷ length crew ∷ (race % 256) ∷ (race / 256) ∷ []
 
 -- a lane's record: then the crew and zeros; an empty lane's is zero
+-- RULES 15.5
 abbrev pub laneRecord : Lane → List ℕ
 laneRecord empty = replicate 16 0
 laneRecord (filled race crew) = laneHead race crew ++ padded 12 crew

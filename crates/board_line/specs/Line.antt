@@ -23,16 +23,19 @@ use Rattle.board_read.specs.Refresh.{boardServed, refreshed}
 use Rattle.board_line.specs.Text.{lanesText}
 
 -- a line whose first field is `L` is a refresh, well formed or not
+-- RULES 11.5
 unfoldable pub boardLine : List ℕ → Bool
 boardLine line = isLetter 76 (fieldIn line 0)
 
 -- the code that it asks
+-- RULES 17.4
 unfoldable pub boardCode : List ℕ → Code
 boardCode line =
     cond (ltb longestLine (length line)) Bad
     (cond (boardLine line && eqb (length (split tab line)) 2) (hex16 (fieldIn line 1)) Bad)
 
 -- eight lines of the blocks read; or one line, with the ordinal: a refusal of the board's own, or the card's answer
+-- RULES 17.5
 abbrev pub refreshedText : ℕ → List ℕ → Refreshed → List ℕ
 refreshedText ordinal bytes Board = lanesText 1 (lanesOf bytes)
 refreshedText ordinal bytes (NoBoard x) = refusedText ordinal (boardNumber x)
@@ -44,5 +47,6 @@ codeText card arena ordinal Bad = answerText ordinal (Refused MalformedRequest) 
 codeText card arena ordinal (Is code) =
     refreshedText ordinal (boardServed card arena code 128 .read) (refreshed card arena code 128)
 
+-- RULES 17.4
 unfoldable pub boardLineText : Card → List ℕ → List ℕ → ℕ → List ℕ
 boardLineText card arena line ordinal = codeText card arena ordinal (boardCode line)

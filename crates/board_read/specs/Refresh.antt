@@ -20,9 +20,11 @@ abbrev pub eightBlocks : List ℕ
 eightBlocks = 0x80 ∷ 0 ∷ 0x80 ∷ 1 ∷ 0x80 ∷ 2 ∷ 0x80 ∷ 3 ∷ 0x80 ∷ 4 ∷ 0x80 ∷ 5 ∷ 0x80 ∷ 6 ∷ 0x80 ∷ 7 ∷ []
 
 -- the read of a refresh, in a session, with an output of `room` bytes
+-- RULES 17.2
 abbrev pub boardRequest : ℕ → ℕ → Request
 boardRequest code room = readRequest false (code ∷ []) 8 eightBlocks room
 
+-- RULES 17.2
 abbrev pub boardServed : Card → List ℕ → ℕ → ℕ → Served
 boardServed card arena code room = serve card arena (boardRequest code room)
 
@@ -38,6 +40,7 @@ refreshedAfter served replies.Done = refreshedBy (boardJudged (served .read))
 refreshedAfter served replies.ShortData = ByCard replies.ShortData
 refreshedAfter served (replies.Failed i f) = ByCard (replies.Failed i f)
 
+-- RULES 17.2
 unfoldable pub refreshed : Card → List ℕ → ℕ → ℕ → Refreshed
 refreshed card arena code room = refreshedAfter (boardServed card arena code room) (boardServed card arena code room .reply)
 

@@ -10,14 +10,17 @@ abbrev pub mostBlocks : ℕ
 mostBlocks = 4096
 
 -- the most elements of a request
+-- RULES 1.6
 abbrev pub mostElements : ℕ
 mostElements = 512
 
 -- the most service codes of a request
+-- RULES 1.6
 abbrev pub mostCodes : ℕ
 mostCodes = 16
 
 -- the most bytes of a line before its LF
+-- RULES 1.7
 abbrev pub longestLine : ℕ
 longestLine = 32768
 

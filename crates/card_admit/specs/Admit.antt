@@ -25,10 +25,12 @@ use Rattle.card_nodes.specs.Node.{rootNode, endOf, startOf, blocksOf}
 use Rattle.card_nodes.specs.Find.{sharedOf, parentOf}
 
 -- a node other than the root is at a depth from 1 to 8
+-- RULES 1.3
 unfoldable pub isDepth : ℕ → Bool
 isDepth depth = leb 1 depth && leb depth 8
 
 -- at any other depth it has no parent
+-- RULES 1.3, 5.4
 unfoldable pub parentAt : List Node → ℕ → Found
 parentAt ns depth = cond (not (isDepth depth)) Nothing (parentOf ns depth)
 
@@ -64,6 +66,7 @@ rangeUnder above code end =
     Done))
 
 -- 13 (code, then end), 12, 14 (low six bits 0 or 1 only), 11, 15 (parent's low bits not 0), 18
+-- RULES 3.4, 5.5
 unfoldable pub areaUnder : Node → ℕ → ℕ → Answer
 areaUnder above code end =
     cond (ltb 0xfffe code) (Refused NodeCodeOutOfRange)
@@ -89,6 +92,7 @@ isUndefined Undefined = true
 isUndefined (Defined a) = false
 
 -- 13, 16, 17 (outside the parent's code to end)
+-- RULES 3.4, 5.6
 unfoldable pub serviceUnder : Node → ℕ → Answer
 serviceUnder above code =
     cond (ltb 0xfffe code) (Refused NodeCodeOutOfRange)
@@ -107,16 +111,19 @@ unfoldable pub sameKind : ℕ → ℕ → Bool
 sameKind a b = eqb (kindNumber (codeKindOf a)) (kindNumber (codeKindOf b))
 
 -- 19; a later service of a number joins the store, whatever count it names
+-- RULES 5.7
 unfoldable pub joinedTo : Node → ℕ → ℕ → Placed
 joinedTo first code used =
     cond (not (sameKind (first .code) code)) (NotPlaced OverlapKindMismatch)
     (Store (startOf (first .entry)) (blocksOf (first .entry)) used)
 
 -- the blocks of an arena of `arenaLen` bytes that can be used
+-- RULES 1.4
 unfoldable pub usable : ℕ → ℕ
 usable arenaLen = min (arenaLen / blockSize) mostBlocks
 
 -- 22: the usable blocks are fewer than those in use and the store's own together, so that fewer are unused than it needs; the first service of a number makes a store next after those in use
+-- RULES 1.5, 5.7
 unfoldable pub newStore : ℕ → ℕ → ℕ → Placed
 newStore used arenaLen blocks = cond (ltb (usable arenaLen) (used + blocks)) (NotPlaced NoRoom) (Store used blocks (used + blocks))
 
@@ -126,6 +133,7 @@ firstIn ns (At j) = There (getD ns j rootNode)
 firstIn ns Nothing = Missing
 
 -- 19 or 22, or the store
+-- RULES 5.6
 abbrev pub storeBy : ℕ → ℕ → ℕ → ℕ → First → Placed
 storeBy used arenaLen code blocks (There first) = joinedTo first code used
 storeBy used arenaLen code blocks Missing = newStore used arenaLen blocks
@@ -152,10 +160,12 @@ unfoldable pub placedOf : List Node → ℕ → ℕ → ℕ → ℕ → ℕ → 
 placedOf ns used arenaLen depth code blocks = serviceFound ns used arenaLen code blocks (parentAt ns depth)
 
 -- whether a store of `own` blocks is given to a service that names a count: any is by a system that joins
+-- RULES 5.7
 unfoldable pub mayJoin : Bool → ℕ → ℕ → Bool
 mayJoin join own blocks = cond join true (eqb own blocks)
 
 -- 24: the store has another count than the service; a new one never has
+-- RULES 5.6, 5.7
 abbrev pub agreed : Bool → ℕ → Placed → Placed
 agreed join blocks (NotPlaced r) = NotPlaced r
 agreed join blocks (Store s b u) = cond (not (mayJoin join b blocks)) (NotPlaced CountsDiffer) (Store s b u)

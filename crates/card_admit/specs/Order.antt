@@ -19,5 +19,6 @@ storeWorded join used arenaLen code blocks (There first) =
 storeWorded join used arenaLen code blocks Missing = newStore used arenaLen blocks
 
 -- 13, 16 and 17 come ahead of those
+-- RULES 5.6
 abbrev pub underWorded : Bool → Node → First → ℕ → ℕ → ℕ → ℕ → Placed
 underWorded join above first used arenaLen code blocks = ifDone (serviceUnder above code) (storeWorded join used arenaLen code blocks first)

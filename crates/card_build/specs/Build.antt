@@ -22,6 +22,7 @@ serviceAdded c arenaLen depth code blocks version =
     cond (not (isSound c)) (refused c NotBuilt) (addService c arenaLen depth code blocks version)
 
 -- the bytes of the blocks that are newly in use are zero, all others as they were
+-- RULES 5.7
 unfoldable pub arenaAdded : Card → Added → List ℕ → List ℕ
 arenaAdded c a arena =
     put arena (blockSize * c .used) (blockSize * (a .card .used - c .used)) (replicate (blockSize * (a .card .used - c .used)) 0)

@@ -21,10 +21,12 @@ abbrev pub ofOne : Node → System → Card
 ofOne n system = record { nodes = replicate 64 n; count = 1; used = 0; system = system }
 
 -- the root alone; unused records read the same
+-- RULES 1.1
 abbrev pub newCard : System → Card
 newCard system = record { nodes = replicate 64 rootNode; count = 1; used = 0; system = system }
 
 -- the nodes of the card's system, in tree order
+-- RULES 1.1
 abbrev pub nodesOf : Card → List Node
 nodesOf c = take (c .count) (c .nodes)
 
@@ -33,12 +35,15 @@ abbrev pub isSound : Card → Bool
 isSound c = soundOf (c .nodes) (c .count) (c .used)
 
 -- the card with one record more
+-- RULES 5.1, 5.11
 abbrev pub grown : Card → Node → ℕ → Card
 grown c n used = record { nodes = set (c .nodes) (c .count) n; count = c .count + 1; used = used; system = c .system }
 
+-- RULES 5.11
 abbrev pub accepted : Card → Added
 accepted c = record { card = c; answer = Done }
 
 -- a refusal changes no node
+-- RULES 2.1, 5.10
 abbrev pub refused : Card → Refusal → Added
 refused c r = record { card = c; answer = Refused r }

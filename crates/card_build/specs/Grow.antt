@@ -23,6 +23,7 @@ use Rattle.card_build.specs.declared.build.Growth.{Growth}
 use Rattle.card_build.specs.Card.{nodesOf, grown, accepted, refused}
 
 -- the record of a node
+-- RULES 5.2
 abbrev pub nodeAs : ℕ → ℕ → ℕ → Entry → Node
 nodeAs depth code version entry = record { depth = depth; code = code; version = version; entry = entry }
 
@@ -40,6 +41,7 @@ areaBy c n (Refused r) = refused c r
 areaBy c n Done = accepted (grown c n (c .used))
 
 -- 20: no record of the card is free; then those of the judging
+-- RULES 5.4
 unfoldable pub addArea : Card → ℕ → ℕ → ℕ → ℕ → Added
 addArea c depth code end version =
     cond (leb 64 (c .count)) (refused c TableFull)
@@ -59,6 +61,7 @@ serviceBy c depth code version (NotPlaced r) = refused c r
 serviceBy c depth code version (Store s b used) = accepted (grown c (nodeAs depth code version (Service s b Unlimited)) used)
 
 -- 7 ahead of the others, for an arena of `arenaLen` bytes; then 20, then those of the placing, 24 among them
+-- RULES 2.3, 5.4
 unfoldable pub addService : Card → ℕ → ℕ → ℕ → ℕ → ℕ → Added
 addService c arenaLen depth code blocks version =
     cond (ltb arenaLen (blockSize * c .used)) (refused c ShortArena)
@@ -80,5 +83,6 @@ limitBy c l (Service s b old) = accepted (record {
 })
 
 -- a limit goes to the node added last and replaces an earlier one; any two bounds are accepted
+-- RULES 5.9
 unfoldable pub setLimit : Card → ℤ → ℤ → ℕ → Added
 setLimit c upper lower generation = limitBy c (Limited upper lower generation) (lastNode c .entry)

@@ -7,6 +7,7 @@ use Rattle.card_build.specs.declared.card.Card.{Card}
 use Rattle.card_build.specs.Card.{newCard, accepted}
 use Rattle.card_build.specs.Grow.{addArea, addService, setLimit}
 
+-- RULES 5.12
 pub data Built : Card → Type 0 where
   new : (system : System) → Built (newCard system)
   area : {c c′ : Card} (depth code end version : ℕ) → Built c → addArea c depth code end version ≡ accepted c′ → Built c′

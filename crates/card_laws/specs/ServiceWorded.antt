@@ -26,6 +26,7 @@ placedWorded join ns used arenaLen code blocks (At p) =
     underWorded join (getD ns p rootNode) (firstIn ns (sharedOf ns code)) used arenaLen code blocks
 
 -- 8, 7 and 20 come ahead of those
+-- RULES 2.3
 abbrev pub serviceWorded : Card → ℕ → ℕ → ℕ → ℕ → ℕ → Added
 serviceWorded c arenaLen depth code blocks version =
     cond (not (isSound c)) (refused c NotBuilt)

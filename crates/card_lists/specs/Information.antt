@@ -27,10 +27,12 @@ abbrev pub freeBy : ℕ → Found → ℕ
 freeBy unused (At i) = unused
 freeBy unused Nothing = 0
 
+-- RULES 18.4
 abbrev pub freeFor : List Node → ℕ → ℕ → ℕ
 freeFor ns unused code = freeBy unused (areaNamed ns code)
 
 -- for each node asked, in their order: assigned is its block total
+-- RULES 18.4
 abbrev pub informationOf : List Node → ℕ → List ℕ → Informed
 informationOf ns unused asked = informationTold (record {
   count = length asked;
@@ -46,6 +48,7 @@ aheadOf arenaLen used many =
     Done)
 
 -- what a card answers: 8, then 7 and 46
+-- RULES 18.4
 unfoldable pub blocksTold : Card → ℕ → List ℕ → Informed
 blocksTold c arenaLen asked =
     cond (not (isSound c)) (informationRefused NotBuilt)
@@ -54,8 +57,10 @@ blocksTold c arenaLen asked =
     (informationOf (nodesOf c) (usable arenaLen - c .used) asked)))
 
 -- as bytes: 5 comes last
+-- RULES 18.4
 unfoldable pub blocksPut : Card → ℕ → List ℕ → ℕ → Put
 blocksPut c arenaLen asked room = putAnswered (blocksTold c arenaLen asked .answer) (informationBytes (blocksTold c arenaLen asked .told)) room
 
+-- RULES 18.4
 unfoldable pub blocksOut : Card → ℕ → List ℕ → List ℕ → List ℕ
 blocksOut c arenaLen asked out = outAnswered (blocksTold c arenaLen asked .answer) (informationBytes (blocksTold c arenaLen asked .told)) out

@@ -43,6 +43,7 @@ abbrev pub codesAmong : List Node → List ℕ
 codesAmong ns = map (λ n. n .code) (servicesAmong ns)
 
 -- nodes as a code list, areas and services apart; unused entries are 0
+-- RULES 18.2
 abbrev pub listOf : Bool → List Node → CodeList
 listOf more ns = record {
   more = more;
@@ -53,14 +54,17 @@ listOf more ns = record {
 }
 
 -- packet p holds the sixteen children from 16 p on
+-- RULES 18.2
 abbrev pub packetOf : List Node → ℕ → List Node
 packetOf children p = take mostEntries (drop (mostEntries * p) children)
 
 -- packet 0 always exists, any other where a child is left for it
+-- RULES 18.2
 unfoldable pub pastEnd : ℕ → ℕ → Bool
 pastEnd p n = cond (eqb p 0) false (leb n (mostEntries * p))
 
 -- more follow where there are over 16 (p + 1) children
+-- RULES 18.2
 unfoldable pub moreAfter : ℕ → ℕ → Bool
 moreAfter p n = ltb (mostEntries * p + mostEntries) n
 
@@ -80,6 +84,7 @@ listFound ns p Nothing = listRefused ParentNoArea
 listFound ns p (At i) = packetTold (childrenAt ns i) p
 
 -- what a card answers, refusal 8 first
+-- RULES 18.3
 unfoldable pub codeListOf : Card → ℕ → ℕ → Listed
 codeListOf c parent p = cond (not (isSound c)) (listRefused NotBuilt) (listFound (nodesOf c) p (areaNamed (nodesOf c) parent))
 
@@ -92,13 +97,16 @@ abbrev pub outAnswered : Answer → List ℕ → List ℕ → List ℕ
 outAnswered Done message out = messageAfter message out
 outAnswered (Refused r) message out = out
 
+-- RULES 18.3
 unfoldable pub codeListPut : Card → ℕ → ℕ → ℕ → Put
 codeListPut c parent p room = putAnswered (codeListOf c parent p .answer) (codeListBytes (codeListOf c parent p .list)) room
 
+-- RULES 18.3
 unfoldable pub codeListOut : Card → ℕ → ℕ → List ℕ → List ℕ
 codeListOut c parent p out = outAnswered (codeListOf c parent p .answer) (codeListBytes (codeListOf c parent p .list)) out
 
 -- what packets 0, 1, .. k - 1 hold, one after the other
+-- RULES 18.2
 unfoldable pub packetsJoined : {A : Type 0} → (ℕ → List A) → ℕ → List A
 packetsJoined packet zero = []
 packetsJoined packet (suc k) = packetsJoined packet k ++ packet k

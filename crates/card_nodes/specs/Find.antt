@@ -19,6 +19,7 @@ orElse (At p) other = At p
 orElse Nothing other = other
 
 -- the first node that passes a test, the first of all being counted i
+-- RULES 5.8
 unfoldable pub firstFrom : (Node → Bool) → ℕ → List Node → Found
 firstFrom test i [] = Nothing
 firstFrom test i (n ∷ ns) = cond (test n) (At i) (firstFrom test (suc i) ns)
@@ -35,9 +36,11 @@ abbrev pub isSharerOf : ℕ → Node → Bool
 isSharerOf code n = eqb (numberOf (n .code)) (numberOf code) && isService (n .entry)
 
 -- repeated codes are accepted; the first in tree order answers
+-- RULES 5.8
 abbrev pub serviceOf : List Node → ℕ → Found
 serviceOf ns code = firstFrom (isServiceOf code) 0 ns
 
+-- RULES 5.8
 abbrev pub areaOf : List Node → ℕ → Found
 areaOf ns code = firstFrom (isAreaOf code) 0 ns
 
@@ -66,5 +69,6 @@ parentFrom depth found i [] = found
 parentFrom depth found i (n ∷ ns) = parentFrom depth (cond (ltb (n .depth) depth) (openAt n depth i) found) (suc i) ns
 
 -- so the parent is found in one pass; parentWorded says which node that is, and proofs/ParentWorded.antt that it is the same
+-- RULES 5.3
 abbrev pub parentOf : List Node → ℕ → Found
 parentOf ns depth = parentFrom depth Nothing 0 ns

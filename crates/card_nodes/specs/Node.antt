@@ -8,6 +8,7 @@ use Rattle.card_nodes.specs.declared.node.Entry.the-variants.{Area, Serv
 use Rattle.card_nodes.specs.declared.node.Node.{Node}
 
 -- the root: depth 0, code 0000, end FFFE, key version 0000
+-- RULES 1.2
 abbrev pub rootNode : Node
 rootNode = record { depth = 0; code = 0; version = 0; entry = Area 0xfffe }
 

@@ -29,5 +29,6 @@ ifOpenArea ns (At p) = cond (isOpenArea ns p) (At p) Nothing
 ifOpenArea ns Nothing = Nothing
 
 -- The parent is the latest node of depth one less, which must be an area with no shallower or equally deep node after it.
+-- RULES 5.3
 abbrev pub parentWorded : List Node → ℕ → Found
 parentWorded ns depth = ifOpenArea ns (latestFrom depth 0 ns)

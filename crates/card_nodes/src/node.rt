@@ -4,6 +4,7 @@ ghost use mathlib.Core.Path.{_≡_};
 ghost use Rattle.card_nodes.specs.Node.{rootNode, isArea, isService, endOf, startOf, blocksOf};
 
 // What a node is: an area to the end of its codes, or a service over a store of blocks.
+// RULES 5.2
 pub enum Entry {
     Area {
         end: u16,
@@ -16,6 +17,7 @@ pub enum Entry {
 }
 
 // A node of the tree, at its depth; the root's is 0.
+// RULES 5.2
 pub struct Node {
     pub depth: u8,
     pub code: u16,

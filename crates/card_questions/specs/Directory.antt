@@ -30,6 +30,7 @@ pairsUnder d [] = []
 pairsUnder d (n ∷ ns) = cond (leb (n .depth) d) [] (pairOf n (pairsUnder d ns))
 
 -- the root and all under it
+-- RULES 6.1
 unfoldable pub directoryOf : List Node → List ℕ
 directoryOf [] = []
 directoryOf (n ∷ ns) = pairOf n (pairsUnder (n .depth) ns)
@@ -40,10 +41,12 @@ listedOf [] = 0
 listedOf (n ∷ ns) = 1 + spanUnder (n .depth) ns
 
 -- 5 where the output has no pair per node
+-- RULES 2.5
 unfoldable pub listingOf : List Node → ℕ → Listing
 listingOf ns room = cond (ltb room (2 * length ns)) (Refused ShortOutput) (Listed (listedOf ns))
 
 -- the output after it: beyond the answer, and after a refusal, as it was
+-- RULES 2.5
 unfoldable pub outAfter : List Node → List ℕ → List ℕ
 outAfter ns out = cond (ltb (length out) (2 * length ns)) out (sets out 0 (directoryOf ns))
 

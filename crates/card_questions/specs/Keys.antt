@@ -30,11 +30,13 @@ versionAt ns (At i) other = getD ns i rootNode .version
 versionAt ns Nothing other = other
 
 -- system for FFFF, else service, else area, else FFFF
+-- RULES 3.4, 6.4
 unfoldable pub versionOf : List Node → ℕ → ℕ → ℕ
 versionOf ns system code =
     cond (eqb code 0xffff) system (versionAt ns (serviceOf ns code) (versionAt ns (areaOf ns code) 0xffff))
 
 -- an area's code, or FFFF
+-- RULES 3.4
 unfoldable pub areaOrSystem : List Node → ℕ → Bool
 areaOrSystem ns code = cond (eqb code 0xffff) true (isFound (areaOf ns code))
 
@@ -43,11 +45,13 @@ allAreas ns [] = true
 allAreas ns (c ∷ cs) = areaOrSystem ns c && allAreas ns cs
 
 -- first an existing area, each later one an area or FFFF; empty is no
+-- RULES 6.5
 unfoldable pub areaListOf : List Node → List ℕ → Bool
 areaListOf ns [] = false
 areaListOf ns (c ∷ cs) = isFound (areaOf ns c) && allAreas ns cs
 
 -- FFFF and areas are always keyed, a service by its code's lowest bit
+-- RULES 3.3, 3.4, 6.6
 unfoldable pub listNodeOf : List Node → ℕ → ListNode
 listNodeOf ns code =
     cond (eqb code 0xffff) Keyed
@@ -84,6 +88,7 @@ unfoldable pub inOrder : List Node → List ℕ → Bool
 inOrder ns [] = true
 inOrder ns (c ∷ cs) = cond (isFree (listNodeOf ns c)) (not (anyKeyed ns cs)) (inOrder ns cs)
 
+-- RULES 6.6
 unfoldable pub serviceListOf : List Node → List ℕ → Bool
 serviceListOf ns cs = allKnown ns cs && (inOrder ns cs && anyKeyed ns cs)
 

@@ -25,6 +25,7 @@ areaTotalAt ns (At i) = min (sumUnder (getD ns i rootNode .depth) (drop (i + 1) 
 areaTotalAt ns Nothing = 0
 
 -- that of the first area of a code, and 0 where there is none
+-- RULES 6.2
 abbrev pub areaTotal : List Node → ℕ → ℕ
 areaTotal ns code = areaTotalAt ns (areaOf ns code)
 
@@ -34,6 +35,7 @@ totalAt ns code (At i) = min (blocksOf (getD ns i rootNode .entry)) mostTold
 totalAt ns code Nothing = areaTotal ns code
 
 -- for a service code it is that store's count, and an unknown node gives 0
+-- RULES 6.3
 unfoldable pub totalOf : List Node → ℕ → ℕ
 totalOf ns code = totalAt ns code (serviceOf ns code)
 

@@ -67,6 +67,7 @@ endsAt used Stops = false
 endsAt used (Goes u) = eqb u used
 
 -- a root, then records that the building gives, then unused ones, and the blocks in use
+-- RULES 5.12
 unfoldable pub soundOf : List Node → ℕ → ℕ → Bool
 soundOf nodes count used =
     cond (eqb count 0) false

@@ -16,9 +16,11 @@ placesFrom zero p v = []
 placesFrom (suc d) p v = placeIf (v % 2) p (placesFrom d (p + 1) (v / 2))
 
 -- the encoding by bits: k + 1 for each set bit k of the eight, and k + 9 if k is at most 6, ascending
+-- RULES 4.1
 unfoldable pub placesOf : ℕ → List ℕ
 placesOf v = placesFrom 8 1 v ++ placesFrom 7 9 v
 
 -- up to 15 places, unused entries 0
+-- RULES 4.2
 unfoldable pub bitmapOf : ℕ → Positions
 bitmapOf v = record { places = padded 15 (placesOf v); count = length (placesOf v) }

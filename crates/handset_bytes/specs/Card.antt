@@ -22,6 +22,7 @@ unfoldable pub nodesBytes : List Node → List ℕ
 nodesBytes [] = []
 nodesBytes (n ∷ ns) = nodeBytes n ++ nodesBytes ns
 
+-- RULES 15.1
 unfoldable pub cardBytes : Card → List ℕ
 cardBytes c = headBytes (c .count) (c .used) (c .system) ++ nodesBytes (c .nodes)
 
@@ -56,6 +57,7 @@ unfoldable pub isHeaded : List ℕ → Bool
 isHeaded s = eqb (length s) cardSize && leb (halfAt s 8) 1
 
 -- whose records are all a node's, too
+-- RULES 15.2
 unfoldable pub isCard : List ℕ → Bool
 isCard s = eqb (length s) cardSize && (leb (halfAt s 8) 1 && areRecords 64 (drop headSize s))
 
@@ -63,5 +65,6 @@ isCard s = eqb (length s) cardSize && (leb (halfAt s 8) 1 && areRecords 64 (drop
 abbrev pub noCard : Card
 noCard = record { nodes = replicate 64 rootNode; count = 0; used = 0; system = systemOf 0 0 false }
 
+-- RULES 15.2
 unfoldable pub cardDecoded : List ℕ → Card
 cardDecoded s = cond (isCard s) (cardIn s) noCard

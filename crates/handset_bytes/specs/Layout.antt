@@ -7,5 +7,6 @@ headSize = 10
 abbrev pub recordSize : ℕ
 recordSize = 20
 
+-- RULES 15.1
 abbrev pub cardSize : ℕ
 cardSize = headSize + recordSize * 64

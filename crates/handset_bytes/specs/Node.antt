@@ -31,6 +31,7 @@ abbrev pub entryBytes : Entry → List ℕ
 entryBytes (Area end) = halfBytes end ++ replicate 12 0
 entryBytes (Service start blocks limit) = halfBytes start ++ halfBytes blocks ++ limitBytes limit
 
+-- RULES 15.1
 unfoldable pub nodeBytes : Node → List ℕ
 nodeBytes n = kindByte (n .entry) ∷ n .depth ∷ halfBytes (n .code) ++ halfBytes (n .version) ++ entryBytes (n .entry)
 

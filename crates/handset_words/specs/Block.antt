@@ -17,10 +17,12 @@ abbrev pub unfitAfter : Answer → Answer
 unfitAfter Done = Refused MalformedImage
 unfitAfter (Refused r) = Refused r
 
+-- RULES 15.3
 unfoldable pub setAnswer : Card → ℕ → ℕ → ℕ → List ℕ → Answer
 setAnswer c arenaLen code number block =
     cond (eqb (length block) 16) (blockJudged c arenaLen code number) (unfitAfter (blockJudged c arenaLen code number))
 
+-- RULES 15.3
 unfoldable pub setAfter : Card → List ℕ → ℕ → ℕ → List ℕ → List ℕ
 setAfter c arena code number block = cond (eqb (length block) 16) (arenaSet c arena code number block) arena
 

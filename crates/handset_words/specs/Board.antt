@@ -15,6 +15,7 @@ use Rattle.handset_words.specs.Outcome.{refusalAs}
 use Rattle.handset_words.specs.Reply.{replyAs}
 
 -- 0 for a board, the board's refusal, or what any request returns
+-- RULES 15.5
 abbrev pub refreshedAs : Refreshed → ℕ
 refreshedAs Board = 0
 refreshedAs (NoBoard x) = refusalAs (boardNumber x)
@@ -33,5 +34,6 @@ recordsBy old bytes Board = put old 0 128 (lanesRecords (lanesOf bytes))
 recordsBy old bytes (NoBoard x) = old
 recordsBy old bytes (ByCard reply) = old
 
+-- RULES 15.5
 unfoldable pub recordsAfter : Card → List ℕ → ℕ → List ℕ → List ℕ
 recordsAfter c arena code old = recordsBy old (boardServed c arena code (boardRoom (length old)) .read) (boardMade c arena code old)

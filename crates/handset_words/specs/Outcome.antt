@@ -9,9 +9,11 @@ use Rattle.answers.specs.declared.refusal.Answer.the-variants.{Done, Refused}
 abbrev pub refusalAs : ℕ → ℕ
 refusalAs number = 65536 * number
 
+-- RULES 15.4
 abbrev pub refusedAs : Refusal → ℕ
 refusedAs r = refusalAs (refusalNumber r)
 
+-- RULES 15.4
 abbrev pub answerAs : Answer → ℕ
 answerAs Done = 0
 answerAs (Refused r) = refusedAs r

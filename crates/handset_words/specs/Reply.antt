@@ -11,5 +11,6 @@ abbrev pub responseAs : ℕ → Response → ℕ
 responseAs cause (Pair flag1 flag2) = 16777216 * cause + 256 * flag1 + flag2
 responseAs cause (Refusal number) = refusalAs number
 
+-- RULES 15.4
 abbrev pub replyAs : Reply → ℕ
 replyAs r = responseAs (causeIn r) (responseOf r)

@@ -11,6 +11,7 @@ abbrev pub toldAs : Told → ℕ
 toldAs (Number n) = 0
 toldAs (NotTold r) = refusedAs r
 
+-- RULES 15.4
 abbrev pub toldAfter : ℕ → Told → ℕ
 toldAfter old (Number n) = n
 toldAfter old (NotTold r) = old
@@ -20,6 +21,7 @@ abbrev pub listedAs : Listing → ℕ
 listedAs (Listed n) = 0
 listedAs (NotListed r) = refusedAs r
 
+-- RULES 15.4
 abbrev pub listedAfter : ℕ → Listing → ℕ
 listedAfter old (Listed n) = n
 listedAfter old (NotListed r) = old

@@ -38,6 +38,7 @@ nameOf asks.Used = usedName
 nameOf (asks.Attribute code) = attrName
 
 -- on a card, the arena lent and an output of `room` bytes; `info` and `block` alone go by the arena
+-- RULES 19.2
 abbrev pub fieldsOf : Card → List ℕ → ℕ → List ℕ → Asked → List ℕ
 fieldsOf c a room line (asks.List parent p) = listFields c parent p room
 fieldsOf c a room line asks.Info = infoFields c (length a) (codesOf (fieldOne line)) room
@@ -53,9 +54,11 @@ fieldsOf c a room line asks.Used = usedFields c
 fieldsOf c a room line (asks.Attribute code) = attributeFields code
 
 -- lent are the first bytes of the arena, and of an output of 4,096 bytes
+-- RULES 19.3
 unfoldable pub toldText : Card → List ℕ → ℕ → ℕ → List ℕ → Asked → List ℕ
 toldText c arena lent room line asked = closed tab (nameOf asked) ++ fieldsOf c (take lent arena) (min room mostRoom) line asked
 
 -- `?` (63), line number
+-- RULES 19.3
 unfoldable pub unknownText : ℕ → List ℕ
 unknownText number = closed tab (what ∷ []) ++ closed lf (decText number)

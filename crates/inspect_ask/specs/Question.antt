@@ -105,6 +105,7 @@ unfoldable pub arenaLine : List (List ℕ) → Question
 arenaLine fs = withNumber Unknown (numberAt fs 1 mostArena) Arena
 
 -- each name with its number of fields; what has none of them is unknown
+-- RULES 19.2
 unfoldable pub lentAsked : List (List ℕ) → Question
 lentAsked fs =
     cond (form roomName 2 fs) (roomLine fs)
@@ -121,6 +122,7 @@ listsAsked fs =
     cond (form areasName 2 fs) (codesLine asks.Areas fs)
     (cond (form svcsName 2 fs) (codesLine asks.Services fs) (storedAsked fs))
 
+-- RULES 19.2
 unfoldable pub cardAsked : List (List ℕ) → Question
 cardAsked fs =
     cond (form totalName 2 fs) (codeLine singles.Total fs)
@@ -132,11 +134,13 @@ bytesAsked fs =
     cond (form readlistName 2 fs) (bytesLine asks.ReadList fs)
     (cond (form readinfoName 2 fs) (bytesLine asks.ReadInfo fs) (cardAsked fs))
 
+-- RULES 19.2
 unfoldable pub messageAsked : List (List ℕ) → Question
 messageAsked fs =
     cond (form listName 3 fs) (listLine fs)
     (cond (form infoName 2 fs) (codesLine asks.Info fs) (bytesAsked fs))
 
 -- a line of at most 32,768 bytes, its fields parted by tabs (9)
+-- RULES 19.1
 unfoldable pub questionOf : List ℕ → Question
 questionOf line = cond (ltb longestLine (length line)) Unknown (messageAsked (split tab line))

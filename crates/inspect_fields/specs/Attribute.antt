@@ -49,5 +49,6 @@ abbrev pub rightsFields : ℕ → Decoded → List ℕ
 rightsFields code (Defined a) = definedFields a (requiresKey code)
 rightsFields code Undefined = closed tab (dash ∷ []) ++ closed tab (dash ∷ []) ++ closed lf (dash ∷ [])
 
+-- RULES 19.2
 unfoldable pub attributeFields : ℕ → List ℕ
 attributeFields code = closed tab (decText (numberOf code)) ++ rightsFields code (attributeOf code)

@@ -25,6 +25,7 @@ abbrev pub mostFields : ℕ
 mostFields = 8256
 
 -- refused: `!` (33), the refusal's number
+-- RULES 19.3
 unfoldable pub refusalTold : Refusal → List ℕ
 refusalTold refusal = closed tab (bang ∷ []) ++ closed lf (decText (refusalNumber refusal))
 
@@ -40,6 +41,7 @@ abbrev pub listedFields : CodeList → Answer → List ℕ
 listedFields m answers.Done = codeListFields m
 listedFields m (answers.Refused refusal) = refusalTold refusal
 
+-- RULES 19.3
 unfoldable pub readListFields : List ℕ → List ℕ
 readListFields s = listedFields (readCodeList s .list) (readCodeList s .answer)
 
@@ -51,6 +53,7 @@ abbrev pub informedFields : BlockInformation → Answer → List ℕ
 informedFields m answers.Done = informationFields m
 informedFields m (answers.Refused refusal) = refusalTold refusal
 
+-- RULES 19.3
 unfoldable pub readInfoFields : List ℕ → List ℕ
 readInfoFields s = informedFields (readInformation s .told) (readInformation s .answer)
 

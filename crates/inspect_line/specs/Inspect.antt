@@ -25,10 +25,12 @@ abbrev pub seen : Inspect → List ℕ → Seen
 seen p arena = record { inspect = p; arena = arena }
 
 -- at first the whole output and the whole arena are lent
+-- RULES 19.3
 abbrev pub beginsWith : Inspect
 beginsWith = record { replay = replayStart; room = mostRoom; lent = mostArena }
 
 -- the line number counts every line
+-- RULES 19.1
 abbrev pub numbered : ℕ → Replay → Replay
 numbered lines p = record { card = p .card; phase = p .phase; lines = lines; asked = p .asked }
 
@@ -38,12 +40,14 @@ replayedSeen p h =
     seen (record { replay = numbered (oneMore (p .replay .lines)) (h .replay); room = p .room; lent = p .lent }) (h .arena)
 
 -- `room` and `arena` set what is lent from here on
+-- RULES 19.3
 abbrev pub roomAfter : Question → ℕ → ℕ
 roomAfter questions.Unknown room = room
 roomAfter (questions.Of asked) room = room
 roomAfter (questions.Room n) room = n
 roomAfter (questions.Arena n) room = room
 
+-- RULES 19.3
 abbrev pub lentAfter : Question → ℕ → ℕ
 lentAfter questions.Unknown lent = lent
 lentAfter (questions.Of asked) lent = lent
@@ -51,6 +55,7 @@ lentAfter (questions.Room n) lent = lent
 lentAfter (questions.Arena n) lent = n
 
 -- a question takes no ordinal; card and arena stay
+-- RULES 19.4
 abbrev pub questionSeen : Seen → Question → Seen
 questionSeen s q =
     let p = s .inspect in
@@ -93,6 +98,7 @@ abbrev pub seenAtStart : Seen
 seenAtStart = seen beginsWith (replicate lentBytes 0)
 
 -- what is printed of a text
+-- RULES 19.4
 unfoldable pub inspectOf : List ℕ → List ℕ
 inspectOf text = saysOf inspectMachine seenAtStart text
 

@@ -15,6 +15,7 @@ use Rattle.inspect_sort.specs.declared.Sort.{Sort}
 use Rattle.inspect_sort.specs.declared.Sort.the-variants as sorts
 
 -- the first field decides: an image line, a request, a refresh of the board, or a question
+-- RULES 19.1
 unfoldable pub laterSort : List ℕ → Sort
 laterSort line =
     cond (imageNamed (split tab line)) (sorts.Replayed (kinds.Image false))

@@ -28,6 +28,7 @@ abbrev pub eight : ℕ
 eight = refusedAs NotBuilt
 
 -- each of the fifteen calls, whatever else it is lent
+-- RULES 15.2
 pub record EightToAll (c : Card) : Type 0 where
   pub area : (depth code end version : ℕ) → answerAs (areaAdded c depth code end version .answer) ≡ eight
   pub service : (arenaLen depth code blocks version : ℕ) → answerAs (serviceAdded c arenaLen depth code blocks version .answer) ≡ eight

@@ -18,7 +18,8 @@ use Rattle.handset_bytes.specs.Card.{cardDecoded}
 use Rattle.handset_words.specs.Message.{putAs}
 use Rattle.law_messages.specs.Told.{listSent}
 
--- RULES 18.2: the flag of a packet is set exactly where the next packet is answered
+-- the flag of a packet is set exactly where the next packet is answered
+-- RULES 18.2
 abbrev pub MoreExactly : Card → Type 0
 MoreExactly c =
     (parent p : ℕ) → codeListOf c parent p .answer ≡ Done
@@ -30,6 +31,7 @@ longestList = 67
 
 -- of the library: a call returned 0, and the flag that is read of its message is set exactly where the call for the next packet, with room
 -- for any list, returns 0
+-- RULES 18.2
 abbrev pub LibraryMore : List ℕ → Type 0
 LibraryMore s =
     (parent p : ℕ) (out : List ℕ) (room : ℕ) → longestList ≤ room
@@ -57,5 +59,6 @@ pub record TellsAll (c : Card) (parent i k : ℕ) : Type 0 where
   pub services : entriesIn codesListed (followed (codeListOf c parent) k 0) ≡ codesAmong (childrenAt (nodesOf c) i)
   pub answered : AllAnswered (followed (codeListOf c parent) k 0)
 
+-- RULES 18.2
 abbrev pub CardTellsAll : Card → Type 0
 CardTellsAll c = isSound c ≡ true → (parent i k : ℕ) → areaNamed (nodesOf c) parent ≡ At i → 4 ≤ k → TellsAll c parent i k

@@ -17,7 +17,8 @@ use Rattle.handset_bytes.specs.Card.{cardDecoded}
 use Rattle.handset_words.specs.Outcome.{answerAs}
 use Rattle.handset_words.specs.Message.{putAs, putAfter, toldBy, numbersTold, listRead, informationRead}
 
--- RULES 18.6: a code list that a card answers with, written and read, comes back
+-- a code list that a card answers with, written and read, comes back
+-- RULES 18.6
 abbrev pub ListBack : Card → Type 0
 ListBack c =
     (parent p : ℕ) → codeListOf c parent p .answer ≡ Done
@@ -50,6 +51,7 @@ pub record ListTaken (m : CodeList) (message areas services : List ℕ) : Type 0
       ≡ m .more
 
 -- on any bytes of a card: what the one call wrote, returning 0, the other reads as the card's own answer, where its lists find room
+-- RULES 18.6
 abbrev pub ListCalls : List ℕ → Type 0
 ListCalls s =
     (parent p : ℕ) (out areas services : List ℕ) → let m = codeListOf (cardDecoded s) parent p .list in
@@ -76,6 +78,7 @@ pub record InformationTaken (m : BlockInformation) (message assigned free : List
       : (old : ℕ) → toldBy {A = ℕ} (informationRead message (length assigned) (length free)) old (readInformation message .told .count)
       ≡ m .count
 
+-- RULES 18.6
 abbrev pub InformationCalls : List ℕ → Type 0
 InformationCalls s =
     (arenaLen : ℕ) (asked out assigned free : List ℕ) → let m = blocksTold (cardDecoded s) arenaLen asked .told in

@@ -10,6 +10,7 @@ use denote.Triple.Entry.{Args, Res}
 pub use Rattle.law_calls.specs.Promise.{Promised}
 
 module _ {M : Type 1} (𝓤 : URA M) (T : Ended) (c : Clauses 𝓤 T) where
+  -- RULES 16.3
   abbrev pub OneAnswer : Type 1
   OneAnswer =
       (κs : Lfts (T .signature .lifetimes)) (a : Args (T .signature) κs) (g : c κs a .ghost) (r r′ : Res (T .signature) κs) (ws ws′ : Lasts T κs a)

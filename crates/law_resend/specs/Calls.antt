@@ -51,6 +51,7 @@ module _ (c : Card) {K L : Type 0} (ask : K → Request) (leave : K → Answer �
     pub unchanged : e ≡ m
     pub kept : m ≡ arenaAfter c a (ask (x .call))
 
+  -- RULES 16.6
   abbrev pub ResentBy : Type 0
   ResentBy =
       (a : List ℕ) (x : Exchange K L) (xs : List (Exchange K L)) (m : List ℕ) (y : Exchange K L) (e : List ℕ)
@@ -58,6 +59,7 @@ module _ (c : Card) {K L : Type 0} (ask : K → Request) (leave : K → Answer �
       → AsFirst a x m y e
 
 -- A `W` line, with a buffer of so many bytes lent to it; lines between; and the same line with a buffer that is long enough.
+-- RULES 16.6
 abbrev pub LineResent : Card → Type 0
 LineResent c =
     (a : List ℕ) (k : LineCall) (ks : List LineCall) (room : ℕ)

@@ -72,6 +72,7 @@ pub record Harmless (c : Card) (a : List ℕ) (w : Request) (rs : List Request) 
 
 -- At the card c, whatever bytes the arena holds: an accepted write in which no purse block is named twice, by whichever service, and each
 -- cyclic number forms a single run does no harm when it is sent again, if no write between was accepted and its staging is long enough.
+-- RULES 16.6
 abbrev pub Resent : Card → Type 0
 Resent c =
     (a : List ℕ) (w : Request) (rs : List Request) (room : ℕ)

@@ -71,6 +71,7 @@ pub record Redrawn (c : Card) (n b : ℕ) (d a : List ℕ) (w : Request) (rs : L
 
 -- At the card c: for each element of the read that names block b of number n, through whatever service, the sixteen bytes at its
 -- place of the output are d. `out` is the output that the read is lent.
+-- RULES 16.2
 abbrev pub TowerReads : Card → Type 0
 TowerReads c =
     (n b : ℕ) (d a : List ℕ) (w : Request) (rs : List Request) (q : Request)

@@ -48,6 +48,7 @@ module _ (c : Card) {K L : Type 0} (ask : K → Request) (leave : K → Answer �
     pub two-first : (xs : List (Exchange K L)) (b : List ℕ) → RanAlong a xs b → callsOf xs ≡ callsOf (only two zs ++ only one zs) → b ≡ e
 
   -- Any run of both terminals' calls, in whatever order they came, where no number of a service of the card is named by both.
+  -- RULES 16.1
   abbrev pub TwoRuns : Type 0
   TwoRuns =
       (a : List ℕ) (zs : List (Marked (Exchange K L))) (e : List ℕ)
@@ -73,6 +74,7 @@ module _ (c : Card) {K L : Type 0} (ask : K → Request) (leave : K → Answer �
 
     -- The read is left what an answer leaves: for each of its elements that names the block, the sixteen bytes at the element's place are d
     -- in the answer, and in an output of the length that the call lends.
+    -- RULES 16.2
     abbrev pub TowerRuns : Type 0
     TowerRuns =
         (n b : ℕ) (d a : List ℕ) (w : Exchange K L) (xs : List (Exchange K L)) (m : List ℕ) (q : Exchange K L) (e : List ℕ)

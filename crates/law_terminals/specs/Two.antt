@@ -67,6 +67,7 @@ NoneShared c rs qs = (k : ℕ) → HasNumber c k → Any (Names k) rs → Any (N
 --   any order of requests, reads and writes, open and in a session, accepted, failing or refused;
 --   such that no number of a service of the card is named by the codes of both terminals' requests:
 -- each terminal is told what it is told alone, and the arena ends as after one list and then the other, in either order.
+-- RULES 16.1
 abbrev pub TwoTerminals : Card → Type 0
 TwoTerminals c =
     (arena : List ℕ) (order : List (Marked Request))

@@ -28,6 +28,7 @@ textAs n s line = lineText (asking n s) line
 --   such that no number of a service of the card is named by lines of both:
 -- each terminal's lines print, ordinals aside, what they print alone from the same state, and the state after all lines is the one after
 -- one's and then two's, and after two's and then one's.
+-- RULES 16.1
 abbrev pub TwoLines : Held → Type 0
 TwoLines s =
     (zs : List (Marked (List ℕ)))
@@ -56,5 +57,6 @@ pub record PrintsAgain (s t : Held) (w : List ℕ) : Type 0 where
   -- and prints, but for the ordinal, what it printed the first time
   pub text : (n : ℕ) → textAs n t w ≡ textAs n s w
 
+-- RULES 16.6
 abbrev pub WrittenAgain : Held → Type 0
 WrittenAgain s = (w : List ℕ) (ls : List (List ℕ)) → Resending s w ls → PrintsAgain s (heldAfter s (w ∷ ls)) w

@@ -34,6 +34,7 @@ pub record TextsPrinted (is : List (List ℕ)) (zs : List (Marked (List ℕ))) :
   pub second
       : replayOf (linesAsText (is ++ only two zs)) ≡ replayOf (linesAsText is) ++ joined (answers lineText lineHeld (stateAfter is) (only two zs))
 
+-- RULES 16.1
 abbrev pub TwoTexts : Type 0
 TwoTexts =
     (is : List (List ℕ)) (zs : List (Marked (List ℕ)))
@@ -55,6 +56,7 @@ pub record TextAgain (is : List (List ℕ)) (w : List ℕ) (ls : List (List ℕ)
   -- it is the first one's, ordinals aside, and no stored byte is changed
   pub again : PrintsAgain (stateAfter is) (heldAfter (stateAfter is) (w ∷ ls)) w
 
+-- RULES 16.6
 abbrev pub TextResent : Type 0
 TextResent =
     (is : List (List ℕ)) (w : List ℕ) (ls : List (List ℕ))

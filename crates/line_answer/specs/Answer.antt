@@ -34,17 +34,21 @@ abbrev pub responseFields : ℕ → Response → List ℕ → List ℕ
 responseFields ordinal (Refusal number) read = refusalFields ordinal number
 responseFields ordinal (Pair flag1 flag2) read = statusFields ordinal flag1 flag2 read
 
+-- RULES 11.10
 abbrev pub answerFields : ℕ → Reply → List ℕ → List ℕ
 answerFields ordinal reply read = responseFields ordinal (responseOf reply) read
 
 -- which A5 it was, in decimal; `-` (45) where it was none
+-- RULES 11.10
 unfoldable pub causeText : ℕ → List ℕ
 causeText cause = cond (eqb cause 0) (dash ∷ []) (decText cause)
 
 -- the whole line
+-- RULES 11.10
 abbrev pub answerText : ℕ → Reply → List ℕ → List ℕ
 answerText ordinal reply read = closed tab (answerFields ordinal reply read) ++ closed lf (causeText (causeIn reply))
 
 -- the whole line of a refusal, by its number
+-- RULES 11.10
 abbrev pub refusedText : ℕ → ℕ → List ℕ
 refusedText ordinal number = closed tab (refusalFields ordinal number) ++ closed lf (dash ∷ [])

@@ -38,5 +38,6 @@ lineCarried c a fs (Block code number) =
     record { added = answered c (blockJudged c (length a) code number); arena = arenaSet c a code number (unhex (getD fs 3 [])) }
 
 -- a whole image line, the first of the image or a later one
+-- RULES 11.7
 unfoldable pub imageStep : Bool → Card → List ℕ → List ℕ → Imaged
 imageStep first c a s = lineCarried c a (split tab s) (imageLine first s)

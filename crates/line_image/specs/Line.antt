@@ -93,14 +93,17 @@ unfoldable pub imageNamed : List (List ℕ) → Bool
 imageNamed fs = named cardWord fs || (named areaWord fs || (named svcWord fs || (named limWord fs || named blkWord fs)))
 
 -- a `card` line that ends with `join`, its fourth field
+-- RULES 11.6
 unfoldable pub joins : List (List ℕ) → Bool
 joins fs = form cardWord 4 fs && sameBytes (getD fs 3 []) joinWord
 
 -- line 1 must be `card`, with that field or without it
+-- RULES 11.6
 unfoldable pub firstLine : List (List ℕ) → Line
 firstLine fs = cond (form cardWord 3 fs) (cardLine false fs) (cond (joins fs) (cardLine true fs) Malformed)
 
 -- and no other line may be
+-- RULES 11.6
 unfoldable pub laterLine : List (List ℕ) → Line
 laterLine fs =
     cond (form areaWord 5 fs) (areaLine fs)
@@ -109,6 +112,7 @@ laterLine fs =
     (cond (form blkWord 4 fs) (blockLine fs) Malformed)))
 
 -- a line of at most 32,768 bytes, its fields parted by tabs (9)
+-- RULES 1.7, 11.6
 unfoldable pub imageLine : Bool → List ℕ → Line
 imageLine first s =
     cond (ltb longestLine (length s)) Malformed

@@ -26,6 +26,7 @@ unfoldable pub isEither : ℕ → ℕ → List ℕ → Bool
 isEither x y s = isLetter x s || isLetter y s
 
 -- a line whose first field is `R` or `W` is a request
+-- RULES 11.5
 unfoldable pub requestLine : List ℕ → Bool
 requestLine line = isEither 82 87 (fieldIn line 0)
 
@@ -54,5 +55,6 @@ countedAsk line Bad = Malformed
 countedAsk line (Is count) =
     cond (shaped 82 5 line) (Read (isOpen line) count) (cond (isWrite line) (Write (isOpen line) count) Malformed)
 
+-- RULES 1.7, 11.8
 unfoldable pub askOf : List ℕ → Ask
 askOf line = cond (ltb longestLine (length line)) Malformed (countedAsk line (countIn line))

@@ -35,6 +35,7 @@ askServed card arena room line (Read «open» count) =
 askServed card arena room line (Write «open» count) =
     serve card arena (writeRequest «open» (codesIn line) count (listIn line) (dataIn line) room)
 
+-- RULES 11.8
 unfoldable pub lineServed : Card → List ℕ → ℕ → List ℕ → Served
 lineServed card arena room line = askServed card arena room line (askOf line)
 

@@ -9,6 +9,7 @@ use Rattle.line_serve.specs.Line.{lineServed}
 abbrev pub mostSpelled : ℕ
 mostSpelled = 16384
 
+-- RULES 11.10
 unfoldable pub requestText : Card → List ℕ → ℕ → List ℕ → ℕ → List ℕ
 requestText card arena room line ordinal =
     answerText ordinal (lineServed card arena room line .reply) (lineServed card arena room line .read)

@@ -32,6 +32,7 @@ abbrev pub codesListed : CodeList → List ℕ
 codesListed m = take (servicesOf m) (m .codes)
 
 -- a list as bytes
+-- RULES 18.5
 unfoldable pub codeListBytes : CodeList → List ℕ
 codeListBytes m = flagOf (m .more) ∷ areasOf m ∷ numbersBytes (rangesOf m) ++ (servicesOf m ∷ numbersBytes (codesListed m))
 
@@ -47,6 +48,7 @@ unfoldable pub isCounted : List ℕ → Bool
 isCounted s = leb (areasIn s + servicesIn s) mostEntries && eqb (length s) (3 + 4 * areasIn s + 2 * servicesIn s)
 
 -- flag 0 or 1, at most sixteen entries in all, and exactly as many bytes as they take
+-- RULES 18.6
 unfoldable pub isCodeList : List ℕ → Bool
 isCodeList s =
     leb (getD s 0 0) 1 && (leb (areasIn s + servicesIn s) mostEntries && eqb (length s) (3 + 4 * areasIn s + 2 * servicesIn s))
@@ -73,5 +75,6 @@ abbrev pub listRefused : Refusal → Listed
 listRefused r = record { list = emptyList; answer = Refused r }
 
 -- 47 for all other bytes
+-- RULES 18.6
 unfoldable pub readCodeList : List ℕ → Listed
 readCodeList s = cond (isCodeList s) (listTold (codeListIn s)) (listRefused NotAMessage)

@@ -21,6 +21,7 @@ abbrev pub nodeCount : BlockInformation → ℕ
 nodeCount m = min (m .count) mostNodes
 
 -- block information as bytes
+-- RULES 18.5
 unfoldable pub informationBytes : BlockInformation → List ℕ
 informationBytes m = nodeCount m ∷ numbersBytes (take (nodeCount m) (m .assigned)) ++ numbersBytes (take (nodeCount m) (m .free))
 
@@ -29,6 +30,7 @@ abbrev pub nodeCountIn : List ℕ → ℕ
 nodeCountIn s = getD s 0 0
 
 -- at most 32 nodes, and exactly as many bytes as they take
+-- RULES 18.6
 unfoldable pub isInformation : List ℕ → Bool
 isInformation s = leb (nodeCountIn s) mostNodes && eqb (length s) (1 + 4 * nodeCountIn s)
 
@@ -48,5 +50,6 @@ abbrev pub informationRefused : Refusal → Informed
 informationRefused r = record { told = record { count = 0; assigned = replicate 32 0; free = replicate 32 0 }; answer = Refused r }
 
 -- 47 for all other bytes
+-- RULES 18.6
 unfoldable pub readInformation : List ℕ → Informed
 readInformation s = cond (isInformation s) (informationTold (informationIn s)) (informationRefused NotAMessage)

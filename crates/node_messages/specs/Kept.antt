@@ -14,6 +14,7 @@ abbrev pub Halves : List ℕ → Type 0
 Halves vs = (i : ℕ) → getD vs i 0 < 2 ^ 16
 
 -- a code list cut to its sixteen entries, unused ones 0
+-- RULES 18.6
 abbrev pub listKept : CodeList → CodeList
 listKept m = record { more = m .more; areas = areasOf m; ranges = padded 32 (rangesOf m); services = servicesOf m; codes = padded 16 (codesListed m) }
 
@@ -31,6 +32,7 @@ pub record ListWhole (m : CodeList) : Type 0 where
   pub codes : m .codes ≡ padded 16 (take (m .services) (m .codes))
 
 -- block information cut to its 32 nodes, unused entries 0
+-- RULES 18.6
 abbrev pub informationKept : BlockInformation → BlockInformation
 informationKept m = record { count = nodeCount m; assigned = padded 32 (take (nodeCount m) (m .assigned)); free = padded 32 (take (nodeCount m) (m .free)) }
 

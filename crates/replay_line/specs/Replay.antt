@@ -18,6 +18,7 @@ use Rattle.replay_kind.specs.declared.Kind.the-variants as kinds
 use Rattle.replay_kind.specs.Kind.{takenFor}
 
 -- the bytes lent: an arena, and as many for the output of a read and the staging of a write
+-- RULES 11.9
 abbrev pub lentBytes : ℕ
 lentBytes = 65536
 
@@ -34,11 +35,13 @@ abbrev pub phaseBy : Answer → Phase
 phaseBy answers.Done = Image
 phaseBy (answers.Refused refusal) = Ended
 
+-- RULES 11.11
 abbrev pub imageHeld : Replay → Imaged → Held
 imageHeld p x =
     held (record { card = x .added .card; phase = phaseBy (x .added .answer); lines = oneMore (p .lines); asked = p .asked }) (x .arena)
 
 -- an accepted one prints nothing, a refused one its line number and why
+-- RULES 11.11
 abbrev pub imageText : ℕ → Answer → List ℕ
 imageText line answers.Done = []
 imageText line (answers.Refused refusal) = refusalText line refusal
@@ -50,6 +53,7 @@ requestHeld s line =
     (lineServed (s .replay .card) (s .arena) lentBytes line .arena)
 
 -- a refresh of the board takes an ordinal too; card and arena stay
+-- RULES 17.4
 abbrev pub boardHeld : Held → Held
 boardHeld s =
     held (record { card = s .replay .card; phase = Requests; lines = s .replay .lines; asked = oneMore (s .replay .asked) }) (s .arena)
@@ -82,10 +86,12 @@ abbrev pub replayMachine : Machine Held
 replayMachine = record { line = lineHeld; text = lineText; end = endText }
 
 -- ahead of the first line the arena is zero
+-- RULES 11.9
 abbrev pub heldAtStart : Held
 heldAtStart = held replayStart (replicate lentBytes 0)
 
 -- what is printed of a text
+-- RULES 16.4
 unfoldable pub replayOf : List ℕ → List ℕ
 replayOf text = saysOf replayMachine heldAtStart text
 

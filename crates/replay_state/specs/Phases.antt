@@ -28,13 +28,15 @@ refusalText line refusal =
     closed tab (i ∷ m ∷ a ∷ g ∷ e ∷ []) ++ closed tab (decText line) ++ closed lf (decText (refusalNumber refusal))
 
 -- the end of a text: empty input is refused at line 1
+-- RULES 11.11
 abbrev pub finishText : Phase → List ℕ
 finishText First = refusalText 1 MalformedImage
 finishText Image = []
 finishText Requests = []
 finishText Ended = []
 
--- RULES 11.11: a refused image line ends the run
+-- a refused image line ends the run
+-- RULES 11.11
 abbrev pub stopsIn : Phase → Bool
 stopsIn First = false
 stopsIn Image = false

@@ -23,6 +23,7 @@ abbrev pub lacksBlock : Row → ℕ → Bool
 lacksBlock w number = leb (w .blocks) number
 
 -- whether a service has a block, in an arena of so many bytes: 8, 7, 23
+-- RULES 2.3, 10.3
 unfoldable pub blockJudged : Card → ℕ → ℕ → ℕ → Answer
 blockJudged c arenaLen code number =
     cond (not (isSound c)) (Refused NotBuilt)
@@ -36,6 +37,7 @@ blockBy c a code number Done = part a (blockPlace (rowOf (nodesOf c) code) numbe
 blockBy c a code number (Refused r) = []
 
 -- sixteen bytes of the arena, or none
+-- RULES 10.2
 unfoldable pub storedBlock : Card → List ℕ → ℕ → ℕ → List ℕ
 storedBlock c a code number = blockBy c a code number (blockJudged c (length a) code number)
 
@@ -45,5 +47,6 @@ setBy c a code number block Done = put a (blockPlace (rowOf (nodesOf c) code) nu
 setBy c a code number block (Refused r) = a
 
 -- the arena with one block replaced
+-- RULES 10.3
 unfoldable pub arenaSet : Card → List ℕ → ℕ → ℕ → List ℕ → List ℕ
 arenaSet c a code number block = setBy c a code number block (blockJudged c (length a) code number)

@@ -22,6 +22,7 @@ unfoldable pub modeAllowed : Bool → ℕ → Bool
 modeAllowed write mode = cond write (ltb mode 2) (eqb mode 0)
 
 -- on a write A5: read-only, then mode 1 without cashback
+-- RULES 8.2
 unfoldable pub attributeCheck : Bool → ServiceAttribute → ℕ → Check
 attributeCheck write a mode =
     cond (write && not (allowsWrite a)) (Failed ReadOnly)
@@ -46,6 +47,7 @@ thenCheck Passed more = more
 thenCheck (Failed f) more = Failed f
 
 -- A5 (key), on a write A5 (read-only, no cashback), A8
+-- RULES 8.2
 unfoldable pub serviceCheck : Row → ServiceAttribute → Bool → Bool → ℕ → ℕ → Check
 serviceCheck w a write «open» number mode =
     cond («open» && requiresKey (w .code)) (Failed KeyNeeded)
@@ -61,6 +63,7 @@ definedCheck w write «open» number mode (Defined a) =
     (serviceCheck w a write «open» number mode)
 
 -- A7, then those by the row's attribute
+-- RULES 8.2
 unfoldable pub rowCheck : Row → Bool → Bool → ℕ → ℕ → Check
 rowCheck w write «open» number mode =
     cond (not (modeAllowed write mode)) (Failed AccessMode)
@@ -73,6 +76,7 @@ namedCheck count w write «open» e =
     (rowCheck w write «open» (e .number) (e .mode))
 
 -- one element: A3, A7, A4, A6, A5 (key), on a write A5 (read-only), A5 (no cashback), A8
+-- RULES 8.2
 unfoldable pub elementCheck : List Row → Bool → Bool → BlockListElement → Check
 elementCheck rows write «open» e = namedCheck (length rows) (rowIn rows e) write «open» e
 
@@ -82,6 +86,7 @@ nextCheck i Passed more = more
 nextCheck i (Failed f) more = FailedAt i f
 
 -- all elements, in order, the first of them number i
+-- RULES 8.3
 unfoldable pub checkedFrom : List Row → Bool → Bool → ℕ → List BlockListElement → Checked
 checkedFrom rows write «open» i [] = AllPassed
 checkedFrom rows write «open» i (e ∷ es) = nextCheck i (elementCheck rows write «open» e) (checkedFrom rows write «open» (i + 1) es)

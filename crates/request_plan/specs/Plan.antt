@@ -46,6 +46,7 @@ boundsJudged list n =
     Within))
 
 -- 4 (staging: 16 bytes per block in use), then FF AC (data: 16 bytes per element)
+-- RULES 2.4, 2.6, 9.1
 unfoldable pub writeJudged : Sizes → Judged
 writeJudged n =
     cond (ltb (n .room) (blockSize * n .used)) (NotFit ShortStaging)
@@ -53,6 +54,7 @@ writeJudged n =
     Fit)
 
 -- 5 (output: 16 bytes per element)
+-- RULES 2.4, 2.5
 unfoldable pub readJudged : Sizes → Judged
 readJudged n =
     cond (ltb (n .room) (blockSize * n .count)) (NotFit ShortOutput)
@@ -65,6 +67,7 @@ lentJudged write n =
     (cond write (writeJudged n) (readJudged n))
 
 -- 8, 1, 2, 3, 7, then what is lent to a write or a read; of the card it is asked whether it is sound and how many blocks are in use
+-- RULES 1.6, 2.4
 unfoldable pub judgedWith : Bool → Bool → List ℕ → Sizes → Judged
 judgedWith sound write list n =
     cond (not sound) (NotFit NotBuilt)
@@ -99,5 +102,6 @@ judgedPlan c r NoData = stop ShortData
 judgedPlan c r Fit = checkedPlan (elementsIn r) (checkedFrom (rowsIn c r) (r .write) (r .«open») 0 (elementsIn r))
 
 -- a request's plan, on an arena of so many bytes
+-- RULES 9.2
 unfoldable pub planOf : Card → ℕ → Request → Plan
 planOf c arenaLen r = judgedPlan c r (judgedOf c arenaLen r)

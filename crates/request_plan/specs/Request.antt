@@ -43,6 +43,7 @@ flag2In ShortData = 0xac
 flag2In (Failed i f) = sf2Of f
 
 -- what a request is told: the number of a refusal, or the pair 00 00, FF AC for short data, or the failed element's place and fault
+-- RULES 2.1
 abbrev pub responseOf : Reply → Response
 responseOf (Refused r) = Refusal (refusalNumber r)
 responseOf Done = Pair 0 0
@@ -50,6 +51,7 @@ responseOf ShortData = Pair 0xff 0xac
 responseOf (Failed i f) = Pair (sf1Of i) (sf2Of f)
 
 -- which A5 it was, 1 to 7, beside the pair; 0 for any other reply
+-- RULES 2.7
 abbrev pub causeIn : Reply → ℕ
 causeIn (Refused r) = 0
 causeIn Done = 0

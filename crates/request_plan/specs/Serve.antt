@@ -23,6 +23,7 @@ pub record Served : Type 0 where
   pub arena : List ℕ
 
 -- what a request comes to that is answered, reads nothing and leaves the arena
+-- RULES 2.1
 abbrev pub answeredOnly : List ℕ → Reply → Served
 answeredOnly a x = record { reply = x; read = []; arena = a }
 
@@ -31,11 +32,13 @@ abbrev pub storeIn : List ℕ → Row → List ℕ
 storeIn a w = part a (blockSize * w .start) (blockSize * w .blocks)
 
 -- the blocks that the elements name, one after the other
+-- RULES 10.1
 unfoldable pub blocksRead : List Row → List ℕ → List BlockListElement → List ℕ
 blocksRead rows a [] = []
 blocksRead rows a (e ∷ es) = part (storeIn a (rowIn rows e)) (blockSize * e .number) 16 ++ blocksRead rows a es
 
 -- the staged stores go into the arena only if every run passed; else the first failing run answers
+-- RULES 2.1, 9.4
 unfoldable pub committed : ℕ → List ℕ → Walked (List ℕ) → Served
 committed size a (bad i f) = answeredOnly a (Failed i f)
 committed size a (good s) = record { reply = Done; read = []; arena = put a 0 size s }
@@ -51,6 +54,7 @@ planServed c a r (stop x) = answeredOnly a x
 planServed c a r (go es) = carried (r .write) (rowsIn c r) (blockSize * c .used) (r .«data») a es
 
 -- a whole request, on a card and an arena
+-- RULES 9.14
 unfoldable pub serve : Card → List ℕ → Request → Served
 serve c a r = planServed c a r (planOf c (length a) r)
 
@@ -62,10 +66,12 @@ lengthRead ShortData count = 0
 lengthRead (Failed i f) count = 0
 
 -- output: beyond the answer it stays as it was
+-- RULES 2.5
 abbrev pub outputAfter : List ℕ → Served → List ℕ
 outputAfter out x = put out 0 (length (x .read)) (x .read)
 
 -- staging: after a status pair 16 bytes per block in use are zero and the rest unchanged, after a refusal all is unchanged
+-- RULES 2.6
 abbrev pub stagingBy : Reply → ℕ → List ℕ → List ℕ
 stagingBy (Refused r) size s = s
 stagingBy Done size s = put s 0 size (replicate size 0)

@@ -25,6 +25,7 @@ abbrev pub purseIn : PurseOperation → Limit → ℕ → List ℕ → List ℕ 
 purseIn operation limit number block store = within (blockSize * number) 16 (λ b. purseApplied operation limit b block) store
 
 -- a cashback service in mode 1 gives cashback, in mode 0 it decrements
+-- RULES 9.11
 unfoldable pub cashbackIn : ℕ → PurseOperation
 cashbackIn mode = cond (eqb mode 1) Cashback Decrement
 
@@ -34,6 +35,7 @@ cyclicElement number = cond (eqb number 0) Done (Failed CyclicBlock)
 
 -- One element with its sixteen bytes. Random: the block is replaced. Cyclic: it must name block 0, and the run's end does the rest.
 -- Purse: by the attribute, and for cashback by the mode too.
+-- RULES 9.5, 9.6
 unfoldable pub elementBy : Decoded → Limit → ℕ → ℕ → List ℕ → List ℕ → Outcome
 elementBy (Defined RandomReadWrite) limit number mode block store = passed (put store (blockSize * number) 16 block)
 elementBy (Defined RandomReadOnly) limit number mode block store = failed ReadOnly
@@ -46,6 +48,7 @@ elementBy (Defined PurseReadOnly) limit number mode block store = failed ReadOnl
 elementBy Undefined limit number mode block store = failed Attribute
 
 -- the end of a run, with the bytes of all its elements
+-- RULES 9.6
 unfoldable pub endBy : Decoded → List ℕ → List ℕ → Outcome
 endBy (Defined RandomReadWrite) run store = passed store
 endBy (Defined RandomReadOnly) run store = passed store

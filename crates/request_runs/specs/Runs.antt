@@ -23,6 +23,7 @@ module _ {E : Type 0} (key : E → ℕ) where
   push x ((y ∷ ys) ∷ rs) = cond (eqb (key y) (key x)) ((x ∷ y ∷ ys) ∷ rs) ((x ∷ []) ∷ (y ∷ ys) ∷ rs)
 
   -- the longest stretches of consecutive elements of equal key
+  -- RULES 9.3
   unfoldable pub runsOf : List E → List (List E)
   runsOf [] = []
   runsOf (x ∷ xs) = push x (runsOf xs)

@@ -34,5 +34,6 @@ abbrev pub endOn : List Row → List ℕ → ℕ → BlockListElement → ℕ �
 endOn rows d i e n s = atIndex i (onStore (rowIn rows e) (endBy (rowIn rows e .attribute) (part d (blockSize * i) (blockSize * n))) s)
 
 -- the runs of a write on the staged stores: longest stretches of consecutive elements of equal service number
+-- RULES 9.3
 unfoldable pub staged : List Row → List ℕ → List BlockListElement → List ℕ → Walked (List ℕ)
 staged rows d es s = walk (elementOn rows d) (endOn rows d) 0 (runsOf (numberIn rows) es) s

@@ -10,6 +10,7 @@ use Rattle.answers.specs.Outcome.{Outcome, passed, failed}
 
 -- A run longer than the store fails. A run equal to the store's first blocks changes nothing.
 -- Else the run, then the store's first blocks, as many as still fit.
+-- RULES 9.6
 unfoldable pub cyclicOf : List ℕ → List ℕ → Outcome
 cyclicOf store run =
     cond (ltb (length store) (length run)) (failed CyclicTooLong)

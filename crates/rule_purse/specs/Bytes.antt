@@ -14,10 +14,12 @@ use Rattle.answers.specs.Outcome.{Outcome, passed, failed}
 use Rattle.rule_purse.specs.Purse.{purseRule}
 
 -- figure 3-15: purse bytes 0-3, cashback 4-7, execution id 12-15
+-- RULES 9.7
 unfoldable pub purseDataOf : List ℕ → PurseData
 purseDataOf s = record { purse = wordAt s 0; cashback = wordAt s 4; id = wordAt s 12 }
 
 -- the block to store: stored bytes 8-11 are kept, 12-15 come from the command
+-- RULES 9.9, 9.13
 unfoldable pub blockOf : List ℕ → List ℕ → PurseWrite → Outcome
 blockOf s c Unchanged = passed s
 blockOf s c Whole = passed (put s 0 blockSize c)

@@ -18,16 +18,19 @@ use Rattle.rule_purse.specs.declared.fields.Sum.{Sum}
 use Rattle.rule_purse.specs.declared.fields.Sum.the-variants.{Inside, Outside}
 
 -- signed 32 bits if the service has a limit, else unsigned
+-- RULES 9.7
 unfoldable pub valueOf : Limit → ℕ → ℤ
 valueOf Unlimited n = pos n
 valueOf (Limited u l g) n = signedOf n
 
 -- lower to upper, or 0 to 4,294,967,295, ends included
+-- RULES 9.8
 unfoldable pub insideOf : Limit → ℤ → Bool
 insideOf Unlimited v = leZ (pos 0) v && leZ v (pos 4294967295)
 insideOf (Limited u l g) v = leZ l v && leZ v u
 
 -- outside is 03 with a limit, 01 without
+-- RULES 9.8
 unfoldable pub outsideOf : Limit → Fault
 outsideOf Unlimited = OutsideWord
 outsideOf (Limited u l g) = OutsideLimits
@@ -41,6 +44,7 @@ unfoldable pub storedOf : Limit → ℕ → Sum → PurseWrite
 storedOf limit cashback (Inside n) = Stored n cashback
 storedOf limit cashback Outside = Failed (outsideOf limit)
 
+-- RULES 9.9, 9.10, 9.11, 9.12
 unfoldable pub purseRule : PurseOperation → Limit → PurseData → PurseData → PurseWrite
 -- purse or cashback above stored, or stored purse + new cashback over 4,294,967,295; then the range of the new purse
 purseRule Direct limit s c =

@@ -59,12 +59,15 @@ depthBy (lines.Service depth code blocks version) = Service depth
 depthBy (lines.Limit upper lower generation) = Flat
 depthBy (lines.Block code number) = Flat
 
+-- RULES 20.4
 unfoldable pub depthOf : List ℕ → Depth
 depthOf l = depthBy (imageLine false l)
 
+-- RULES 20.5
 unfoldable pub isWord : List ℕ → List ℕ → Bool
 isWord word l = named word (split tab l)
 
+-- RULES 20.2
 abbrev pub imageBuilder : Builder Image
 imageBuilder =
     record {

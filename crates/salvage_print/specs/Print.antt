@@ -16,16 +16,19 @@ use Rattle.salvage_print.specs.declared.Spot.{Spot}
 use Rattle.salvage_print.specs.declared.Spot.the-variants.{Full, At}
 
 -- why a line is gone: `parent`, or a number; a kept line is not told
+-- RULES 20.6
 abbrev pub saidOf : ℕ → Fate → List ℕ
 saidOf line Kept = []
 saidOf line Parent = closed tab (decText line) ++ closed lf (p ∷ a ∷ r ∷ e ∷ n ∷ t ∷ [])
 saidOf line (Number m) = closed tab (decText line) ++ closed lf (decText m)
 
 -- a notice's line: 0 and `added`, or the line's number and why
+-- RULES 20.6
 abbrev pub noticeText : Notice → List ℕ
 noticeText added = closed tab (48 ∷ []) ++ closed lf (a ∷ d ∷ d ∷ e ∷ d ∷ [])
 noticeText (lost n f) = saidOf n f
 
+-- RULES 20.6
 unfoldable pub reportText : List Notice → List ℕ
 reportText [] = []
 reportText (e ∷ es) = noticeText e ++ reportText es

@@ -28,6 +28,7 @@ module _ {S : Type 0} (B : Builder S) where
   AllStayIn d (p ∷ ps) = StaysIn d (B .depth (lineOf p)) × AllStayIn d ps
 
   -- some well-formed `area` line of depth d was refused, and deeper `area` and `svc` lines alone follow it
+  -- RULES 20.4
   pub record Opened (s : Between S) (ps : List Piece) (d : ℕ) : Type 0 where
     pub ahead : List Piece
     pub area : Piece
@@ -39,6 +40,7 @@ module _ {S : Type 0} (B : Builder S) where
     pub deeper : AllStayIn d behind
 
   -- some `svc` line was dropped, and no kept line follows it
+  -- RULES 20.5
   pub record Orphaned (s : Between S) (ps : List Piece) : Type 0 where
     pub ahead : List Piece
     pub service : Piece

@@ -10,6 +10,7 @@ use Rattle.salvage_rule.specs.declared.Fate.the-variants.{Kept, Parent, 
 use Rattle.salvage_rule.specs.declared.Rules.{Rules}
 
 -- whether a depth lies below the area of a stretch; a line without one does not
+-- RULES 20.4
 abbrev pub deeper : Stretch → Depth → Bool
 deeper Free d = false
 deeper (Below over) Flat = false
@@ -17,10 +18,12 @@ deeper (Below over) (Area own) = ltb over own
 deeper (Below over) (Service own) = ltb over own
 
 -- whether one of the rules takes a line
+-- RULES 20.5
 abbrev pub takes : Rules → Depth → Bool → Bool
 takes r d lim = deeper (r .stretch) d || (r .orphaned && lim)
 
 -- a line with a depth that is not deeper ends a stretch
+-- RULES 20.4
 abbrev pub endedBy : Stretch → Depth → Stretch
 endedBy Free d = Free
 endedBy (Below over) Flat = Below over
@@ -28,6 +31,7 @@ endedBy (Below over) (Area own) = cond (ltb over own) (Below over) Free
 endedBy (Below over) (Service own) = cond (ltb over own) (Below over) Free
 
 -- and a well-formed `area` that the builder refused begins one
+-- RULES 20.4
 abbrev pub begunBy : Stretch → Depth → Stretch
 begunBy s Flat = endedBy s Flat
 begunBy s (Area own) = Below own
@@ -39,6 +43,7 @@ stretchAfter Parent s d = endedBy s d
 stretchAfter (Number n) s d = begunBy s d
 
 -- a dropped `svc` orphans the limits up to the next kept line
+-- RULES 20.5
 abbrev pub orphanedAfter : Fate → Bool → Bool → Bool
 orphanedAfter Kept o svc = false
 orphanedAfter Parent o svc = o || svc

@@ -47,6 +47,7 @@ noted n Parent es = lost n Parent ∷ es
 noted n (Number m) es = lost n (Number m) ∷ es
 
 -- line numbers go on over kept lines
+-- RULES 20.6
 unfoldable pub listed : ℕ → List Fate → List Notice
 listed n [] = []
 listed n (f ∷ fs) = noted n f (listed (n + 1) fs)
@@ -57,6 +58,7 @@ chosen Kept p ps = p ∷ ps
 chosen Parent p ps = ps
 chosen (Number m) p ps = ps
 
+-- RULES 20.1
 unfoldable pub chosenBy : List Fate → List Piece → List Piece
 chosenBy [] ps = []
 chosenBy (f ∷ fs) [] = []
@@ -78,9 +80,11 @@ module _ {S : Type 0} (B : Builder S) where
   takesLine s l = takes (s .rules) (B .depth l) (B .lim l)
 
   -- what comes of a line
+  -- RULES 20.2
   unfoldable pub fateOf : Between S → List ℕ → Fate
   fateOf s l = fateBy (takesLine s l) (B .next (s .built) l)
 
+  -- RULES 20.2
   unfoldable pub stepped : Between S → List ℕ → Between S
   stepped s l =
       record {
@@ -114,6 +118,7 @@ module _ {S : Type 0} (B : Builder S) where
     addedBy (admits s) = false
     addedBy (denies n) = true
 
+    -- RULES 20.3
     unfoldable pub isAdded : List Piece → Bool
     isAdded [] = true
     isAdded (p ∷ ps) = addedBy (B .first (lineOf p))
@@ -123,6 +128,7 @@ module _ {S : Type 0} (B : Builder S) where
     fatesBy (admits s) p ps = Kept ∷ fatesFrom (fresh s) ps
     fatesBy (denies n) p ps = fatesFrom (fresh start) (p ∷ ps)
 
+    -- RULES 20.3
     unfoldable pub fatesOf : List Piece → List Fate
     fatesOf [] = []
     fatesOf (p ∷ ps) = fatesBy (B .first (lineOf p)) p ps
@@ -137,6 +143,7 @@ module _ {S : Type 0} (B : Builder S) where
     reportAhead false = []
 
     -- the pieces of the image
+    -- RULES 20.1
     unfoldable pub imageOf : List Piece → List Piece
     imageOf ps = imageAhead (isAdded ps) ++ chosenBy (fatesOf ps) ps
 
@@ -144,6 +151,7 @@ module _ {S : Type 0} (B : Builder S) where
     unfoldable pub salvageOf : List ℕ → List ℕ
     salvageOf t = textOf (imageOf (piecesOf t))
 
+    -- RULES 20.6
     unfoldable pub reportOf : List ℕ → List Notice
     reportOf t = reportAhead (isAdded (piecesOf t)) ++ listed 1 (fatesOf (piecesOf t))
 

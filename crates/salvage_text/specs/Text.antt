@@ -14,9 +14,11 @@ use Rattle.salvage_text.specs.declared.Salvaged.{Salvaged}
 use Rattle.salvage_text.specs.declared.Salvaged.the-variants.{Done, Refused}
 
 -- all of a text's image, and its report, as bytes
+-- RULES 20.7
 unfoldable pub salvagedText : List ℕ → List ℕ
 salvagedText t = salvageOf imageBuilder addedLine noImage t
 
+-- RULES 20.7
 unfoldable pub reportedText : List ℕ → List ℕ
 reportedText t = reportText (reportOf imageBuilder addedLine noImage t)
 
@@ -29,6 +31,7 @@ abbrev pub salvageAnswer : Extent → Salvaged
 salvageAnswer Short = Refused OutputTooShort
 salvageAnswer (Fits a b) = Done a b
 
+-- RULES 20.7
 abbrev pub salvagedBy : ℕ → ℕ → List ℕ → Salvaged
 salvagedBy r1 r2 t = salvageAnswer (extentOf r1 r2 t)
 
@@ -37,8 +40,10 @@ abbrev pub landedBy : Extent → List ℕ → List ℕ → List ℕ
 landedBy Short d t = d
 landedBy (Fits a b) d t = put d 0 (length t) t
 
+-- RULES 20.7
 abbrev pub imageAfter : List ℕ → ℕ → List ℕ → List ℕ
 imageAfter out room t = landedBy (extentOf (length out) room t) out (salvagedText t)
 
+-- RULES 20.7
 abbrev pub reportAfter : ℕ → List ℕ → List ℕ → List ℕ
 reportAfter room report t = landedBy (extentOf room (length report) t) report (reportedText t)

@@ -21,6 +21,7 @@ abbrev pub reportAt : List ℕ → ℕ → Between Image → ℕ → List ℕ
 reportAt text n s at = reportLeft imageBuilder n s (piecesOf (drop at text))
 
 -- both lengths, if there is room for both
+-- RULES 20.7
 unfoldable pub extentBy : ℕ → ℕ → ℕ → ℕ → Extent
 extentBy r1 r2 a b = cond (ltb r1 a) Short (cond (ltb r2 b) Short (Fits a b))
 

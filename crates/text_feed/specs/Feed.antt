@@ -20,11 +20,13 @@ placePast p chunk room n =
     (record { at = p .at + n; len = min (p .len + n) room; whole = 0 })
 
 -- the place after the bytes up to a LF, with so much room for the line; one outside chunk or line stays
+-- RULES 11.1
 unfoldable pub placeAfter : Place → List ℕ → ℕ → Place
 placeAfter p chunk room =
     cond (ltb (length chunk) (p .at)) p
     (cond (ltb room (p .len)) p (placePast p chunk room (uptoLf chunk (p .at))))
 
 -- the line after them: they stand behind the bytes kept, as many as there is room for
+-- RULES 1.7
 unfoldable pub lineAfter : Place → List ℕ → List ℕ → List ℕ
 lineAfter p chunk line = put line (p .len) (uptoLf chunk (p .at)) (drop (p .at) chunk)

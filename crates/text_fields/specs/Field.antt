@@ -13,6 +13,7 @@ onto x [] = (x ∷ []) ∷ []
 onto x (f ∷ fs) = (x ∷ f) ∷ fs
 
 -- what stands between separators: one field more than there are separators
+-- RULES 11.2
 unfoldable pub split : ℕ → List ℕ → List (List ℕ)
 split separator [] = [] ∷ []
 split separator (x ∷ s) = cond (eqb x separator) ([] ∷ split separator s) (onto x (split separator s))

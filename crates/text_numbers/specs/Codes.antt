@@ -14,9 +14,11 @@ unfoldable pub hex16 : List ℕ → Code
 hex16 s = cond (eqb (length s) 4 && digits 16 s) (Is (spelt 16 0 s)) Bad
 
 -- several codes stand joined, four digits each; `-` for none
+-- RULES 11.3
 unfoldable pub codesField : List ℕ → Bool
 codesField s = grouped 4 s
 
 -- the codes that joined digits spell, each with its high byte first
+-- RULES 11.3
 unfoldable pub codesOf : List ℕ → List ℕ
 codesOf s = pairs (λ high low. high * 256 + low) (unhex s)

@@ -22,6 +22,7 @@ unfoldable pub upTo : ℕ → ℕ → Number
 upTo most n = cond (leb n most) (Is n) Bad
 
 -- a decimal, none where it is malformed
+-- RULES 11.4
 unfoldable pub decimal : ℕ → List ℕ → Number
 decimal most s = cond (plain s) (upTo most (spelt 10 0 s)) Bad
 
@@ -36,6 +37,7 @@ negative (Is n) = cond (isBetween 1 2147483648 n) (signs.Is (negsuc (n - 1))) si
 negative Bad = signs.Bad
 
 -- a decimal of 32 bits with a sign: only a negative one has a sign (45)
+-- RULES 11.4
 unfoldable pub signed : List ℕ → Signed
 signed s = cond (eqb (getD s 0 0) 45) (negative (decimal 4294967295 (drop 1 s))) (positive (decimal 4294967295 s))
 

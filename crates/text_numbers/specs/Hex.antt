@@ -14,6 +14,7 @@ grouped n s =
     (eqb (length s % n) 0 && digits 16 s))
 
 -- whether a field is hex: `-` for empty, or whole bytes of two digits
+-- RULES 11.3
 unfoldable pub hexField : List ℕ → Bool
 hexField s = grouped 2 s
 
@@ -24,6 +25,7 @@ pairs f (x ∷ []) = []
 pairs f (x ∷ y ∷ s) = f x y ∷ pairs f s
 
 -- the bytes that a hex field spells: two digits a byte, and none for `-`
+-- RULES 11.3
 unfoldable pub unhex : List ℕ → List ℕ
 unhex s = pairs (λ x y. digitOf x * 16 + digitOf y) s
 
@@ -37,6 +39,7 @@ toHex [] = []
 toHex (x ∷ s) = capital (x / 16) ∷ capital (x % 16) ∷ toHex s
 
 -- bytes as a hex field, `-` if there are none
+-- RULES 11.3
 unfoldable pub hexText : List ℕ → List ℕ
 hexText [] = 45 ∷ []
 hexText (x ∷ s) = toHex (x ∷ s)

@@ -26,11 +26,13 @@ pushedOn x (full l ∷ ps) = full (x ∷ l) ∷ ps
 pushedOn x (bare l ∷ ps) = bare (x ∷ l) ∷ ps
 
 -- the pieces of a text
+-- RULES 20.1
 unfoldable pub piecesOf : List ℕ → List Piece
 piecesOf [] = []
 piecesOf (x ∷ t) = cond (eqb x 10) (full [] ∷ piecesOf t) (pushedOn x (piecesOf t))
 
 -- the text of pieces
+-- RULES 20.1
 unfoldable pub textOf : List Piece → List ℕ
 textOf [] = []
 textOf (p ∷ ps) = bytesOf p ++ textOf ps

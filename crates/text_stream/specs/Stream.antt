@@ -13,6 +13,7 @@ pushed x [] = (x ∷ []) ∷ []
 pushed x (l ∷ ls) = (x ∷ l) ∷ ls
 
 -- the lines of a text: each LF (10) ends one, and so does the text's end, where bytes stand before it
+-- RULES 11.1
 unfoldable pub linesOf : List ℕ → List (List ℕ)
 linesOf [] = []
 linesOf (x ∷ t) = cond (eqb x 10) ([] ∷ linesOf t) (pushed x (linesOf t))
@@ -44,6 +45,7 @@ module _ {S : Type 0} (M : Machine S) where
   printed s (l ∷ ls) = M .text s l ++ printed (M .line s l) ls
 
   -- what is printed of a whole text
+  -- RULES 16.4, 19.4
   unfoldable pub saysOf : S → List ℕ → List ℕ
   saysOf s t = printed s (linesOf t)
 
@@ -74,6 +76,7 @@ module _ {S : Type 0} (M : Machine S) where
     said m (x ∷ t) = byteSaid m x ++ said (byteFed m x) t
 
     -- what is printed of chunk after chunk, then at the end
+    -- RULES 16.4, 19.4
     unfoldable pub chunked : Mid S → List (List ℕ) → List ℕ
     chunked m [] = ended m
     chunked m (c ∷ cs) = said m c ++ chunked (fed m c) cs
