@@ -15,13 +15,13 @@ use request_plan::Reply;
 use request_plan::Sizes;
 ghost use mathlib.Core.Path.{_≡_};
 ghost use Prim.Native.Nat.{_+_, _*_, _≤_};
-ghost use lib.ListN.{length, take};
+ghost use lib.ListN.{length};
 ghost use Rattle.byte_parts.specs.Sizes.{blockSize};
 ghost use Rattle.block_list.specs.Element.{elementsFrom};
-ghost use Rattle.byte_parts.specs.Part.{put};
 ghost use Rattle.request_runs.specs.Ready.{AllReady};
 ghost use Rattle.request_plan.specs.Request.{readRequest};
 ghost use Rattle.request_plan.specs.Serve.{blocksRead, serve, outputAfter};
+ghost use Rattle.request_serve.specs.Steps.{rowsHeld, frontFilled};
 
 // Gives where the block that an element names in its row's store stands in the arena.
 fn block_at(row: Row, e: BlockListElement) -> usize
@@ -32,8 +32,8 @@ fn block_at(row: Row, e: BlockListElement) -> usize
 
 // Copies the blocks that the elements name to the front of the output.
 fn copy_blocks(out: &mut [u8], arena: &[u8], table: Table, list: &[u8], count: usize)
-    requires { ⌜ (blockSize * count ≤ length (now out)) × AllReady (take (table .count) (table .rows)) (length (now arena)) (elementsFrom (now list) count 0) ⌝ }
-    ensures { λ _. ⌜ now (out .exit) ≡ put (now (out .entry)) 0 (length (blocksRead (take (table .count) (table .rows)) (now (arena .entry)) (elementsFrom (now (list .entry)) count 0))) (blocksRead (take (table .count) (table .rows)) (now (arena .entry)) (elementsFrom (now (list .entry)) count 0)) ⌝ }
+    requires { ⌜ (blockSize * count ≤ length (now out)) × AllReady (rowsHeld table) (length (now arena)) (elementsFrom (now list) count 0) ⌝ }
+    ensures { λ _. ⌜ now (out .exit) ≡ frontFilled (now (out .entry)) (blocksRead (rowsHeld table) (now (arena .entry)) (elementsFrom (now (list .entry)) count 0)) ⌝ }
 {
     let mut at = 0;
     let mut i = 0;

@@ -14,7 +14,7 @@ use request_runs::run;
 use request_runs::run::Applied;
 ghost use mathlib.Core.Path.{_≡_};
 ghost use Prim.Native.Nat.{_*_, _≤_};
-ghost use lib.ListN.{length, take, drop};
+ghost use lib.ListN.{length, take};
 ghost use Rattle.byte_parts.specs.Sizes.{blockSize};
 ghost use Rattle.block_list.specs.Element.{elementsFrom};
 ghost use Rattle.request_runs.specs.Staged.{staged};
@@ -22,13 +22,14 @@ ghost use Rattle.request_runs.specs.Ready.{AllReady};
 ghost use Rattle.request_plan.specs.declared.Judged.the-variants.{Fit};
 ghost use Rattle.request_plan.specs.Request.{writeRequest};
 ghost use Rattle.request_plan.specs.Plan.{judgedOf};
-ghost use Rattle.request_plan.specs.Serve.{serve, committed, stagingBy};
+ghost use Rattle.request_plan.specs.Serve.{serve, committed};
 ghost use Rattle.request_serve.specs.Stores.{AllIn, storesPut};
+ghost use Rattle.request_serve.specs.Steps.{rowsHeld, stagingLeft, SameFrom, WriteLeaves};
 
 // Copies the stores of the table's rows to where they stand in the other slice.
 fn copy_stores(to: &mut [u8], from: &[u8], table: Table)
-    requires { ⌜ (table .count ≤ 16) × AllIn (take (table .count) (table .rows)) (length (now to)) × AllIn (take (table .count) (table .rows)) (length (now from)) ⌝ }
-    ensures { λ _. ⌜ now (to .exit) ≡ storesPut (now (to .entry)) (now (from .entry)) (take (table .count) (table .rows)) ⌝ }
+    requires { ⌜ (table .count ≤ 16) × AllIn (rowsHeld table) (length (now to)) × AllIn (rowsHeld table) (length (now from)) ⌝ }
+    ensures { λ _. ⌜ now (to .exit) ≡ storesPut (now (to .entry)) (now (from .entry)) (rowsHeld table) ⌝ }
 {
     let mut i = 0;
     while i < table.count {
@@ -50,8 +51,8 @@ fn carry_out(
     count: usize,
     data: &[u8],
 ) -> Reply
-    requires { ⌜ (size ≤ length (now arena)) × (size ≤ length (now staging)) × (blockSize * count ≤ length (now «data»)) × AllReady (take (table .count) (table .rows)) size (elementsFrom (now list) count 0) × (table .count ≤ 16) × AllIn (take (table .count) (table .rows)) size ⌝ }
-    ensures { λ r. ⌜ (let x = committed size (now (arena .entry)) (staged (take (table .count) (table .rows)) (now («data» .entry)) (elementsFrom (now (list .entry)) count 0) (take size (now (arena .entry)))) in (r ≡ x .reply) × ((now (arena .exit) ≡ x .arena) × (drop size (now (staging .exit)) ≡ drop size (now (staging .entry))))) ⌝ }
+    requires { ⌜ (size ≤ length (now arena)) × (size ≤ length (now staging)) × (blockSize * count ≤ length (now «data»)) × AllReady (rowsHeld table) size (elementsFrom (now list) count 0) × (table .count ≤ 16) × AllIn (rowsHeld table) size ⌝ }
+    ensures { λ r. ⌜ WriteLeaves (committed size (now (arena .entry)) (staged (rowsHeld table) (now («data» .entry)) (elementsFrom (now (list .entry)) count 0) (take size (now (arena .entry))))) r (now (arena .exit)) (SameFrom size (now (staging .exit)) (now (staging .entry))) ⌝ }
 {
     copy_stores(staging, arena, table);
     match run::apply(&mut staging[0..size], table, list, count, data) {
@@ -75,7 +76,7 @@ fn checked_write(
     data: &[u8],
 ) -> Reply
     requires { ⌜ judgedOf card (length (now arena)) (writeRequest «open» (now codes) count (now list) (now «data») (length (now staging))) ≡ Fit ⌝ }
-    ensures { λ r. ⌜ (let x = serve card (now (arena .entry)) (writeRequest «open» (now (codes .entry)) count (now (list .entry)) (now («data» .entry)) (length (now (staging .entry)))) in (r ≡ x .reply) × ((now (arena .exit) ≡ x .arena) × (drop (blockSize * card .used) (now (staging .exit)) ≡ drop (blockSize * card .used) (now (staging .entry))))) ⌝ }
+    ensures { λ r. ⌜ WriteLeaves (serve card (now (arena .entry)) (writeRequest «open» (now (codes .entry)) count (now (list .entry)) (now («data» .entry)) (length (now (staging .entry))))) r (now (arena .exit)) (SameFrom (blockSize * card .used) (now (staging .exit)) (now (staging .entry))) ⌝ }
 {
     let nodes = card.nodes;
     let table = table::table_of(nodes, card.count, codes);
@@ -105,7 +106,7 @@ fn wiped_write(
     data: &[u8],
 ) -> Reply
     requires { ⌜ judgedOf card (length (now arena)) (writeRequest «open» (now codes) count (now list) (now «data») (length (now staging))) ≡ Fit ⌝ }
-    ensures { λ r. ⌜ (let x = serve card (now (arena .entry)) (writeRequest «open» (now (codes .entry)) count (now (list .entry)) (now («data» .entry)) (length (now (staging .entry)))) in (r ≡ x .reply) × ((now (arena .exit) ≡ x .arena) × (now (staging .exit) ≡ stagingBy (x .reply) (blockSize * card .used) (now (staging .entry))))) ⌝ }
+    ensures { λ reply. ⌜ WriteLeaves (serve card (now (arena .entry)) (writeRequest «open» (now (codes .entry)) count (now (list .entry)) (now («data» .entry)) (length (now (staging .entry))))) reply (now (arena .exit)) (now (staging .exit) ≡ stagingLeft card reply (now (staging .entry))) ⌝ }
 {
     let reply = checked_write(card, arena, staging, open, codes, list, count, data);
     spans::zero(staging, 0, BLOCK_SIZE * card.used); // wherever a store was staged
@@ -125,7 +126,7 @@ pub fn write(
     list: &[u8],
     data: &[u8],
 ) -> Reply
-    ensures { λ r. ⌜ (let x = serve card (now (arena .entry)) (writeRequest «open» (now (codes .entry)) count (now (list .entry)) (now («data» .entry)) (length (now (staging .entry)))) in (r ≡ x .reply) × ((now (arena .exit) ≡ x .arena) × (now (staging .exit) ≡ stagingBy r (blockSize * card .used) (now (staging .entry))))) ⌝ }
+    ensures { λ r. ⌜ WriteLeaves (serve card (now (arena .entry)) (writeRequest «open» (now (codes .entry)) count (now (list .entry)) (now («data» .entry)) (length (now (staging .entry))))) r (now (arena .exit)) (now (staging .exit) ≡ stagingLeft card r (now (staging .entry))) ⌝ }
 {
     let sound = card.is_sound();
     let sizes = Sizes {

@@ -56,7 +56,7 @@ returns-2 c =
     (o .0, (o .1, c .before .before .zero .ensures))
 
 returns-3 : tie.Need-returns-3
-returns-3 c = let m = c .before .before .before .before .wiped-write .ensures in (m .0, (m .1 .0, rw (m .0) (m .1 .1)))
+returns-3 c = c .before .before .before .before .wiped-write .ensures
 
 pub write-spec : {M : Type 1} → statement M
 write-spec =
