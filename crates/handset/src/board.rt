@@ -3,6 +3,7 @@ use crate::outcome;
 use crate::requests;
 use board_lanes::records;
 use board_read::Refreshed;
+use byte_parts::spans;
 use card_build::card::Card;
 use handset_bytes::decoding;
 ghost use mathlib.Core.Path.{_≡_};
@@ -16,7 +17,7 @@ ghost use Rattle.handset_words.specs.Board.{refreshedAs, boardRoom, boardMade, 
 fn room(len: usize) -> usize
     ensures { λ r. ⌜ (r ≡ boardRoom len) × (r ≤ 128) × (r ≤ len) ⌝ }
 {
-    if len < 128 { len } else { 128 }
+    spans::least(len, 128)
 }
 
 // Reads the eight blocks into `bytes`, and writes the records of the lanes that they make to the front of `lanes`.

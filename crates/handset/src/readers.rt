@@ -65,8 +65,8 @@ pub extern "C" fn uluvoli_read_code_list(
     more: &mut bool,
 ) -> u32
     ensures { λ r. ⌜ r ≡ answerAs (listRead (now (message .entry)) (length (now (areas .entry))) (length (now (services .entry)))) ⌝ }
-    ensures { λ _. ⌜ now (areas .exit) ≡ numbersTold (listRead (now (message .entry)) (length (now (areas .entry))) (length (now (services .entry)))) (now (areas .entry)) (2 * readCodeList (now (message .entry)) .list .areas) (readCodeList (now (message .entry)) .list .ranges) ⌝ }
-    ensures { λ _. ⌜ now (services .exit) ≡ numbersTold (listRead (now (message .entry)) (length (now (areas .entry))) (length (now (services .entry)))) (now (services .entry)) (readCodeList (now (message .entry)) .list .services) (readCodeList (now (message .entry)) .list .codes) ⌝ }
+    ensures { λ _. ⌜ (let l = readCodeList (now (message .entry)) .list in now (areas .exit) ≡ numbersTold (listRead (now (message .entry)) (length (now (areas .entry))) (length (now (services .entry)))) (now (areas .entry)) (2 * l .areas) (l .ranges)) ⌝ }
+    ensures { λ _. ⌜ (let l = readCodeList (now (message .entry)) .list in now (services .exit) ≡ numbersTold (listRead (now (message .entry)) (length (now (areas .entry))) (length (now (services .entry)))) (now (services .entry)) (l .services) (l .codes)) ⌝ }
     ensures { λ _. ⌜ now («area_count» .exit) ≡ toldBy {A = ℕ} (listRead (now (message .entry)) (length (now (areas .entry))) (length (now (services .entry)))) (now («area_count» .entry)) (readCodeList (now (message .entry)) .list .areas) ⌝ }
     ensures { λ _. ⌜ now («service_count» .exit) ≡ toldBy {A = ℕ} (listRead (now (message .entry)) (length (now (areas .entry))) (length (now (services .entry)))) (now («service_count» .entry)) (readCodeList (now (message .entry)) .list .services) ⌝ }
     ensures { λ _. ⌜ now (more .exit) ≡ toldBy {A = Bool} (listRead (now (message .entry)) (length (now (areas .entry))) (length (now (services .entry)))) (now (more .entry)) (readCodeList (now (message .entry)) .list .more) ⌝ }
@@ -106,8 +106,8 @@ pub extern "C" fn uluvoli_read_block_information(
     nodes: &mut usize,
 ) -> u32
     ensures { λ r. ⌜ r ≡ answerAs (informationRead (now (message .entry)) (length (now (assigned .entry))) (length (now (free .entry)))) ⌝ }
-    ensures { λ _. ⌜ now (assigned .exit) ≡ numbersTold (informationRead (now (message .entry)) (length (now (assigned .entry))) (length (now (free .entry)))) (now (assigned .entry)) (readInformation (now (message .entry)) .told .count) (readInformation (now (message .entry)) .told .assigned) ⌝ }
-    ensures { λ _. ⌜ now (free .exit) ≡ numbersTold (informationRead (now (message .entry)) (length (now (assigned .entry))) (length (now (free .entry)))) (now (free .entry)) (readInformation (now (message .entry)) .told .count) (readInformation (now (message .entry)) .told .free) ⌝ }
+    ensures { λ _. ⌜ (let t = readInformation (now (message .entry)) .told in now (assigned .exit) ≡ numbersTold (informationRead (now (message .entry)) (length (now (assigned .entry))) (length (now (free .entry)))) (now (assigned .entry)) (t .count) (t .assigned)) ⌝ }
+    ensures { λ _. ⌜ (let t = readInformation (now (message .entry)) .told in now (free .exit) ≡ numbersTold (informationRead (now (message .entry)) (length (now (assigned .entry))) (length (now (free .entry)))) (now (free .entry)) (t .count) (t .free)) ⌝ }
     ensures { λ _. ⌜ now (nodes .exit) ≡ toldBy {A = ℕ} (informationRead (now (message .entry)) (length (now (assigned .entry))) (length (now (free .entry)))) (now (nodes .entry)) (readInformation (now (message .entry)) .told .count) ⌝ }
 {
     let read = information::read_information(message);

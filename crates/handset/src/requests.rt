@@ -6,11 +6,10 @@ use request_plan::Response;
 use request_serve::reading;
 use request_serve::writing;
 ghost use mathlib.Core.Path.{_≡_};
-ghost use Prim.Native.Nat.{_*_};
 ghost use lib.ListN.{length};
-ghost use Rattle.byte_parts.specs.Sizes.{blockSize};
 ghost use Rattle.request_plan.specs.Request.{readRequest, writeRequest};
-ghost use Rattle.request_plan.specs.Serve.{serve, outputAfter, stagingBy};
+ghost use Rattle.request_plan.specs.Serve.{serve, outputAfter};
+ghost use Rattle.request_serve.specs.Steps.{stagingLeft};
 ghost use Rattle.handset_bytes.specs.Card.{cardDecoded};
 ghost use Rattle.request_plan.specs.declared.Response.the-variants.{Pair};
 ghost use Rattle.handset_words.specs.Reply.{responseAs, replyAs};
@@ -65,7 +64,7 @@ pub extern "C" fn uluvoli_write(
 ) -> u32
     ensures { λ r. ⌜ r ≡ replyAs (serve (cardDecoded (now (card .entry))) (now (arena .entry)) (writeRequest «open» (now (codes .entry)) count (now (list .entry)) (now («data» .entry)) (length (now (staging .entry)))) .reply) ⌝ }
     ensures { λ _. ⌜ now (arena .exit) ≡ serve (cardDecoded (now (card .entry))) (now (arena .entry)) (writeRequest «open» (now (codes .entry)) count (now (list .entry)) (now («data» .entry)) (length (now (staging .entry)))) .arena ⌝ }
-    ensures { λ _. ⌜ now (staging .exit) ≡ stagingBy (serve (cardDecoded (now (card .entry))) (now (arena .entry)) (writeRequest «open» (now (codes .entry)) count (now (list .entry)) (now («data» .entry)) (length (now (staging .entry)))) .reply) (blockSize * cardDecoded (now (card .entry)) .used) (now (staging .entry)) ⌝ }
+    ensures { λ _. ⌜ (let c = cardDecoded (now (card .entry)) in now (staging .exit) ≡ stagingLeft c (serve c (now (arena .entry)) (writeRequest «open» (now (codes .entry)) count (now (list .entry)) (now («data» .entry)) (length (now (staging .entry)))) .reply) (now (staging .entry))) ⌝ }
 {
     let own = decoding::decode(card);
     replied(writing::write(own, arena, staging, open, codes, count, list, data))
