@@ -1,5 +1,5 @@
 // How many of the 64 records are taken.
-
+use byte_parts::spans;
 ghost use mathlib.Core.Path.{_≡_};
 ghost use Prim.Native.Nat.{min};
 
@@ -7,5 +7,5 @@ ghost use Prim.Native.Nat.{min};
 pub fn taken(count: usize) -> usize
     ensures { λ r. ⌜ r ≡ min count 64 ⌝ }
 {
-    if count < 64 { count } else { 64 }
+    spans::least(count, 64)
 }

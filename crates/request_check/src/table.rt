@@ -1,4 +1,5 @@
 // What the codes of a request come to on a card. Each code is looked up once.
+use byte_parts::spans;
 use card_nodes::count;
 use card_nodes::find;
 use card_nodes::find::Found;
@@ -97,7 +98,7 @@ pub fn table_of(nodes: [Node; 64], count: usize, codes: &[u16]) -> Table
 {
     let none = no_row();
     let mut rows = [none; 16];
-    let n = if codes.len() < 16 { codes.len() } else { 16 };
+    let n = spans::least(codes.len(), 16);
     let taken = count::taken(count);
     let mut i = 0;
     while i < n {

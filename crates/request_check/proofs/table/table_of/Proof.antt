@@ -36,7 +36,7 @@ records c = record { all = search needs }
 loop-holds : tie.Need-loop-holds Inv-loop2 μ-loop2 Inv-loop μ-loop
 loop-holds c = (
   omega arith,
-  ⊎-elim (λ w. omega arith) (λ w. omega arith) (c .before .if1 .came),
+  c .before .least .ensures,
   c .taken .ensures,
   ap (replicate 16) (c .before .before .no-row .ensures),
 )
@@ -50,7 +50,7 @@ loop2-holds c =
 loop2-again : tie.Need-loop2-again Inv-loop2 μ-loop2 Inv-loop μ-loop
 loop2-again c =
     let l = c .before .before .before .before in
-    (l .loop2 .inv .0, miss _ _ (l .loop2 .inv .1) (omega arith) (sym (c .before .is-service-of .ensures) ∙ c .if2 .left))
+    (l .loop2 .inv .0, miss _ _ (l .loop2 .inv .1) (omega arith) (sym (c .before .is-service-of .ensures) ∙ c .if1 .left))
 
 -- the row of the code, found or not
 looked : (c : tie.Left-loop2 Inv-loop2 μ-loop2 Inv-loop μ-loop) →
@@ -86,7 +86,7 @@ loop-again c =
 
 returns : tie.Need-returns Inv-loop2 μ-loop2 Inv-loop μ-loop
 returns c =
-    let k : c .before .loop .i ≡ c .before .before .before .if1 .n = omega arith in
+    let k : c .before .loop .i ≡ c .before .before .before .least .result = omega arith in
     table-full _ _ _ _ _ (c .before .loop .inv .1) k (c .before .loop .inv .3)
 
 pub table-of-spec : {M : Type 1} → statement M
@@ -97,6 +97,7 @@ table-of-spec =
     μ-loop2
     Inv-loop
     μ-loop
+    (λ c κs. search needs)
     (λ c κs. search needs)
     (λ c κs. search needs)
     loop-holds
