@@ -1,0 +1,3 @@
+-- What callers cite.
+pub mod Rooms
+mod Runs
