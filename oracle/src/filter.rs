@@ -8,8 +8,8 @@ use crate::{inspect, inspections, replay, salvage};
 pub struct Filter {
     /// The program that answers one text on standard input.
     pub program: &'static str,
-    /// The program that answers each text of the folder it is run in, under a heading.
-    pub stored: &'static str,
+    /// The program that answers each text of the folder it is run in, under a heading, if there is one.
+    pub stored: Option<&'static str>,
     /// Length and seed of the list that is stored.
     pub small: (usize, u64),
     /// What the oracle prints for a text.
@@ -30,7 +30,7 @@ pub struct Filter {
 
 pub static REPLAY: Filter = Filter {
     program: "replay",
-    stored: "test_traces",
+    stored: Some("test_traces"),
     small: texts::SMALL,
     answer: replay::replay,
     parts: |text| ("", &text.output),
@@ -43,7 +43,7 @@ pub static REPLAY: Filter = Filter {
 
 pub static INSPECT: Filter = Filter {
     program: "inspect",
-    stored: "test_inspect",
+    stored: Some("test_inspect"),
     small: inspections::SMALL,
     answer: inspect::inspect,
     parts: |text| ("", &text.output),
@@ -56,7 +56,7 @@ pub static INSPECT: Filter = Filter {
 
 pub static SALVAGE: Filter = Filter {
     program: "salvage",
-    stored: "test_salvage",
+    stored: None,
     small: salvage::texts::SMALL,
     answer: salvage::texts::answer,
     parts: salvage::texts::parts,

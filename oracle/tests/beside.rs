@@ -17,11 +17,10 @@ use uluvoli_oracle::texts::{self, Text};
 fn filtered(name: &str, filter: &str) -> PathBuf {
     let programs = Path::new(env!("CARGO_BIN_EXE_traces")).parent().unwrap();
     let run = std::env::temp_dir().join(format!("uluvoli-{name}-{}", std::process::id()));
-    // The proved programs `test_traces`, `test_inspect` and `test_salvage` are `traces` here.
+    // The proved programs `test_traces` and `test_inspect` are `traces` here.
     let text = format!(
         "#!/bin/sh\ncase $1 in\ntest_traces) set -- traces ;;\n\
-         test_inspect) set -- traces --inspect ;;\n\
-         test_salvage) set -- traces --salvage ;;\nesac\n\
+         test_inspect) set -- traces --inspect ;;\nesac\n\
          name=$1\nshift\n\"{}/$name\" \"$@\" | {filter}\n",
         programs.display()
     );

@@ -11,7 +11,6 @@ use Rattle.salvage_walk.proofs.Extents.{extent-first, extent-second, extent-fit
 use Rattle.salvage_text.specs.declared.Salvaged.{Salvaged}
 use Rattle.salvage_text.specs.declared.Salvaged.the-variants.{Done, Refused}
 use Rattle.salvage_text.specs.Text.{salvagedText, reportedText, salvageAnswer, salvagedBy}
-use Rattle.salvage_shell.specs.Shell.{shownBy, imageShown}
 
 pub of-length : (n v : ℕ) → n ≡ length (replicate n v)
 of-length n v = sym (length-replicate n v)
@@ -32,11 +31,11 @@ done-no : (a b : ℕ) (r : Refusal) → Done a b ≡ Refused r → ⊥
 unfolding isDone
 done-no a b r e = false≢true (sym (ap isDone e))
 
--- What was salvaged lies in its buffers, and the image is shown.
+-- What was salvaged lies in its buffers.
 pub done-fits
     : (r1 r2 : ℕ) (t : List ℕ) (a b : ℕ) → Done a b ≡ salvagedBy r1 r2 t
-    → (a ≤ r1) × (b ≤ r2) × (a ≡ length (imageShown r1 r2 t))
-unfolding imageIn reportIn imageShown
+    → (a ≤ r1) × (b ≤ r2)
+unfolding imageIn reportIn
 done-fits r1 r2 t a b e =
     let x : ℕ = length (salvagedText t) in
     let y : ℕ = length (reportedText t) in
@@ -50,21 +49,6 @@ done-fits r1 r2 t a b e =
                 let q = e ∙ sym (ap salvageAnswer f) in
                 let p : a ≡ x = ap imageIn q in
                 let s : b ≡ y = ap reportIn q in
-                (omega (arith, p, h), omega (arith, s, g), p ∙ ap (λ o. length (shownBy o (salvagedText t))) f)
-          ]
-    ]
-
--- Where a salvage is refused nothing is shown.
-pub refused-none : (r1 r2 : ℕ) (t : List ℕ) (r : Refusal) → Refused r ≡ salvagedBy r1 r2 t → 0 ≡ length (imageShown r1 r2 t)
-unfolding imageShown
-refused-none r1 r2 t r e =
-    let x : ℕ = length (salvagedText t) in
-    let y : ℕ = length (reportedText t) in
-    elim (decLt r1 x) [
-      | yes h ↦ ap (λ o. length (shownBy o (salvagedText t))) (extent-first r1 r2 x y h)
-      | no h ↦
-          elim (decLt r2 y) [
-            | yes g ↦ ap (λ o. length (shownBy o (salvagedText t))) (extent-second r1 r2 x y g)
-            | no g ↦ absurd (done-no x y r (ap salvageAnswer (extent-fit r1 r2 x y (omega (arith, h)) (omega (arith, g))) ∙ sym e))
+                (omega (arith, p, h), omega (arith, s, g))
           ]
     ]

@@ -57,14 +57,14 @@ fn run(fd: i32, text: &mut [u8], out: &mut [u8], words: &mut [u8]) -> Flow
 }
 
 // Room for a text of 1,048,576 bytes: one that ends is shorter than its buffer.
-pub fn text_room() -> [u8; 1048577]
+fn text_room() -> [u8; 1048577]
     ensures { λ r. ⌜ 1048577 ≡ length r ⌝ }
 {
     [0; 1048577]
 }
 
 // Room for what is printed.
-pub fn print_room() -> [u8; 1048576]
+fn print_room() -> [u8; 1048576]
     ensures { λ r. ⌜ 1048576 ≡ length r ⌝ }
 {
     [0; 1048576]

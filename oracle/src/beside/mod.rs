@@ -67,12 +67,16 @@ impl Beside {
         })
     }
 
-    /// The first of these texts that the program for folders answers otherwise than the oracle.
+    /// The first of these texts that is answered otherwise than by the oracle: by the program for folders, or
+    /// where there is none one by one.
     pub fn first_wrong(&self, texts: &[Text]) -> io::Result<Option<Wrong>> {
+        let Some(stored) = self.filter.stored else {
+            return self.first_alone(texts);
+        };
         let inputs = texts.iter().map(|text| text.input.as_slice());
         files::numbered(&self.folder, "in", inputs)?;
         let mut command = Command::new(&self.run);
-        command.arg(self.filter.stored).current_dir(&self.folder);
+        command.arg(stored).current_dir(&self.folder);
         let expected: usize = texts.iter().map(|text| text.output.len() + 8).sum();
         let ran = process::run(&mut command, Vec::new(), self.limit, expected + SURPLUS)?;
         Ok(match first_difference(&ran.printed, texts) {
@@ -89,17 +93,27 @@ impl Beside {
         })
     }
 
+    /// The first of these texts, each whole on standard input, that the filter answers otherwise than the oracle.
+    fn first_alone(&self, texts: &[Text]) -> io::Result<Option<Wrong>> {
+        for (at, text) in texts.iter().enumerate() {
+            if let Some(wrong) = self.alone_wrong(vec![text.input.clone()], text)? {
+                return Ok(Some(Wrong { at, ..wrong }));
+            }
+        }
+        Ok(None)
+    }
+
     /// Whether the filter answers this text, which comes in pieces, otherwise than the oracle.
     pub fn piped_wrong(&self, random: &mut Random, text: &Text) -> io::Result<Option<Wrong>> {
+        self.alone_wrong(cuts::pieces(random, &text.input), text)
+    }
+
+    /// Whether the filter answers this text, which comes in these pieces, otherwise than the oracle.
+    fn alone_wrong(&self, pieces: Vec<Vec<u8>>, text: &Text) -> io::Result<Option<Wrong>> {
         let mut command = Command::new(&self.run);
         let (said, printed) = (self.filter.parts)(text);
         let most = text.output.len() + SURPLUS;
-        let ran = process::run(
-            command.arg(self.filter.program),
-            cuts::pieces(random, &text.input),
-            self.limit,
-            most,
-        )?;
+        let ran = process::run(command.arg(self.filter.program), pieces, self.limit, most)?;
         let alike = ran.printed == printed.as_bytes() && ran.said == said.as_bytes();
         let wrong = ran.fault.is_some() || !alike;
         Ok(wrong.then_some(Wrong {
@@ -122,7 +136,11 @@ impl Beside {
         let smallest = shrink::smallest(texts[at].input.clone(), &mut shows)?;
         let smallest = [(self.filter.text)(smallest)];
         match self.first_wrong(&smallest)? {
-            Some(wrong) => self.tell(self.filter.stored, &smallest[0], &wrong),
+            Some(wrong) => self.tell(
+                self.filter.stored.unwrap_or(self.filter.program),
+                &smallest[0],
+                &wrong,
+            ),
             None => Err(io::Error::other("a difference did not come again")),
         }
     }

@@ -1,7 +1,7 @@
 //! `compare N SEED RUN`: puts N texts of a seed to the program that `RUN test_traces` runs, and
 //! one in a hundred, in pieces on standard input, to `RUN replay`; `compare --inspect N SEED RUN` texts with
 //! questions to `RUN test_inspect` and `RUN inspect`, `compare --salvage N SEED RUN` damaged images to
-//! `RUN test_salvage` and `RUN salvage`. Fails at the first that is answered otherwise
+//! `RUN salvage`. Fails at the first that is answered otherwise
 //! than by the oracle, and prints the smallest text that shows it.
 
 use std::io::{self, Write};

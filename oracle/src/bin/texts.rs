@@ -2,8 +2,8 @@
 //! as DIR/stdout. `texts N SEED --counts` prints what they met, and fails if they did not meet all
 //! that replay can say; `texts N SEED` prints for each text a line `text NUMBER BYTES BYTES`, then
 //! its bytes, then those printed for it; `--small` in place of `N SEED` is the list that is stored.
-//! `texts --inspect ..` does all this for `inspect` and `test_inspect`, `texts --salvage ..` for `salvage` and
-//! `test_salvage`.
+//! `texts --inspect ..` does all this for `inspect` and `test_inspect`, `texts --salvage ..` for
+//! `salvage`.
 
 use std::io::{self, Write};
 use uluvoli_oracle::beside::heading;
