@@ -59,12 +59,16 @@ fn lines(random: &mut Random) -> Vec<Line> {
     lines
 }
 
-/// One damage: a line lost, sent twice, exchanged, spoilt, at another depth, or one that does not belong there.
+/// One damage: a line lost, sent twice, exchanged, spoilt, at another depth, or one that does not belong there. A line whose last field
+/// was lost stays as it is.
 fn damage(random: &mut Random, lines: &mut Vec<Line>) {
     if lines.is_empty() {
         return;
     }
     let (at, other) = (random.below(lines.len()), random.below(lines.len()));
+    if lines[at].0.is_empty() {
+        return;
+    }
     match random.below(12) {
         0 => {
             lines.remove(at);
