@@ -7,14 +7,35 @@ ghost use mathlib.Core.Bool.{true, false};
 ghost use lib.ListN.{length};
 ghost use Rattle.text_pull.specs.Pull.{isLine, isEnd, closedOf, Wrote};
 
-// Writes to standard error: the only such write.
-fn tell(words: &[u8]) {
-    io::write_all(libc::STDERR_FILENO, words);
+// Writes to standard error: the only such write. Answers whether all was taken.
+fn tell(words: &[u8]) -> bool {
+    io::write_all(libc::STDERR_FILENO, words)
 }
 
 // Says that there is no room for the text, the image or the report.
 fn refuse() {
-    tell(b"!\t48\n");
+    say(b"!\t48\n");
+}
+
+// Says that the report could not be written.
+fn fail() {
+    tell(b"failed: the report could not be written\n");
+}
+
+// Says words that were cut off once more.
+fn again(words: &[u8]) {
+    if tell(words) {
+        return;
+    }
+    fail();
+}
+
+// Says words on standard error, once more where they were cut off, as by a signal.
+fn say(words: &[u8]) {
+    if tell(words) {
+        return;
+    }
+    again(words);
 }
 
 // Writes the image, then the report.
@@ -23,7 +44,7 @@ fn show(flow: Flow, out: &[u8], image: usize, words: &[u8], report: usize) -> Fl
     ensures { λ r. ⌜ Wrote (closedOf flow image) r ⌝ }
 {
     let shown = text_pull::writing::flush(text_pull::closed(flow, image), out, 0);
-    tell(&words[0..report]);
+    say(&words[0..report]);
     shown
 }
 
