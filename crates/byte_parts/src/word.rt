@@ -1,25 +1,20 @@
 // Numbers of 32 bits: read from and written to four bytes of a slice, low byte first, and as what they stand for with a sign.
 ghost use mathlib.Core.Path.{_≡_};
 ghost use Prim.Native.Nat.{_+_, _≤_, _<_, _^_};
-ghost use lib.ListN.{length, getD};
+ghost use lib.ListN.{length};
 ghost use lib.Signed.{mag};
 ghost use Rattle.byte_parts.specs.Part.{put};
 ghost use Rattle.byte_parts.specs.Word.{wordAt, wordBytes, signedOf, wordOf};
 
-// Reads the byte of s at i as a number of 32 bits. That it is below 256 is promised too, so that sums of bytes need no proof that they fit.
-pub fn byte(s: &[u8], i: usize) -> u32
-    requires { ⌜ i < length (now s) ⌝ }
-    ensures { λ r. ⌜ (r ≡ getD (now (s .entry)) i 0) × (r < 256) ⌝ }
-{
-    s[i] as u32
-}
-
-// Reads the number that the four bytes of s from `at` on make.
+// Reads the number that the four bytes of s from `at` on make, in one sum as `half` does.
 pub fn word(s: &[u8], at: usize) -> u32
     requires { ⌜ at + 4 ≤ length (now s) ⌝ }
     ensures { λ r. ⌜ r ≡ wordAt (now (s .entry)) at ⌝ }
 {
-    byte(s, at) + 256 * byte(s, at + 1) + 65536 * byte(s, at + 2) + 16777216 * byte(s, at + 3)
+    s[at] as u32
+        + 256 * (s[at + 1] as u32)
+        + 65536 * (s[at + 2] as u32)
+        + 16777216 * (s[at + 3] as u32)
 }
 
 // Writes v to the four bytes of s from `at` on.
