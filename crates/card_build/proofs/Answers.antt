@@ -4,10 +4,10 @@ use mathlib.Core.Bool.{Bool, true, false, cond, not}
 use mathlib.Core.List.{List}
 use Prim.Native.Nat.{ℕ, _-_, _*_, _/_, _≤_, _<_}
 use native.Mathlib.Omega.{arith}
-use lib.Dec.{ltb, leb}
+use lib.Dec.{leb}
 use lib.IntN.{ℤ}
 use lib.ListN.{replicate, set}
-use borrow.Author.Tests.{lt-ltb, le-ltb, ltb-true, ltb-false, leb-false}
+use borrow.Author.Tests.{ltb-false, leb-false}
 use Rattle.answers.specs.declared.refusal.Refusal.{Refusal}
 use Rattle.answers.specs.declared.refusal.Refusal.the-variants.{TableFull, NotBuilt, ShortArena, NotAService}
 use Rattle.service_code.specs.declared.limit.Limit.{Limit}
@@ -24,7 +24,7 @@ use Rattle.card_admit.specs.Admit.{areaJudged, placedOf, agreed}
 use Rattle.card_build.specs.declared.card.Card.{Card}
 use Rattle.card_build.specs.declared.card.Added.{Added}
 use Rattle.card_build.specs.declared.build.Growth.{Growth}
-use Rattle.card_build.specs.Card.{nodesOf, isSound, grown, accepted, refused}
+use Rattle.card_build.specs.Card.{nodesOf, isSound, isShort, grown, accepted, refused}
 use Rattle.card_build.specs.Grow.{nodeAs, growthOf, grownBy, addArea, aheadOfService, serviceBy, addService, lastNode, setLimit}
 use Rattle.card_build.specs.Build.{areaAdded, serviceAdded, arenaAdded, limitAdded}
 use Rattle.card_build.proofs.Accepted.{not-done}
@@ -77,19 +77,14 @@ pub record Clear (arenaLen used count : ℕ) : Type 0 where
   pub free : count < 64
 
 -- what the tests say then
-clear : (arenaLen used count : ℕ) (s k f : Bool) → ltb (arenaLen / 16) used ≡ k → leb 64 count ≡ f → aheadOfService s k f ≡ Done →
+clear : (arenaLen used count : ℕ) (s k f : Bool) → isShort arenaLen used ≡ k → leb 64 count ≡ f → aheadOfService s k f ≡ Done →
     Clear arenaLen used count
 unfolding aheadOfService
 clear arenaLen used count false k f a b e = absurd (not-done e)
 clear arenaLen used count true true f a b e = absurd (not-done e)
 clear arenaLen used count true false true a b e = absurd (not-done e)
 clear arenaLen used count true false false a b e =
-    record { long = ltb-false (arenaLen / 16) used a; free = leb-false 64 count b }
-
--- an arena is short by blocks where it is by bytes
-by-blocks : (arenaLen used : ℕ) (k : Bool) → ltb (arenaLen / 16) used ≡ k → k ≡ ltb arenaLen (16 * used)
-by-blocks arenaLen used true e = sym (lt-ltb arenaLen (16 * used) (omega (arith, ltb-true (arenaLen / 16) used e)))
-by-blocks arenaLen used false e = sym (le-ltb arenaLen (16 * used) (omega (arith, ltb-false (arenaLen / 16) used e)))
+    record { long = omega (arith, ltb-false arenaLen (16 * used) a); free = leb-false 64 count b }
 
 module _ (c : Card) (arenaLen depth code blocks version : ℕ) where
   -- where a service is placed that nothing ahead refuses
@@ -97,18 +92,16 @@ module _ (c : Card) (arenaLen depth code blocks version : ℕ) where
   given = agreed (c .system .join) blocks (placedOf (nodesOf c) (c .used) arenaLen depth code blocks)
 
   -- the definition: what is ahead, then the placing
-  ordered : unless c (serviceBy c depth code version given) (aheadOfService (isSound c) (ltb (arenaLen / 16) (c .used)) (leb 64 (c .count)))
+  ordered : unless c (serviceBy c depth code version given) (aheadOfService (isSound c) (isShort arenaLen (c .used)) (leb 64 (c .count)))
       ≡ serviceAdded c arenaLen depth code blocks version
   unfolding serviceAdded addService
-  ordered =
-      as-one c (serviceBy c depth code version given) (isSound c) (ltb (arenaLen / 16) (c .used)) (leb 64 (c .count))
-      ∙ rw (by-blocks arenaLen (c .used) (ltb (arenaLen / 16) (c .used)) refl)
+  ordered = as-one c (serviceBy c depth code version given) (isSound c) (isShort arenaLen (c .used)) (leb 64 (c .count))
 
-  module _ {a : Answer} (told : a ≡ aheadOfService (isSound c) (ltb (arenaLen / 16) (c .used)) (leb 64 (c .count))) where
+  module _ {a : Answer} (told : a ≡ aheadOfService (isSound c) (isShort arenaLen (c .used)) (leb 64 (c .count))) where
     -- once nothing is ahead the arena is long enough, and a record is free
     pub service-clear : a ≡ Done → Clear arenaLen (c .used) (c .count)
     service-clear e =
-        clear arenaLen (c .used) (c .count) (isSound c) (ltb (arenaLen / 16) (c .used)) (leb 64 (c .count)) refl refl (sym told ∙ e)
+        clear arenaLen (c .used) (c .count) (isSound c) (isShort arenaLen (c .used)) (leb 64 (c .count)) refl refl (sym told ∙ e)
 
     -- 8, 7 and 20
     pub service-ahead : {r : Refusal} → a ≡ Refused r → refused c r ≡ serviceAdded c arenaLen depth code blocks version

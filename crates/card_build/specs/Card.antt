@@ -1,8 +1,10 @@
 -- A card's value.
-use Prim.Native.Nat.{ℕ, _+_}
+use Prim.Native.Nat.{ℕ, _+_, _*_}
 use mathlib.Core.List.{List}
 use mathlib.Core.Bool.{Bool}
+use lib.Dec.{ltb}
 use lib.ListN.{take, set, replicate}
+use Rattle.byte_parts.specs.Sizes.{blockSize}
 use Rattle.answers.specs.declared.refusal.Refusal.{Refusal}
 use Rattle.card_nodes.specs.declared.node.Node.{Node}
 use Rattle.answers.specs.declared.refusal.Answer.the-variants.{Done, Refused}
@@ -33,6 +35,15 @@ nodesOf c = take (c .count) (c .nodes)
 -- the test of refusal 8
 abbrev pub isSound : Card → Bool
 isSound c = soundOf (c .nodes) (c .count) (c .used)
+
+-- so many bytes are too few for a number of blocks
+abbrev pub tooShort : ℕ → ℕ → Bool
+tooShort bytes blocks = ltb bytes (blockSize * blocks)
+
+-- the test of refusal 7: an arena of `arenaLen` bytes is too short for the blocks in use
+-- RULES 2.3
+abbrev pub isShort : ℕ → ℕ → Bool
+isShort arenaLen used = tooShort arenaLen used
 
 -- the card with one record more
 -- RULES 5.1, 5.11

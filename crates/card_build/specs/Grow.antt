@@ -1,10 +1,9 @@
 -- The additions and the limit, on a card that is sound.
-use Prim.Native.Nat.{ℕ, _+_, _-_, _*_}
+use Prim.Native.Nat.{ℕ, _+_, _-_}
 use mathlib.Core.Bool.{Bool, cond, not}
-use lib.Dec.{ltb, leb}
+use lib.Dec.{leb}
 use lib.IntN.{ℤ}
 use lib.ListN.{getD, set}
-use Rattle.byte_parts.specs.Sizes.{blockSize}
 use Rattle.answers.specs.declared.refusal.Refusal.the-variants.{NotBuilt, TableFull, ShortArena, NotAService}
 use Rattle.service_code.specs.declared.limit.Limit.{Limit}
 use Rattle.service_code.specs.declared.limit.Limit.the-variants.{Unlimited, Limited}
@@ -20,7 +19,7 @@ use Rattle.card_admit.specs.Admit.{areaJudged, placedOf, agreed}
 use Rattle.card_build.specs.declared.card.Card.{Card}
 use Rattle.card_build.specs.declared.card.Added.{Added}
 use Rattle.card_build.specs.declared.build.Growth.{Growth}
-use Rattle.card_build.specs.Card.{nodesOf, grown, accepted, refused}
+use Rattle.card_build.specs.Card.{nodesOf, isShort, grown, accepted, refused}
 
 -- the record of a node
 -- RULES 5.2
@@ -64,7 +63,7 @@ serviceBy c depth code version (Store s b used) = accepted (grown c (nodeAs dept
 -- RULES 2.3, 5.4
 unfoldable pub addService : Card → ℕ → ℕ → ℕ → ℕ → ℕ → Added
 addService c arenaLen depth code blocks version =
-    cond (ltb arenaLen (blockSize * c .used)) (refused c ShortArena)
+    cond (isShort arenaLen (c .used)) (refused c ShortArena)
     (cond (leb 64 (c .count)) (refused c TableFull)
     (serviceBy c depth code version (agreed (c .system .join) blocks (placedOf (nodesOf c) (c .used) arenaLen depth code blocks))))
 

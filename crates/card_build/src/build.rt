@@ -1,4 +1,5 @@
 // Building a card: each addition takes the card and hands it back, grown or as it was.
+use crate::card;
 use crate::card::Added;
 use crate::card::Card;
 use crate::fits;
@@ -12,13 +13,13 @@ use card_nodes::node::Node;
 use service_code::limit::Limit;
 ghost use mathlib.Core.Path.{_≡_};
 ghost use Prim.Native.Nat.{_-_, _*_, _/_, _≤_, _<_};
-ghost use lib.Dec.{ltb, leb};
+ghost use lib.Dec.{leb};
 ghost use lib.ListN.{length, replicate};
 ghost use Rattle.byte_parts.specs.Sizes.{blockSize};
 ghost use Rattle.service_code.specs.declared.limit.Limit.the-variants.{Limited};
 ghost use Rattle.byte_parts.specs.Part.{put};
 ghost use Rattle.card_nodes.specs.declared.node.Entry.the-variants.{Service};
-ghost use Rattle.card_build.specs.Card.{refused};
+ghost use Rattle.card_build.specs.Card.{isShort, refused};
 ghost use Rattle.card_build.specs.Grow.{nodeAs, growthOf, grownBy, aheadOfService};
 ghost use Rattle.card_build.specs.Build.{areaAdded, serviceAdded, limitAdded, arenaAdded};
 
@@ -46,23 +47,16 @@ fn is_full(count: usize) -> bool
     64 <= count
 }
 
-// Whether an arena of `arena_len` bytes is shorter than the blocks in use.
-fn is_short(arena_len: usize, used: usize) -> bool
-    ensures { λ r. ⌜ r ≡ ltb («arena_len» / blockSize) used ⌝ }
-{
-    arena_len / BLOCK_SIZE < used
-}
-
 // What is refused ahead of a service's own refusals, in an arena of `arena_len` bytes, or nothing.
 fn ahead(sound: bool, arena_len: usize, used: usize, full: bool) -> Answer
-    ensures { λ r. ⌜ r ≡ aheadOfService sound (ltb («arena_len» / blockSize) used) full ⌝ }
+    ensures { λ r. ⌜ r ≡ aheadOfService sound (isShort «arena_len» used) full ⌝ }
 {
     // 8
     if !sound {
         return Answer::Refused(Refusal::NotBuilt);
     }
     // 7
-    if is_short(arena_len, used) {
+    if card::is_short(arena_len, used) {
         return Answer::Refused(Refusal::ShortArena);
     }
     // 20

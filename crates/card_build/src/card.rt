@@ -1,8 +1,9 @@
-// The value of a card, a new one, and the test of refusal 8.
+// The value of a card, a new one, and the tests of refusals 8 and 7.
 use answers::refusal::Answer;
+use byte_parts::sizes::BLOCK_SIZE;
 use card_nodes::node::Node;
 ghost use mathlib.Core.Path.{_≡_};
-ghost use Rattle.card_build.specs.Card.{ofOne, newCard, isSound};
+ghost use Rattle.card_build.specs.Card.{ofOne, newCard, isSound, tooShort, isShort};
 
 // The system of a card: its code, its key version, and whether a service may join a store of another block count.
 pub struct System {
@@ -23,6 +24,20 @@ pub struct Card {
 pub struct Added {
     pub card: Card,
     pub answer: Answer,
+}
+
+// Whether so many bytes are too few for a number of blocks.
+pub fn too_short(bytes: usize, blocks: usize) -> bool
+    ensures { λ r. ⌜ r ≡ tooShort bytes blocks ⌝ }
+{
+    bytes / BLOCK_SIZE < blocks
+}
+
+// Whether an arena of `arena_len` bytes is shorter than the blocks in use; if so, every call that is lent it is refused with 7.
+pub fn is_short(arena_len: usize, used: usize) -> bool
+    ensures { λ r. ⌜ r ≡ isShort «arena_len» used ⌝ }
+{
+    too_short(arena_len, used)
 }
 
 impl Card {

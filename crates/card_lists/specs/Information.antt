@@ -1,10 +1,9 @@
 -- The blocks of nodes, and what a card answers.
-use Prim.Native.Nat.{ℕ, _-_, _*_}
+use Prim.Native.Nat.{ℕ, _-_}
 use mathlib.Core.List.{List, map}
 use mathlib.Core.Bool.{cond, not}
 use lib.Dec.{ltb}
 use lib.ListN.{length}
-use Rattle.byte_parts.specs.Sizes.{blockSize}
 use Rattle.answers.specs.declared.refusal.Answer.{Answer}
 use Rattle.answers.specs.declared.refusal.Answer.the-variants.{Done, Refused}
 use Rattle.answers.specs.declared.refusal.Refusal.the-variants.{NotBuilt, ShortArena, TooManyNodes}
@@ -18,7 +17,7 @@ use Rattle.card_nodes.specs.declared.find.Found.the-variants.{At, Nothing}
 use Rattle.card_admit.specs.Admit.{usable}
 use Rattle.card_questions.specs.Total.{totalOf}
 use Rattle.card_build.specs.declared.card.Card.{Card}
-use Rattle.card_build.specs.Card.{nodesOf, isSound}
+use Rattle.card_build.specs.Card.{nodesOf, isSound, isShort}
 use Rattle.card_laws.specs.Children.{areaNamed}
 use Rattle.card_lists.specs.Packet.{putAnswered, outAnswered}
 
@@ -43,7 +42,7 @@ informationOf ns unused asked = informationTold (record {
 -- what is refused ahead of any node, in an arena of `arenaLen` bytes: 7, then 46
 unfoldable pub aheadOf : ℕ → ℕ → ℕ → Answer
 aheadOf arenaLen used many =
-    cond (ltb arenaLen (blockSize * used)) (Refused ShortArena)
+    cond (isShort arenaLen used) (Refused ShortArena)
     (cond (ltb mostNodes many) (Refused TooManyNodes)
     Done)
 
@@ -52,7 +51,7 @@ aheadOf arenaLen used many =
 unfoldable pub blocksTold : Card → ℕ → List ℕ → Informed
 blocksTold c arenaLen asked =
     cond (not (isSound c)) (informationRefused NotBuilt)
-    (cond (ltb arenaLen (blockSize * c .used)) (informationRefused ShortArena)
+    (cond (isShort arenaLen (c .used)) (informationRefused ShortArena)
     (cond (ltb mostNodes (length asked)) (informationRefused TooManyNodes)
     (informationOf (nodesOf c) (usable arenaLen - c .used) asked)))
 

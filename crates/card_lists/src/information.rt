@@ -1,7 +1,7 @@
 // Block information of nodes: the blocks assigned to each, by its block total, and those free for it.
 use answers::refusal::Answer;
 use answers::refusal::Refusal;
-use byte_parts::sizes::BLOCK_SIZE;
+use card_build::card;
 use card_build::card::Card;
 use card_nodes::count;
 use card_nodes::find::Found;
@@ -83,7 +83,7 @@ fn ahead(arena_len: usize, used: usize, many: usize) -> Answer
     ensures { λ r. ⌜ r ≡ aheadOf «arena_len» used many ⌝ }
 {
     // 7
-    if arena_len / BLOCK_SIZE < used {
+    if card::is_short(arena_len, used) {
         return Answer::Refused(Refusal::ShortArena);
     }
     // 46

@@ -33,6 +33,8 @@ use Rattle.card_build.proofs.card.Card.add_service as card_build·Card·add-ser
 use Rattle.card_build.proofs.card.Card.set_limit as card_build·Card·set-limit
 use Rattle.card_build.proofs.card.Card.new as card_build·Card·new
 use Rattle.card_build.proofs.card.Card.is_sound as card_build·Card·is-sound
+use Rattle.card_build.proofs.card.too_short as card_build·too-short
+use Rattle.card_build.proofs.card.is_short as card_build·is-short
 use Rattle.card_questions.proofs.listing.directory as card_questions·directory
 use Rattle.card_questions.proofs.tags.tags_of as card_questions·tags-of
 use Rattle.card_questions.proofs.tags.area_at as card_questions·area-at
@@ -118,6 +120,12 @@ module _ {M : Type 1} (𝓤 : URA M) (H : Heap 𝓤) (A : Atoms 𝓤) (mem : Mem
 
   pub card_build·Card·is-sound-once : OneAnswer 𝓤 card_build·Card·is-sound.ended (card_build·Card·is-sound.clauses 𝓤 H A mem run)
   card_build·Card·is-sound-once κs a g r r′ ws ws′ = result 𝓤 refl
+
+  pub card_build·too-short-once : OneAnswer 𝓤 card_build·too-short.ended (card_build·too-short.clauses 𝓤 H A mem run)
+  card_build·too-short-once κs a g r r′ ws ws′ = result 𝓤 refl
+
+  pub card_build·is-short-once : OneAnswer 𝓤 card_build·is-short.ended (card_build·is-short.clauses 𝓤 H A mem run)
+  card_build·is-short-once κs a g r r′ ws ws′ = result 𝓤 refl
 
   pub card_questions·directory-once : OneAnswer 𝓤 card_questions·directory.ended (card_questions·directory.clauses 𝓤 H A mem run)
   card_questions·directory-once κs a g r r′ ws ws′ = of-two 𝓤 (λ p p′ q q′. (once p q, λ i. (tt, (once p′ q′ i, tt))))

@@ -2,17 +2,16 @@
 use mathlib.Core.Path.{_≡_, _∙_}
 use mathlib.Core.Bool.{true, false, not}
 use mathlib.Core.List.{List, []}
-use Prim.Native.Nat.{ℕ, _+_, _-_, _*_, _/_, _≤_, _<_}
+use Prim.Native.Nat.{ℕ, _+_, _-_, _*_, _≤_, _<_}
 use native.Mathlib.Omega.{arith}
-use lib.Dec.{ltb}
 use lib.ListN.{length, take, drop}
-use borrow.Author.Tests.{lt-ltb, le-ltb, le-leb, lt-leb, ltb-false, leb-false, not-false}
+use borrow.Author.Tests.{le-leb, lt-leb, ltb-false, leb-false, not-false}
 use Rattle.answers.specs.declared.refusal.Refusal.{Refusal}
 use Rattle.answers.specs.declared.refusal.Refusal.the-variants.{ShortArena, NoSuchBlock, NotBuilt}
 use Rattle.byte_parts.specs.Part.{part, put}
 use Rattle.answers.specs.declared.refusal.Answer.the-variants.{Done, Refused}
 use Rattle.card_build.specs.declared.card.Card.{Card}
-use Rattle.card_build.specs.Card.{nodesOf, isSound}
+use Rattle.card_build.specs.Card.{nodesOf, isSound, isShort}
 use Rattle.request_check.specs.declared.table.Row.{Row}
 use Rattle.request_check.specs.Row.{rowOf}
 use Rattle.request_block.specs.Block.{blockPlace, lacksBlock, blockJudged, storedBlock, arenaSet}
@@ -27,20 +26,20 @@ module _ (c : Card) (arenaLen code number : ℕ) where
 
   module _ (s : isSound c ≡ true) where
     -- too short an arena
-    pub short-arena : arenaLen / 16 < c .used → Refused ShortArena ≡ blockJudged c arenaLen code number
+    pub short-arena : isShort arenaLen (c .used) ≡ true → Refused ShortArena ≡ blockJudged c arenaLen code number
     unfolding blockJudged
-    short-arena h = rw (s, lt-ltb arenaLen (16 * c .used) (omega arith))
+    short-arena h = rw (s, h)
 
-    module _ {w : Row} (a : c .used ≤ arenaLen / 16) (r : w ≡ rowOf (nodesOf c) code) where
+    module _ {w : Row} (a : isShort arenaLen (c .used) ≡ false) (r : w ≡ rowOf (nodesOf c) code) where
       -- a block that is there
       pub there : number < w .blocks → Done ≡ blockJudged c arenaLen code number
       unfolding blockJudged
-      there h = rw (s, le-ltb arenaLen (16 * c .used) (omega arith), ← r, lt-leb (w .blocks) number h)
+      there h = rw (s, a, ← r, lt-leb (w .blocks) number h)
 
       -- one that is not
       pub not-there : w .blocks ≤ number → Refused NoSuchBlock ≡ blockJudged c arenaLen code number
       unfolding blockJudged
-      not-there h = rw (s, le-ltb arenaLen (16 * c .used) (omega arith), ← r, le-leb (w .blocks) number h)
+      not-there h = rw (s, a, ← r, le-leb (w .blocks) number h)
 
 -- a refusal is not done
 not-done : {r : Refusal} → Refused r ≡ Done → ⊥
@@ -52,7 +51,7 @@ pub block-inside : (c : Card) (arenaLen code number : ℕ) → length (c .nodes)
 unfolding blockJudged
 block-inside c arenaLen code number h e =
     let s = passed-over (not-done {r = NotBuilt}) (not (isSound c)) _ e in
-    let a = passed-over (not-done {r = ShortArena}) (ltb arenaLen (16 * c .used)) _ (s .1) in
+    let a = passed-over (not-done {r = ShortArena}) (isShort arenaLen (c .used)) _ (s .1) in
     let b = passed-over (not-done {r = NoSuchBlock}) (lacksBlock (rowOf (nodesOf c) code) number) Done (a .1) in
     let n = leb-false (rowOf (nodesOf c) code .blocks) number (b .0) in
     let l = ltb-false arenaLen (16 * c .used) (a .0) in

@@ -2,7 +2,7 @@
 use Prim.Native.Nat.{ℕ, _+_, _*_}
 use mathlib.Core.List.{List, []}
 use mathlib.Core.Bool.{Bool, cond, not}
-use lib.Dec.{ltb, leb}
+use lib.Dec.{leb}
 use lib.ListN.{length}
 use Rattle.byte_parts.specs.Sizes.{blockSize}
 use Rattle.answers.specs.declared.refusal.Refusal.the-variants.{ShortArena, NoSuchBlock, NotBuilt}
@@ -10,7 +10,7 @@ use Rattle.byte_parts.specs.Part.{part, put}
 use Rattle.answers.specs.declared.refusal.Answer.{Answer}
 use Rattle.answers.specs.declared.refusal.Answer.the-variants.{Done, Refused}
 use Rattle.card_build.specs.declared.card.Card.{Card}
-use Rattle.card_build.specs.Card.{nodesOf, isSound}
+use Rattle.card_build.specs.Card.{nodesOf, isSound, isShort}
 use Rattle.request_check.specs.declared.table.Row.{Row}
 use Rattle.request_check.specs.Row.{rowOf}
 
@@ -27,7 +27,7 @@ lacksBlock w number = leb (w .blocks) number
 unfoldable pub blockJudged : Card → ℕ → ℕ → ℕ → Answer
 blockJudged c arenaLen code number =
     cond (not (isSound c)) (Refused NotBuilt)
-    (cond (ltb arenaLen (blockSize * c .used)) (Refused ShortArena)
+    (cond (isShort arenaLen (c .used)) (Refused ShortArena)
     (cond (lacksBlock (rowOf (nodesOf c) code) number) (Refused NoSuchBlock)
     Done))
 

@@ -4,6 +4,7 @@ use answers::refusal::Refusal;
 use byte_parts::sizes::BLOCK_SIZE;
 use byte_parts::spans;
 use card_build::card::Card;
+use card_build::card::is_short;
 use request_check::table;
 ghost use mathlib.Core.Path.{_≡_};
 ghost use lib.ListN.{length};
@@ -16,7 +17,7 @@ pub fn judge_block(card: Card, arena_len: usize, code: u16, number: u32) -> Answ
     if !card.is_sound() {
         return Answer::Refused(Refusal::NotBuilt);
     }
-    if arena_len / BLOCK_SIZE < card.used {
+    if is_short(arena_len, card.used) {
         return Answer::Refused(Refusal::ShortArena);
     }
     let nodes = card.nodes;

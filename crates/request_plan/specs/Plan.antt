@@ -1,17 +1,17 @@
 -- All that is settled before a stored byte is read. Of the arena only its length is asked, so no stored byte can change a refusal.
-use Prim.Native.Nat.{ℕ, _*_}
+use Prim.Native.Nat.{ℕ}
 use mathlib.Core.List.{List}
 use mathlib.Core.Bool.{Bool, cond, not}
 use lib.Dec.{ltb}
 use lib.ListN.{length}
-use Rattle.byte_parts.specs.Sizes.{mostElements, mostCodes, blockSize}
+use Rattle.byte_parts.specs.Sizes.{mostElements, mostCodes}
 use Rattle.block_list.specs.declared.element.BlockListElement.{BlockListElement}
 use Rattle.answers.specs.declared.refusal.Refusal.the-variants.{TooManyElements, TooManyCodes, ListLength, ShortStaging, ShortOutput, ShortArena, NotBuilt}
 use Rattle.answers.specs.declared.refusal.Answer.{Answer}
 use Rattle.answers.specs.declared.refusal.Answer.the-variants.{Done as Within, Refused as OutOfBounds}
 use Rattle.block_list.specs.Element.{endsAfter, elementsFrom}
 use Rattle.card_build.specs.declared.card.Card.{Card}
-use Rattle.card_build.specs.Card.{nodesOf, isSound}
+use Rattle.card_build.specs.Card.{nodesOf, isSound, tooShort, isShort}
 use Rattle.request_check.specs.declared.table.Row.{Row}
 use Rattle.request_check.specs.declared.check.Checked.{Checked}
 use Rattle.request_check.specs.declared.check.Checked.the-variants.{Passed as AllPassed, Failed as FailedAt}
@@ -49,21 +49,21 @@ boundsJudged list n =
 -- RULES 2.4, 2.6, 9.1
 unfoldable pub writeJudged : Sizes → Judged
 writeJudged n =
-    cond (ltb (n .room) (blockSize * n .used)) (NotFit ShortStaging)
-    (cond (ltb (n .«data») (blockSize * n .count)) NoData
+    cond (tooShort (n .room) (n .used)) (NotFit ShortStaging)
+    (cond (tooShort (n .«data») (n .count)) NoData
     Fit)
 
 -- 5 (output: 16 bytes per element)
 -- RULES 2.4, 2.5
 unfoldable pub readJudged : Sizes → Judged
 readJudged n =
-    cond (ltb (n .room) (blockSize * n .count)) (NotFit ShortOutput)
+    cond (tooShort (n .room) (n .count)) (NotFit ShortOutput)
     Fit
 
 -- 7, then what is lent to a write or a read
 unfoldable pub lentJudged : Bool → Sizes → Judged
 lentJudged write n =
-    cond (ltb (n .arena) (blockSize * n .used)) (NotFit ShortArena)
+    cond (isShort (n .arena) (n .used)) (NotFit ShortArena)
     (cond write (writeJudged n) (readJudged n))
 
 -- 8, 1, 2, 3, 7, then what is lent to a write or a read; of the card it is asked whether it is sound and how many blocks are in use
@@ -74,7 +74,7 @@ judgedWith sound write list n =
     (cond (ltb mostElements (n .count)) (NotFit TooManyElements)
     (cond (ltb mostCodes (n .codes)) (NotFit TooManyCodes)
     (cond (not (endsAfter list (n .count))) (NotFit ListLength)
-    (cond (ltb (n .arena) (blockSize * n .used)) (NotFit ShortArena)
+    (cond (isShort (n .arena) (n .used)) (NotFit ShortArena)
     (cond write (writeJudged n) (readJudged n))))))
 
 -- how a request is judged on an arena of so many bytes

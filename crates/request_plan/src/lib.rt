@@ -4,16 +4,16 @@ use answers::refusal::Refusal;
 use answers::status;
 use answers::status::Fault;
 use block_list::reader;
-use byte_parts::sizes::BLOCK_SIZE;
 use byte_parts::sizes::MOST_CODES;
 use byte_parts::sizes::MOST_ELEMENTS;
+use card_build::card;
 ghost use mathlib.Core.Path.{_≡_};
 ghost use mathlib.Core.Bool.{cond, not};
-ghost use Rattle.byte_parts.specs.Sizes.{mostElements, mostCodes, blockSize};
+ghost use Rattle.byte_parts.specs.Sizes.{mostElements, mostCodes};
 ghost use Rattle.answers.specs.Refusal.{refusalNumber};
 ghost use Rattle.block_list.specs.Element.{endsAfter};
+ghost use Rattle.card_build.specs.Card.{tooShort};
 ghost use Rattle.request_plan.specs.Request.{flag1In, flag2In, responseOf, causeIn};
-ghost use Prim.Native.Nat.{_*_};
 ghost use lib.Dec.{ltb};
 ghost use Rattle.request_plan.specs.Plan.{boundsJudged, writeJudged, readJudged, lentJudged, judgedWith};
 
@@ -124,13 +124,6 @@ fn many_codes(codes: usize) -> bool
     MOST_CODES < codes
 }
 
-// Tells whether so many bytes are too few for a number of blocks.
-fn too_short(bytes: usize, blocks: usize) -> bool
-    ensures { λ r. ⌜ r ≡ ltb bytes (blockSize * blocks) ⌝ }
-{
-    bytes / BLOCK_SIZE < blocks
-}
-
 // The refusal of a list that is not as many elements as are counted, or none.
 fn list_judged(list: &[u8], sizes: Sizes) -> Answer
     ensures { λ r. ⌜ r ≡ cond (not (endsAfter (now (list .entry)) (sizes .count))) (Answer.Refused Refusal.ListLength) Answer.Done ⌝ }
@@ -156,9 +149,9 @@ fn bounds_judged(list: &[u8], sizes: Sizes) -> Answer
 
 // Whether a write has data for each of its elements.
 fn data_judged(sizes: Sizes) -> Judged
-    ensures { λ r. ⌜ r ≡ cond (ltb (sizes .«data») (blockSize * sizes .count)) Judged.ShortData Judged.Fit ⌝ }
+    ensures { λ r. ⌜ r ≡ cond (tooShort (sizes .«data») (sizes .count)) Judged.ShortData Judged.Fit ⌝ }
 {
-    if too_short(sizes.data, sizes.count) {
+    if card::too_short(sizes.data, sizes.count) {
         return Judged::ShortData; // FF AC, ahead of all elements
     }
     Judged::Fit
@@ -168,7 +161,7 @@ fn data_judged(sizes: Sizes) -> Judged
 fn write_judged(sizes: Sizes) -> Judged
     ensures { λ r. ⌜ r ≡ writeJudged sizes ⌝ }
 {
-    if too_short(sizes.room, sizes.used) {
+    if card::too_short(sizes.room, sizes.used) {
         return Judged::Refused(Refusal::ShortStaging); // 4
     }
     data_judged(sizes)
@@ -178,7 +171,7 @@ fn write_judged(sizes: Sizes) -> Judged
 fn read_judged(sizes: Sizes) -> Judged
     ensures { λ r. ⌜ r ≡ readJudged sizes ⌝ }
 {
-    if too_short(sizes.room, sizes.count) {
+    if card::too_short(sizes.room, sizes.count) {
         return Judged::Refused(Refusal::ShortOutput); // 5
     }
     Judged::Fit
@@ -188,7 +181,7 @@ fn read_judged(sizes: Sizes) -> Judged
 fn lent_judged(write: bool, sizes: Sizes) -> Judged
     ensures { λ r. ⌜ r ≡ lentJudged write sizes ⌝ }
 {
-    if too_short(sizes.arena, sizes.used) {
+    if card::is_short(sizes.arena, sizes.used) {
         return Judged::Refused(Refusal::ShortArena); // 7
     }
     if write {

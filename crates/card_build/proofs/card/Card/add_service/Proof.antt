@@ -1,14 +1,13 @@
 -- The code asks in the definition's order; an accepted service finds its blocks free, and its depth fits.
 use mathlib.Core.Path.{_≡_, refl, sym, _∙_}
-use Prim.Native.Nat.{_/_}
 use native.Mathlib.Omega.{arith}
-use lib.Dec.{ltb, leb}
+use lib.Dec.{leb}
 use lib.ListN.{length}
 use borrow.Author.Needs.{needs}
 use Rattle.card_admit.specs.declared.Placed.{Placed}
 use Rattle.card_admit.specs.Admit.{placedOf, agreed}
 use Rattle.card_admit.proofs.Counts.{agreed-stored}
-use Rattle.card_build.specs.Card.{nodesOf, isSound}
+use Rattle.card_build.specs.Card.{nodesOf, isSound, isShort}
 use Rattle.card_build.specs.Grow.{aheadOfService}
 use Rattle.card_build.proofs.Accepted.{Fits, service-accepted}
 use Rattle.card_build.proofs.Answers.{grew, Clear, service-clear, service-ahead, service-refused, service-stored, arena-after, arena-kept}
@@ -18,7 +17,7 @@ use Rattle.card_build.proofs.card.Card.add_service.Tie as tie
 -- what is ahead, of the card and the arena
 told : (c : tie.After-ahead) →
     let a = c .before .before .before .before .args in
-    c .ahead .result ≡ aheadOfService (isSound (a .self)) (ltb (length (a .arena .now) / 16) (a .self .used)) (leb 64 (a .self .count))
+    c .ahead .result ≡ aheadOfService (isSound (a .self)) (isShort (length (a .arena .now)) (a .self .used)) (leb 64 (a .self .count))
 told c = c .ahead .ensures ∙ rw (c .before .before .is-sound .ensures, c .before .is-full .ensures)
 
 -- once nothing is, the arena holds the blocks in use, and a record is free

@@ -5,8 +5,8 @@ use native.Mathlib.Decide.{decLt}
 use mathlib.Core.Path.{_≡_}
 use lib.Dec.{ltb}
 use borrow.Author.Tests.{lt-ltb, le-ltb}
-use Rattle.request_plan.proofs.too_short.Statement.{statement}
-use Rattle.request_plan.proofs.too_short.Tie as tie
+use Rattle.card_build.proofs.card.too_short.Statement.{statement}
+use Rattle.card_build.proofs.card.too_short.Tie as tie
 
 -- as many blocks as fit are too few, or the bytes are
 blocks-bytes : (bytes blocks : ℕ) → ltb (bytes / 16) blocks ≡ ltb bytes (16 * blocks)
