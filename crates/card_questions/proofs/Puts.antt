@@ -20,3 +20,8 @@ pub one-put : (f : ℕ → ℕ) (asked first : List ℕ) {i x : ℕ} {cells : Li
 one-put f asked first {i = i} {x = x} h q e =
     let k : i < length (map f asked) = simp length-map h in
     rw q (rw (zero-add i) at (put-next first 0 (map f asked) i x k (e ∙ sym (map-read f asked i h))))
+
+-- one number alone is told as what the function gives of it
+pub one-told : (f : ℕ → ℕ) (n : ℕ) {cells : List ℕ} → cells ≡ put (0 ∷ []) 0 1 (map f (n ∷ [])) → getD cells 0 0 ≡ f n
+unfolding put
+one-told f n e = rw e

@@ -115,18 +115,10 @@ pub fn put_totals(nodes: [Node; 64], count: usize, asked: &[u16], to: &mut [u16]
 fn block_total(nodes: [Node; 64], count: usize, code: u16) -> u16
     ensures { λ r. ⌜ r ≡ totalOf (take count nodes) code ⌝ }
 {
-    let many = count::taken(count);
-    let tags = tags::tags_of(nodes);
-    let depths = table::column_of(nodes, Column::Depth);
-    let seconds = table::column_of(nodes, Column::Second);
-    let blocks = table::column_of(nodes, Column::Blocks);
-    total_in(
-        &tags[0..many],
-        &depths[0..many],
-        &seconds[0..many],
-        &blocks[0..many],
-        code,
-    )
+    let asked = [code; 1];
+    let mut totals = [0u16; 1];
+    put_totals(nodes, count, &asked[0..1], &mut totals[0..1]);
+    totals[0]
 }
 
 // The block total of the node of `code`, or refusal 8.
