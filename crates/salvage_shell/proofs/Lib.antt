@@ -1,3 +1,4 @@
--- What callers cite.
-pub mod Rooms
+-- Rooms, what becomes of a text in them, and what a run has come to.
+mod Rooms
+mod Ends
 mod Runs

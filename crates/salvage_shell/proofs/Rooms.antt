@@ -1,54 +1,19 @@
--- Room for a text and for what is printed of it. Assumes nothing.
-use Prim.Native.Nat.{ℕ, _≤_, _<_}
+-- Room for a text and for what is printed of it, and parts of it as the code lends them. Assumes nothing.
+use Prim.Native.Nat.{ℕ, _-_, _≤_}
 use native.Mathlib.Omega.{arith}
-use native.Mathlib.Decide.{decLt}
-use mathlib.Core.Path.{_≡_, sym, ap, _∙_}
-use mathlib.Core.Bool.{Bool, true, false, false≢true}
-use mathlib.Core.List.{List, []}
-use lib.ListN.{length, replicate, length-replicate}
-use Rattle.answers.specs.declared.refusal.Refusal.{Refusal}
-use Rattle.salvage_walk.proofs.Extents.{extent-first, extent-second, extent-fit}
-use Rattle.salvage_text.specs.declared.Salvaged.{Salvaged}
-use Rattle.salvage_text.specs.declared.Salvaged.the-variants.{Done, Refused}
-use Rattle.salvage_text.specs.Text.{salvagedText, reportedText, salvageAnswer, salvagedBy}
+use mathlib.Core.Path.{_≡_, sym}
+use mathlib.Core.List.{List}
+use lib.ListN.{length, take, drop, replicate, length-replicate}
+use lib.Seq.{length-take-le}
 
 pub of-length : (n v : ℕ) → n ≡ length (replicate n v)
 of-length n v = sym (length-replicate n v)
 
-isDone : Salvaged → Bool
-isDone (Done a b) = true
-isDone (Refused r) = false
+pub lent : (n : ℕ) (l w : List ℕ) → take n l ≡ w → take (n - 0) (drop 0 l) ≡ w
+lent n l w e = let z : n - 0 ≡ n = omega arith in rw z e
 
-imageIn : Salvaged → ℕ
-imageIn (Done a b) = a
-imageIn (Refused r) = 0
-
-reportIn : Salvaged → ℕ
-reportIn (Done a b) = b
-reportIn (Refused r) = 0
-
-done-no : (a b : ℕ) (r : Refusal) → Done a b ≡ Refused r → ⊥
-unfolding isDone
-done-no a b r e = false≢true (sym (ap isDone e))
-
--- What was salvaged lies in its buffers.
-pub done-fits
-    : (r1 r2 : ℕ) (t : List ℕ) (a b : ℕ) → Done a b ≡ salvagedBy r1 r2 t
-    → (a ≤ r1) × (b ≤ r2)
-unfolding imageIn reportIn
-done-fits r1 r2 t a b e =
-    let x : ℕ = length (salvagedText t) in
-    let y : ℕ = length (reportedText t) in
-    elim (decLt r1 x) [
-      | yes h ↦ absurd (done-no a b _ (e ∙ sym (ap salvageAnswer (extent-first r1 r2 x y h))))
-      | no h ↦
-          elim (decLt r2 y) [
-            | yes g ↦ absurd (done-no a b _ (e ∙ sym (ap salvageAnswer (extent-second r1 r2 x y g))))
-            | no g ↦
-                let f = extent-fit r1 r2 x y (omega (arith, h)) (omega (arith, g)) in
-                let q = e ∙ sym (ap salvageAnswer f) in
-                let p : a ≡ x = ap imageIn q in
-                let s : b ≡ y = ap reportIn q in
-                (omega (arith, p, h), omega (arith, s, g))
-          ]
-    ]
+pub lent-most : (n most : ℕ) (l : List ℕ) → n ≤ length l → n ≤ most → length (take (n - 0) (drop 0 l)) ≤ most
+lent-most n most l h g =
+    let z : n - 0 ≡ n = omega arith in
+    let e : length (take n l) ≡ n = length-take-le n l h in
+    rw z (omega (arith, e, g))
