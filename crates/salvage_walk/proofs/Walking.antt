@@ -19,7 +19,9 @@ use Rattle.salvage_print.specs.declared.Spot.the-variants.{Full, At}
 use Rattle.salvage_print.specs.Print.{saidOf, gainOf, spotBy, putIf, spotted}
 use Rattle.salvage_print.proofs.Spots.{full-back, at-back}
 use Rattle.salvage_print.proofs.Turns.{Turn, turn-lf, turn-end, image-turn, report-turn, put-turn, image-none, report-none, put-none}
-use Rattle.salvage_walk.specs.Walk.{imageAt, reportAt}
+use Rattle.salvage_walk.specs.declared.Extent.the-variants.{Short}
+use Rattle.salvage_walk.specs.Walk.{imageAt, reportAt, extentBy, WroteIf}
+use Rattle.salvage_walk.proofs.Extents.{extent-first, extent-second, wrote-short}
 
 -- from a start (image and report due, and the buffers as they were) to a place
 pub record Walking (text due words : List ℕ) (write : Bool) (out₀ : List ℕ) (image : ℕ) (report₀ : List ℕ) (said : ℕ) (s : Between Image) (out report : List ℕ) (at passed made told : ℕ) : Type 0 where
@@ -33,6 +35,38 @@ pub record Walking (text due words : List ℕ) (write : Bool) (out₀ : List ℕ
   pub talk : said + length words ≡ told + length (reportAt text passed s at)
   pub image-due : putIf write out₀ image due ≡ putIf write out made (imageAt text s at)
   pub report-due : putIf write report₀ said words ≡ putIf write report told (reportAt text passed s at)
+
+-- a walk that stops where so much stands in its buffers: there is no room, and nothing was written where it only counts
+abbrev pub Stops : Bool → List ℕ → ℕ → List ℕ → List ℕ → List ℕ → ℕ → List ℕ → List ℕ → Type 0
+Stops write out₀ image due out report₀ said words report =
+    (Short ≡ extentBy (length out₀) (length report₀) (image + length due) (said + length words))
+    × (WroteIf write Short out₀ image due out × WroteIf write Short report₀ said words report)
+
+-- what becomes of a walk at a line of which so many bytes go into image and report: one of them has no room, or it goes on behind the line
+pub record AtLine (text due words : List ℕ) (write : Bool) (out₀ : List ℕ) (image : ℕ) (report₀ : List ℕ) (said : ℕ) (s : Between Image) (out report : List ℕ) (gain word : List ℕ) (next passed made told : ℕ) : Type 0 where
+  pub no-image
+      : (x : Spot) (o : List ℕ) → x ≡ Full → x ≡ spotBy (length out) made (length gain) → o ≡ spotted x write out made gain
+      → Stops write out₀ image due o report₀ said words report
+  pub no-report
+      : (x y : Spot) (o p : List ℕ) → o ≡ spotted x write out made gain → y ≡ Full → y ≡ spotBy (length report) told (length word)
+      → p ≡ spotted y write report told word → Stops write out₀ image due o report₀ said words p
+  pub on
+      : (x y : Spot) (o p : List ℕ) (m n : ℕ) → x ≡ At m → x ≡ spotBy (length out) made (length gain) → o ≡ spotted x write out made gain
+      → y ≡ At n → y ≡ spotBy (length report) told (length word) → p ≡ spotted y write report told word
+      → Walking text due words write out₀ image report₀ said s o p next (passed + 1) m n
+
+-- what a walk that only counts has left as it was
+left-alone : (write : Bool) (out₀ out : List ℕ) (image made : ℕ) (due left : List ℕ) → putIf write out₀ image due ≡ putIf write out made left → write ≡ false → out ≡ out₀
+left-alone false out₀ out image made due left e h = sym e
+left-alone true out₀ out image made due left e h = absurd (false≢true (sym h))
+
+-- and so have the puts of a line
+left-still
+    : (r : Spot) (write : Bool) (out₀ out out′ : List ℕ) (made : ℕ) (t : List ℕ) → (write ≡ false → out ≡ out₀) → out′ ≡ spotted r write out made t
+    → write ≡ false → out′ ≡ out₀
+left-still Full write out₀ out out′ made t e q h = q ∙ e h
+left-still (At x) false out₀ out out′ made t e q h = q ∙ e h
+left-still (At x) true out₀ out out′ made t e q h = absurd (false≢true (sym h))
 
 -- the piece at a place, as the code finds it
 module _ (text : List ℕ) (at end next : ℕ) (h : at < length text) (e : end ≡ at + indexOf 10 (slice at (length text) text)) (f : end ≤ length text)
@@ -98,14 +132,14 @@ module _ (text : List ℕ) (at k n : ℕ) (w : Turn (drop at text) k n) (within 
     report-long = ap length (report-here passed) ∙ length-append word others
 
     -- no room for this line is no room for all
-    pub short-image : Full ≡ spotBy (length out) made (length gain) → length out₀ < image + length due
+    short-image : Full ≡ spotBy (length out) made (length gain) → length out₀ < image + length due
     short-image h = omega (arith, i .size, i .out-long, image-long, full-back (length out) made (length gain) h)
 
-    pub short-report : Full ≡ spotBy (length report) told (length word) → length report₀ < said + length words
+    short-report : Full ≡ spotBy (length report) told (length word) → length report₀ < said + length words
     short-report h = omega (arith, i .talk, i .report-long, report-long, full-back (length report) told (length word) h)
 
     -- the image further by the line's bytes or none, the report by its entry or none
-    pub advance
+    advance
         : (made′ told′ : ℕ) → At made′ ≡ spotBy (length out) made (length gain) → At told′ ≡ spotBy (length report) told (length word)
         → Walking text due words write out₀ image report₀ said s′ (putIf write out made gain) (putIf write report told word) (at + n) (passed + 1) made′ told′
     advance made′ told′ h g =
@@ -130,25 +164,28 @@ module _ (text : List ℕ) (at k n : ℕ) (w : Turn (drop at text) k n) (within 
               ∙ ap (λ (m : ℕ). putIf write (putIf write report told word) m others) (sym (y .0));
         }
 
-    -- the same, as the code has it
-    pub advance-to
-        : (out′ report′ : List ℕ) (next made′ told′ : ℕ) → At made′ ≡ spotBy (length out) made (length gain) → At told′ ≡ spotBy (length report) told (length word)
-        → out′ ≡ putIf write out made gain → report′ ≡ putIf write report told word → at + n ≡ next
-        → Walking text due words write out₀ image report₀ said s′ out′ report′ next (passed + 1) made′ told′
-    advance-to out′ report′ next made′ told′ h g p q m = rw (p, q, ← m) (advance made′ told′ h g)
-
--- what a walk that only counts has left as it was
-pub left-alone : (write : Bool) (out₀ out : List ℕ) (image made : ℕ) (due left : List ℕ) → putIf write out₀ image due ≡ putIf write out made left → write ≡ false → out ≡ out₀
-left-alone false out₀ out image made due left e h = sym e
-left-alone true out₀ out image made due left e h = absurd (false≢true (sym h))
-
--- and so have the puts of a line
-pub left-still
-    : (r : Spot) (write : Bool) (out₀ out out′ : List ℕ) (made : ℕ) (t : List ℕ) → (write ≡ false → out ≡ out₀) → out′ ≡ spotted r write out made t
-    → write ≡ false → out′ ≡ out₀
-left-still Full write out₀ out out′ made t e q h = q ∙ e h
-left-still (At x) false out₀ out out′ made t e q h = q ∙ e h
-left-still (At x) true out₀ out out′ made t e q h = absurd (false≢true (sym h))
+    -- the three ways on, as the code has them
+    pub at-line : (next : ℕ) → at + n ≡ next → AtLine text due words write out₀ image report₀ said s′ out report gain word next passed made told
+    at-line next e =
+        let still = left-alone write out₀ out image made due (imageAt text s at) (i .image-due) in
+        let quiet = left-alone write report₀ report said told words (reportAt text passed s at) (i .report-due) in
+        record {
+          no-image = λ x o h f g. (
+            extent-first (length out₀) (length report₀) (image + length due) (said + length words) (short-image (sym h ∙ f)),
+            (wrote-short write out₀ o due image (left-still x write out₀ out o made gain still g), wrote-short write report₀ report words said quiet),
+          );
+          no-report = λ x y o p g h f d. (
+            extent-second (length out₀) (length report₀) (image + length due) (said + length words) (short-report (sym h ∙ f)),
+            (
+              wrote-short write out₀ o due image (left-still x write out₀ out o made gain still g),
+              wrote-short write report₀ p words said (left-still y write report₀ report p told word quiet d),
+            ),
+          );
+          on = λ x y o p m n h f g k l d.
+            let u : o ≡ putIf write out made gain = g ∙ ap (λ (z : Spot). spotted z write out made gain) h in
+            let v : p ≡ putIf write report told word = d ∙ ap (λ (z : Spot). spotted z write report told word) k in
+            rw (u, v, ← e) (advance m n (sym h ∙ f) (sym k ∙ l));
+        }
 
 -- behind the last line nothing is left
 module _ (text due words : List ℕ) (write : Bool) (out₀ : List ℕ) (image : ℕ) (report₀ : List ℕ) (said : ℕ) (s : Between Image) (out report : List ℕ) (at passed made told : ℕ)

@@ -8,12 +8,11 @@ use lib.ListN.{length, take, drop}
 use borrow.Author.Needs.{needs}
 use Rattle.salvage_rule.specs.Salvage.{Between, fresh}
 use Rattle.salvage_line.specs.Image.{Image, imaged, heldOf}
-use Rattle.salvage_print.specs.declared.Spot.{Spot}
-use Rattle.salvage_print.specs.Print.{saidOf, gainOf, spotted}
+use Rattle.salvage_print.specs.Print.{saidOf, gainOf}
 use Rattle.salvage_print.proofs.Turns.{Turn}
 use Rattle.salvage_walk.specs.Walk.{imageAt, reportAt}
-use Rattle.salvage_walk.proofs.Extents.{extent-first, extent-second, extent-fit, wrote-short, wrote-fit}
-use Rattle.salvage_walk.proofs.Walking.{Walking, turn-at, short-image, short-report, advance-to, left-alone, left-still, finished, begun}
+use Rattle.salvage_walk.proofs.Extents.{extent-fit, wrote-fit}
+use Rattle.salvage_walk.proofs.Walking.{Walking, AtLine, turn-at, at-line, finished, begun}
 use Rattle.salvage_walk.proofs.walk.Statement.{statement}
 use Rattle.salvage_walk.proofs.walk.Tie as tie
 
@@ -39,6 +38,30 @@ turn-of b =
     let l = d .before .before in
     let a = l .before .before .before .before .before .args in
     turn-at (now (a .text)) (l .loop .at) (d .find .result) (b .behind .result) (d .before .loop-test .taken) (d .find .ensures .0) (d .find .ensures .1) (b .behind .ensures)
+
+-- the line that the code has judged
+line-of
+    : (v : tie.After-salvage-line Inv-loop μ-loop)
+    → let b = v .before .before .before in
+    let l = b .before .before .before in
+    let a = l .before .before .before .before .before .args in
+    let w = v .salvage-line in
+    let z = fresh (imaged (a .card) (now (a .arena))) in
+    AtLine (now (a .text)) (imageAt (now (a .text)) z (a .from)) (reportAt (now (a .text)) (a .lines) z (a .from)) (a .write)
+    (now (a .out)) (a .image) (now (a .report)) (a .said) (heldOf (w .result .card) (w .last .1 .1 .0) (w .result .rules)) (l .loop .out) (l .loop .report)
+    (gainOf (w .result .fate) (take (b .behind .result - l .loop .at) (drop (l .loop .at) (now (a .text))))) (saidOf (l .loop .passed + 1) (w .result .fate))
+    (b .behind .result) (l .loop .passed) (l .loop .made) (l .loop .told)
+line-of v =
+    let b = v .before .before .before in
+    let l = b .before .before .before in
+    let a = l .before .before .before .before .before .args in
+    let t = turn-of b in
+    let w = v .salvage-line in
+    let z = fresh (imaged (a .card) (now (a .arena))) in
+    at-line (now (a .text)) (l .loop .at) (b .before .find .result - l .loop .at) (b .behind .result - l .loop .at) (t .0) (omega (arith, t .1, t .2)) (omega (arith, t .1))
+    (heldOf (l .loop .built) (l .loop .arena) (l .loop .rules)) (heldOf (w .result .card) (w .last .1 .1 .0) (w .result .rules)) (w .result .fate) (w .ensures .0) (w .ensures .1)
+    (a .write) (imageAt (now (a .text)) z (a .from)) (reportAt (now (a .text)) (a .lines) z (a .from)) (now (a .out)) (now (a .report))
+    (l .loop .out) (l .loop .report) (a .image) (a .said) (l .loop .passed) (l .loop .made) (l .loop .told) (l .loop .inv .0) (b .behind .result) (omega (arith, t .1))
 
 loop-holds : tie.Need-loop-holds Inv-loop μ-loop
 loop-holds c =
@@ -97,33 +120,7 @@ same-length-3 c = c .before .before .before .before .before .before .before .bef
 returns : tie.Need-returns Inv-loop μ-loop
 returns c =
     let k = c .before .before .before .before .keep in
-    let v = c .before .before .before .before .before .before .before .before .before in
-    let b = v .before .before .before in
-    let l = b .before .before .before in
-    let a = l .before .before .before .before .before .args in
-    let t = turn-of b in
-    let i = l .loop .inv .0 in
-    let n = b .behind .result - l .loop .at in
-    let w = v .salvage-line in
-    let p : Between Image = heldOf (l .loop .built) (l .loop .arena) (l .loop .rules) in
-    let z : Between Image = fresh (imaged (a .card) (now (a .arena))) in
-    let d : List ℕ = imageAt (now (a .text)) z (a .from) in
-    let u : List ℕ = reportAt (now (a .text)) (a .lines) z (a .from) in
-    let g : List ℕ = gainOf (w .result .fate) (take n (drop (l .loop .at) (now (a .text)))) in
-    let q : List ℕ = saidOf (l .loop .passed + 1) (w .result .fate) in (
-      extent-first (length (now (a .out))) (length (now (a .report))) (a .image + length d) (a .said + length u)
-          (short-image (now (a .text)) (l .loop .at) (b .before .find .result - l .loop .at) n (t .0) (omega (arith, t .1, t .2)) (omega (arith, t .1)) p
-          (heldOf (w .result .card) (w .last .1 .1 .0) (w .result .rules)) (w .result .fate) (w .ensures .0) (w .ensures .1) (a .write) d u (now (a .out)) (now (a .report))
-          (l .loop .out) (l .loop .report) (a .image) (a .said) (l .loop .passed) (l .loop .made) (l .loop .told) i
-          (sym (c .enum-told .given .1) ∙ k .ensures .0)),
-      (
-        wrote-short (a .write) (now (a .out)) (k .last .1 .1 .1 .0) d (a .image)
-            (left-still (k .result) (a .write) (now (a .out)) (l .loop .out) (k .last .1 .1 .1 .0) (l .loop .made) g
-            (left-alone (a .write) (now (a .out)) (l .loop .out) (a .image) (l .loop .made) d (imageAt (now (a .text)) p (l .loop .at)) (i .image-due)) (k .ensures .1)),
-        wrote-short (a .write) (now (a .report)) (l .loop .report) u (a .said)
-            (left-alone (a .write) (now (a .report)) (l .loop .report) (a .said) (l .loop .told) u (reportAt (now (a .text)) (l .loop .passed) p (l .loop .at)) (i .report-due)),
-      ),
-    )
+    line-of (c .before .before .before .before .before .before .before .before .before) .no-image (k .result) (k .last .1 .1 .1 .0) (c .enum-told .given .1) (k .ensures .0) (k .ensures .1)
 
 add-tell : tie.Need-add-tell Inv-loop μ-loop
 add-tell c = let l = c .before .before .before .before .before .before .before .before .before .before .before .before .before .before .before .before in omega (arith, l .loop .inv .0 .counted, c .before .before .before .before .before .before .before .before .before .before .before .before .before .before .before .loop-test .taken, l .before .before .before .before .before .good)
@@ -150,34 +147,8 @@ returns-2 : tie.Need-returns-2 Inv-loop μ-loop
 returns-2 c =
     let k = c .before .before .before .before .before .before .before .before .before .before .before .keep in
     let m = c .before .before .before .before .tell in
-    let v = c .before .before .before .before .before .before .before .before .before .before .before .before .before .before .before .before in
-    let b = v .before .before .before in
-    let l = b .before .before .before in
-    let a = l .before .before .before .before .before .args in
-    let t = turn-of b in
-    let i = l .loop .inv .0 in
-    let n = b .behind .result - l .loop .at in
-    let w = v .salvage-line in
-    let p : Between Image = heldOf (l .loop .built) (l .loop .arena) (l .loop .rules) in
-    let z : Between Image = fresh (imaged (a .card) (now (a .arena))) in
-    let d : List ℕ = imageAt (now (a .text)) z (a .from) in
-    let u : List ℕ = reportAt (now (a .text)) (a .lines) z (a .from) in
-    let g : List ℕ = gainOf (w .result .fate) (take n (drop (l .loop .at) (now (a .text)))) in
-    let q : List ℕ = saidOf (l .loop .passed + 1) (w .result .fate) in (
-      extent-second (length (now (a .out))) (length (now (a .report))) (a .image + length d) (a .said + length u)
-          (short-report (now (a .text)) (l .loop .at) (b .before .find .result - l .loop .at) n (t .0) (omega (arith, t .1, t .2)) (omega (arith, t .1)) p
-          (heldOf (w .result .card) (w .last .1 .1 .0) (w .result .rules)) (w .result .fate) (w .ensures .0) (w .ensures .1) (a .write) d u (now (a .out)) (now (a .report))
-          (l .loop .out) (l .loop .report) (a .image) (a .said) (l .loop .passed) (l .loop .made) (l .loop .told) i
-          (sym (c .enum-told2 .given .1) ∙ m .ensures .0)),
-      (
-        wrote-short (a .write) (now (a .out)) (k .last .1 .1 .1 .0) d (a .image)
-            (left-still (k .result) (a .write) (now (a .out)) (l .loop .out) (k .last .1 .1 .1 .0) (l .loop .made) g
-            (left-alone (a .write) (now (a .out)) (l .loop .out) (a .image) (l .loop .made) d (imageAt (now (a .text)) p (l .loop .at)) (i .image-due)) (k .ensures .1)),
-        wrote-short (a .write) (now (a .report)) (m .last .1 .1 .1 .0) u (a .said)
-            (left-still (m .result) (a .write) (now (a .report)) (l .loop .report) (m .last .1 .1 .1 .0) (l .loop .told) q
-            (left-alone (a .write) (now (a .report)) (l .loop .report) (a .said) (l .loop .told) u (reportAt (now (a .text)) (l .loop .passed) p (l .loop .at)) (i .report-due)) (m .ensures .1)),
-      ),
-    )
+    line-of (c .before .before .before .before .before .before .before .before .before .before .before .before .before .before .before .before)
+    .no-report (k .result) (m .result) (k .last .1 .1 .1 .0) (m .last .1 .1 .1 .0) (k .ensures .1) (c .enum-told2 .given .1) (m .ensures .0) (m .ensures .1)
 
 add-passed : tie.Need-add-passed Inv-loop μ-loop
 add-passed c = let l = c .before .before .before .before .before .before .before .before .before .before .before .before .before .before .before .before .before .before .before .before .before .before .before .before .before in omega (arith, l .loop .inv .0 .counted, c .before .before .before .before .before .before .before .before .before .before .before .before .before .before .before .before .before .before .before .before .before .before .before .before .loop-test .taken, l .before .before .before .before .before .good)
@@ -191,28 +162,9 @@ loop-again c =
     let m = c .before .before .before .before .before .before .before .tell in
     let x = c .before .before .before .before .before .before .before .before .before .before .kept .given in
     let y = c .before .before .before .noted .given in
-    let v = c .before .before .before .before .before .before .before .before .before .before .before .before .before .before .before .before .before .before .before in
-    let b = v .before .before .before in
-    let l = b .before .before .before in
-    let a = l .before .before .before .before .before .args in
-    let t = turn-of b in
-    let i = l .loop .inv .0 in
-    let n = b .behind .result - l .loop .at in
-    let w = v .salvage-line in
-    let p : Between Image = heldOf (l .loop .built) (l .loop .arena) (l .loop .rules) in
-    let z : Between Image = fresh (imaged (a .card) (now (a .arena))) in
-    let d : List ℕ = imageAt (now (a .text)) z (a .from) in
-    let u : List ℕ = reportAt (now (a .text)) (a .lines) z (a .from) in
-    let g : List ℕ = gainOf (w .result .fate) (take n (drop (l .loop .at) (now (a .text)))) in
-    let q : List ℕ = saidOf (l .loop .passed + 1) (w .result .fate) in
-    let e : l .loop .at + n ≡ b .behind .result = omega (arith, t .1) in (
-      advance-to (now (a .text)) (l .loop .at) (b .before .find .result - l .loop .at) n (t .0) (omega (arith, t .1, t .2)) (omega (arith, t .1)) p
-          (heldOf (w .result .card) (w .last .1 .1 .0) (w .result .rules)) (w .result .fate) (w .ensures .0) (w .ensures .1) (a .write) d u (now (a .out)) (now (a .report))
-          (l .loop .out) (l .loop .report) (a .image) (a .said) (l .loop .passed) (l .loop .made) (l .loop .told) i
-          (k .last .1 .1 .1 .0) (m .last .1 .1 .1 .0) (b .behind .result) (x .0 .0) (y .0 .0) (sym (x .1) ∙ k .ensures .0) (sym (y .1) ∙ m .ensures .0)
-          (k .ensures .1 ∙ ap (λ (r : Spot). spotted r (a .write) (l .loop .out) (l .loop .made) g) (x .1))
-          (m .ensures .1 ∙ ap (λ (r : Spot). spotted r (a .write) (l .loop .report) (l .loop .told) q) (y .1)) e,
-      w .kept .1 .1 .0 ∙ l .loop .inv .1,
+    let v = c .before .before .before .before .before .before .before .before .before .before .before .before .before .before .before .before .before .before .before in (
+      line-of v .on (k .result) (m .result) (k .last .1 .1 .1 .0) (m .last .1 .1 .1 .0) (x .0 .0) (y .0 .0) (x .1) (k .ensures .0) (k .ensures .1) (y .1) (m .ensures .0) (m .ensures .1),
+      v .salvage-line .kept .1 .1 .0 ∙ v .before .before .before .before .before .before .loop .inv .1,
     )
 
 same-length-7 : tie.Need-same-length-7 Inv-loop μ-loop
