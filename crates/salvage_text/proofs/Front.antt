@@ -7,7 +7,7 @@ use mathlib.Core.Path.{_≡_, refl, sym, ap, _∙_}
 use mathlib.Core.Bool.{Bool, true, false, cond, false≢true}
 use mathlib.Core.List.{List, [], _∷_, _++_, append-nil}
 use lib.Dec.{ltb}
-use lib.ListN.{length, take, drop, length-append, replicate, length-replicate, drop-of-length-le}
+use lib.ListN.{length, take, drop, length-append, length-take, replicate, length-replicate, drop-of-length-le}
 use lib.Seq.{take-all}
 use Rattle.bytes.specs.Bytes.{indexOf, slice}
 use Rattle.byte_parts.specs.Part.{put, sameBytes}
@@ -144,7 +144,7 @@ module _ (c : Card) (a l : List ℕ) (start : imaged c a ≡ noImage) (x : Added
       )
 
 -- an empty line is no first line
-pub done-some : (c : Card) (a l : List ℕ) → imageStep true c a l .added .answer ≡ Done → 1 ≤ length l
+done-some : (c : Card) (a l : List ℕ) → imageStep true c a l .added .answer ≡ Done → 1 ≤ length l
 unfolding imageStep imageLine firstLine split joins form named sameBytes
 done-some c a [] h = absurd (no-refusal h)
   where
@@ -155,6 +155,13 @@ done-some c a [] h = absurd (no-refusal h)
         isDone Done = true
         isDone (Refused r) = false
 done-some c a (y ∷ l) h = omega arith
+
+-- as the code lends it
+pub first-some
+    : (c : Card) (a t : List ℕ) (k : ℕ) (x : Added) → x ≡ imageStep true c a (take (k - 0) (drop 0 t)) .added → x .answer ≡ Done → 1 ≤ k
+first-some c a t k x e h =
+    let d = done-some c a (take (k - 0) (drop 0 t)) (sym (ap (λ (y : Added). y .answer) e) ∙ h) in
+    omega (arith, simp length-take at d)
 
 -- the added line, whether there are lines or not
 module _ (t : List ℕ) (end next : ℕ) (e : end ≡ 0 + indexOf 10 (slice 0 (length t) t)) (f : end ≤ length t)
@@ -197,6 +204,12 @@ pub same-extent
     : (r : Extent) (o o′ p p′ : List ℕ) (a b : ℕ) → o′ ≡ o → p′ ≡ p → r ≡ extentBy (length o′) (length p′) a b → r ≡ extentBy (length o) (length p) a b
 same-extent r o o′ p p′ a b e f h =
     h ∙ ap (λ (l : List ℕ). extentBy (length l) (length p′) a b) e ∙ ap (λ (l : List ℕ). extentBy (length o) (length l) a b) f
+
+-- and finds room where the first did
+pub same-fits
+    : (r q : Extent) (o o′ p p′ : List ℕ) (a b x y : ℕ) → o′ ≡ o → p′ ≡ p → r ≡ extentBy (length o′) (length p′) a b
+    → q ≡ extentBy (length o) (length p) a b → q ≡ Fits x y → r ≡ Fits x y
+same-fits r q o o′ p p′ a b x y e f h g k = same-extent r o o′ p p′ a b e f h ∙ sym g ∙ k
 
 pub landed-short : (r : Extent) (o o′ due : List ℕ) → r ≡ Short → o′ ≡ o → o′ ≡ landedBy r o due
 unfolding isShort

@@ -1,15 +1,18 @@
 -- A whole text salvaged: its image and its report as bytes, and what a caller's buffers hold after it. Assumes nothing.
 use Prim.Native.Nat.{ℕ}
-use mathlib.Core.List.{List}
+use mathlib.Core.Path.{_≡_}
+use mathlib.Core.Bool.{Bool}
+use mathlib.Core.List.{List, _++_}
 use lib.ListN.{length}
 use Rattle.answers.specs.declared.refusal.Refusal.the-variants.{OutputTooShort}
 use Rattle.byte_parts.specs.Part.{put}
-use Rattle.salvage_rule.specs.Salvage.{salvageOf, reportOf}
-use Rattle.salvage_line.specs.Image.{imageBuilder, addedLine, noImage}
+use Rattle.card_build.specs.declared.card.Card.{Card}
+use Rattle.salvage_rule.specs.Salvage.{fresh, salvageOf, reportOf}
+use Rattle.salvage_line.specs.Image.{imaged, imageBuilder, addedLine, noImage}
 use Rattle.salvage_print.specs.Print.{reportText}
 use Rattle.salvage_walk.specs.declared.Extent.{Extent}
 use Rattle.salvage_walk.specs.declared.Extent.the-variants.{Fits, Short}
-use Rattle.salvage_walk.specs.Walk.{extentBy}
+use Rattle.salvage_walk.specs.Walk.{imageAt, reportAt, extentBy, WroteIf}
 use Rattle.salvage_text.specs.declared.Salvaged.{Salvaged}
 use Rattle.salvage_text.specs.declared.Salvaged.the-variants.{Done, Refused}
 
@@ -21,6 +24,29 @@ salvagedText t = salvageOf imageBuilder addedLine noImage t
 -- RULES 20.7
 unfoldable pub reportedText : List ℕ → List ℕ
 reportedText t = reportText (reportOf imageBuilder addedLine noImage t)
+
+-- what is due in two buffers
+pub record Due : Type 0 where
+  pub image : List ℕ
+  pub report : List ℕ
+
+-- of a whole text
+abbrev pub dueWhole : List ℕ → Due
+dueWhole t = record { image = salvagedText t; report = reportedText t }
+
+-- of the lines from a place on, where so many are passed: behind what stands first in each
+abbrev pub dueBehind : List ℕ → List ℕ → Card → List ℕ → List ℕ → ℕ → ℕ → Due
+dueBehind head words card arena t lines from =
+    record {
+      image = head ++ imageAt t (fresh (imaged card arena)) from;
+      report = words ++ reportAt t lines (fresh (imaged card arena)) from;
+    }
+
+-- a pass: both lengths, if there is room for both, and both buffers after it
+abbrev pub Passed : Bool → Extent → Due → List ℕ → List ℕ → List ℕ → List ℕ → Type 0
+Passed write r due out report out′ report′ =
+    (r ≡ extentBy (length out) (length report) (length (due .image)) (length (due .report)))
+    × (WroteIf write r out 0 (due .image) out′ × WroteIf write r report 0 (due .report) report′)
 
 -- the lengths of both, if so much room holds them
 abbrev pub extentOf : ℕ → ℕ → List ℕ → Extent

@@ -7,14 +7,10 @@ use card_build::card::Card;
 use card_build::card::System;
 use salvage_print::Spot;
 use salvage_walk::Extent;
-ghost use Prim.Native.Nat.{_+_, _≤_};
+ghost use Prim.Native.Nat.{_≤_};
 ghost use mathlib.Core.Path.{_≡_};
-ghost use mathlib.Core.List.{_++_};
 ghost use lib.ListN.{length};
-ghost use Rattle.salvage_rule.specs.Salvage.{fresh};
-ghost use Rattle.salvage_line.specs.Image.{imaged};
-ghost use Rattle.salvage_walk.specs.Walk.{imageAt, reportAt, extentBy, WroteIf};
-ghost use Rattle.salvage_text.specs.Text.{salvagedText, reportedText, salvagedBy, salvageAnswer, landedBy, imageAfter, reportAfter};
+ghost use Rattle.salvage_text.specs.Text.{salvagedText, reportedText, dueWhole, dueBehind, Passed, extentOf, salvagedBy, salvageAnswer, landedBy, imageAfter, reportAfter};
 
 // The lengths of an image and of its report, or why there is none.
 pub enum Salvaged {
@@ -36,9 +32,7 @@ fn pass_behind(
     write: bool,
 ) -> Extent
     requires { ⌜ (from ≤ length (now text)) × (lines ≤ from) ⌝ }
-    ensures { λ r. ⌜ r ≡ extentBy (length (now (out .entry))) (length (now (report .entry))) (length (now (head .entry) ++ imageAt (now (text .entry)) (fresh (imaged card (now (arena .entry)))) from)) (length (now (words .entry) ++ reportAt (now (text .entry)) lines (fresh (imaged card (now (arena .entry)))) from)) ⌝ }
-    ensures { λ r. ⌜ WroteIf write r (now (out .entry)) 0 (now (head .entry) ++ imageAt (now (text .entry)) (fresh (imaged card (now (arena .entry)))) from) (now (out .exit)) ⌝ }
-    ensures { λ r. ⌜ WroteIf write r (now (report .entry)) 0 (now (words .entry) ++ reportAt (now (text .entry)) lines (fresh (imaged card (now (arena .entry)))) from) (now (report .exit)) ⌝ }
+    ensures { λ r. ⌜ Passed write r (dueBehind (now (head .entry)) (now (words .entry)) card (now (arena .entry)) (now (text .entry)) lines from) (now (out .entry)) (now (report .entry)) (now (out .exit)) (now (report .exit)) ⌝ }
 {
     let Spot::At(image) = salvage_print::put(write, out, 0, head) else {
         return Extent::Short;
@@ -63,9 +57,7 @@ fn pass_behind(
 // One pass over a whole text: counts image and report, and writes them if asked to.
 fn pass(arena: &mut [u8], text: &[u8], out: &mut [u8], report: &mut [u8], write: bool) -> Extent
     requires { ⌜ length (now arena) ≡ 65536 ⌝ }
-    ensures { λ r. ⌜ r ≡ extentBy (length (now (out .entry))) (length (now (report .entry))) (length (salvagedText (now (text .entry)))) (length (reportedText (now (text .entry)))) ⌝ }
-    ensures { λ r. ⌜ WroteIf write r (now (out .entry)) 0 (salvagedText (now (text .entry))) (now (out .exit)) ⌝ }
-    ensures { λ r. ⌜ WroteIf write r (now (report .entry)) 0 (reportedText (now (text .entry))) (now (report .exit)) ⌝ }
+    ensures { λ r. ⌜ Passed write r (dueWhole (now (text .entry))) (now (out .entry)) (now (report .entry)) (now (out .exit)) (now (report .exit)) ⌝ }
 {
     spans::zero(arena, 0, 65536);
     let blank = Card::new(System {
@@ -126,7 +118,7 @@ fn answer_of(extent: Extent) -> Salvaged
 // Two passes, in an arena that is lent: one that counts, and one that writes where there is room for all.
 fn passes(arena: &mut [u8], text: &[u8], out: &mut [u8], report: &mut [u8]) -> Extent
     requires { ⌜ length (now arena) ≡ 65536 ⌝ }
-    ensures { λ r. ⌜ r ≡ extentBy (length (now (out .entry))) (length (now (report .entry))) (length (salvagedText (now (text .entry)))) (length (reportedText (now (text .entry)))) ⌝ }
+    ensures { λ r. ⌜ r ≡ extentOf (length (now (out .entry))) (length (now (report .entry))) (now (text .entry)) ⌝ }
     ensures { λ r. ⌜ now (out .exit) ≡ landedBy r (now (out .entry)) (salvagedText (now (text .entry))) ⌝ }
     ensures { λ r. ⌜ now (report .exit) ≡ landedBy r (now (report .entry)) (reportedText (now (text .entry))) ⌝ }
 {

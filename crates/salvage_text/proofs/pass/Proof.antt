@@ -3,12 +3,11 @@ use Prim.Native.Nat.{_-_, _≤_}
 use native.Mathlib.Omega.{arith}
 use mathlib.Core.Path.{_≡_, sym, ap, _∙_}
 use denote.Ref.{now}
-use lib.ListN.{take, drop, length-take}
+use lib.ListN.{take, drop}
 use Rattle.card_build.specs.declared.card.Card.{Card}
-use Rattle.card_build.specs.declared.card.Added.{Added}
 use Rattle.answers.specs.declared.refusal.Answer.the-variants.{Done}
 use Rattle.salvage_line.specs.Image.{Image, imaged, noImage}
-use Rattle.salvage_text.proofs.Front.{zeroed, judged-done, judged-refused, done-some, turn-first, within-behind, image-first-as, words-first, image-all}
+use Rattle.salvage_text.proofs.Front.{zeroed, judged-done, judged-refused, first-some, turn-first, within-behind, image-first-as, words-first, image-all}
 use borrow.Author.Needs.{needs}
 use Rattle.salvage_text.proofs.pass.Statement.{statement}
 use Rattle.salvage_text.proofs.pass.Tie as tie
@@ -24,9 +23,8 @@ start-of i =
 some-of : (i : tie.After-image-line) → i .image-line .result .answer ≡ Done → 1 ≤ i .before .before .before .before .find .result
 some-of i h =
     let s = i .before .before .before .before .before .before .before .before .before .before .before .before .before .before in
-    let e = done-some (i .before .before .before .before .before .new .result) (i .before .before .before .before .before .before .before .before .zero .last .0) (take (i .before .before .before .before .find .result - 0) (drop 0 (now (s .args .text))))
-    (sym (ap (λ (x : Added). x .answer) (i .image-line .ensures .0)) ∙ h) in
-    omega (arith, simp length-take at e)
+    first-some (i .before .before .before .before .before .new .result) (i .before .before .before .before .before .before .before .before .zero .last .0)
+    (now (s .args .text)) (i .before .before .before .before .find .result) (i .image-line .result) (i .image-line .ensures .0) h
 
 part-pass-behind-end : tie.Need-part-pass-behind-end
 part-pass-behind-end c =

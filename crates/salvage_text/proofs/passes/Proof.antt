@@ -1,11 +1,10 @@
 -- Where the pass that counts finds room, the one that writes does too. Assumes nothing.
 use Prim.Native.Nat.{ℕ}
-use mathlib.Core.Path.{sym, _∙_}
 use mathlib.Core.List.{List}
 use denote.Ref.{now}
 use lib.ListN.{length}
 use Rattle.salvage_text.specs.Text.{salvagedText, reportedText}
-use Rattle.salvage_text.proofs.Front.{landed, landed-short, same-extent}
+use Rattle.salvage_text.proofs.Front.{landed, landed-short, same-extent, same-fits}
 use borrow.Author.Needs.{needs}
 use Rattle.salvage_text.proofs.passes.Statement.{statement}
 use Rattle.salvage_text.proofs.passes.Tie as tie
@@ -37,8 +36,10 @@ returns-2 c =
     let w′ : List ℕ = p .pass .last .1 .1 .1 .0 in
     let h = q .before .before .before .before .enum-told2 .given .1 in
     let f = q .pass2 .ensures in
-    let z = same-extent (q .pass2 .result) o o′ w w′ (length (salvagedText t)) (length (reportedText t)) (e .1 .0) (e .1 .1) (f .0) in
-    let k = z ∙ sym (e .0) ∙ h in (
+    let m = length (salvagedText t) in
+    let n = length (reportedText t) in
+    let z = same-extent (q .pass2 .result) o o′ w w′ m n (e .1 .0) (e .1 .1) (f .0) in
+    let k = same-fits (q .pass2 .result) (p .pass .result) o o′ w w′ m n _ _ (e .1 .0) (e .1 .1) (f .0) (e .0) h in (
       z,
       (
         landed (q .pass2 .result) _ _ o o′ (q .pass2 .last .1 .1 .0) (salvagedText t) k (e .1 .0) (f .1 .0),
