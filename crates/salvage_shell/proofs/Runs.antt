@@ -10,7 +10,8 @@ use lib.ListN.{length, take, drop}
 use lib.Seq.{length-take-le}
 use borrow.Author.Tests.{eqb-true, eqb-false, lt-ltb, le-ltb}
 use Rattle.text_pull.specs.declared.Flow.{Flow}
-use Rattle.text_pull.specs.Pull.{isLine, isEnd, closedOf, dueOf, wroteOf, Wrote, Flushed, Slurped}
+use Rattle.text_pull.specs.Pull.{isLine, isEnd, closedOf, dueOf, wroteOf, gaveUp, Wrote, Flushed, Slurped}
+use Rattle.text_pull.proofs.Writes.{write-start, write-done}
 use Rattle.salvage_shell.specs.Ran.{mostSalvaged, salvagePrints, Salvages}
 
 -- After the end a write is due.
@@ -18,7 +19,7 @@ closed-due : (f : Flow) (image room most : ℕ) → dueOf (closedOf f image) roo
 unfolding dueOf
 closed-due f image room most = refl
 
-pub closed-wrote
+closed-wrote
     : {most room : ℕ} {h g : Flow} (f : Flow) (image : ℕ) → h ≡ closedOf f image → Flushed most room h g → Wrote (closedOf f image) g
 closed-wrote {most} {room} {h} {g} f image q w =
     let v : Flushed most room (closedOf f image) g = rw q at w in
@@ -32,28 +33,8 @@ words-wrote f image words e q w = rw e at (closed-wrote f (length image) q w)
 
 -- Where nothing is to be written, nothing has to be.
 nothing-wrote : (f : Flow) → Wrote (closedOf f 0) (closedOf f 0)
-unfolding wroteOf
-nothing-wrote f =
-    let z : f .written ≡ f .written + 0 = omega arith in
-    record {
-      turns = f .turns;
-      taken = 0;
-      error = false;
-      spent = omega arith;
-      called = λ k. absurd (omega arith);
-      most = omega arith;
-      flow = λ i. record {
-        turns = f .turns;
-        len = f .len;
-        filled = f .filled;
-        at = f .at;
-        whole = f .whole;
-        made = 0;
-        stage = 4;
-        read = f .read;
-        written = z i;
-      };
-    }
+unfolding gaveUp
+nothing-wrote f = write-done (closedOf f 0) (closedOf f 0) (write-start (closedOf f 0)) (closedOf f 0) refl
 
 pub none-wrote : (f g : Flow) (words : List ℕ) → words ≡ [] → g ≡ closedOf f 0 → Wrote (closedOf f (length words)) g
 none-wrote f g words e q = rw (e, q) (nothing-wrote f)

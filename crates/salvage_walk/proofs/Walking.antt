@@ -182,9 +182,9 @@ module _ (text : List ℕ) (at k n : ℕ) (w : Turn (drop at text) k n) (within 
             ),
           );
           on = λ x y o p m n h f g k l d.
-            let u : o ≡ putIf write out made gain = g ∙ ap (λ (z : Spot). spotted z write out made gain) h in
-            let v : p ≡ putIf write report told word = d ∙ ap (λ (z : Spot). spotted z write report told word) k in
-            rw (u, v, ← e) (advance m n (sym h ∙ f) (sym k ∙ l));
+              let u : o ≡ putIf write out made gain = g ∙ ap (λ (z : Spot). spotted z write out made gain) h in
+              let v : p ≡ putIf write report told word = d ∙ ap (λ (z : Spot). spotted z write report told word) k in
+              rw (u, v, ← e) (advance m n (sym h ∙ f) (sym k ∙ l));
         }
 
 -- behind the last line nothing is left
