@@ -2,10 +2,9 @@
 use crate::outcome;
 use answers::refusal::Answer;
 use answers::refusal::Refusal;
-use byte_parts::sizes::BLOCK_SIZE;
 use byte_parts::spans;
 use handset_bytes::decoding;
-use request_check::table;
+use request_block::Located;
 ghost use mathlib.Core.Path.{_≡_};
 ghost use lib.ListN.{length};
 ghost use Rattle.request_block.specs.Block.{blockJudged};
@@ -67,12 +66,10 @@ pub extern "C" fn uluvoli_stored_block(
     ensures { λ _. ⌜ now (offset .exit) ≡ blockPlaceAfter (now (offset .entry)) (cardDecoded (now (card .entry))) (length (now (arena .entry))) code number ⌝ }
 {
     let own = decoding::decode(card);
-    match request_block::judge_block(own, arena.len(), code, number) {
-        Answer::Refused(refusal) => outcome::refused(refusal),
-        Answer::Done => {
-            let nodes = own.nodes;
-            let found = table::row_of(nodes, own.count, code);
-            *offset = BLOCK_SIZE * (found.start as usize + number as usize);
+    match request_block::find_block(own, arena.len(), code, number) {
+        Located::Refused(refusal) => outcome::refused(refusal),
+        Located::At(at) => {
+            *offset = at;
             0
         }
     }

@@ -30,6 +30,7 @@ use Rattle.request_runs.proofs.run.apply as request_runs·apply
 use Rattle.request_plan.proofs.Reply.response as request_plan·Reply·response
 use Rattle.request_plan.proofs.Reply.cause as request_plan·Reply·cause
 use Rattle.request_plan.proofs.judge as request_plan·judge
+use Rattle.request_block.proofs.find_block as request_block·find-block
 use Rattle.request_block.proofs.judge_block as request_block·judge-block
 use Rattle.request_block.proofs.set_block as request_block·set-block
 use Rattle.request_block.proofs.stored_block as request_block·stored-block
@@ -78,6 +79,9 @@ module _ {M : Type 1} (𝓤 : URA M) (H : Heap 𝓤) (A : Atoms 𝓤) (mem : Mem
 
   pub request_plan·judge-once : OneAnswer 𝓤 request_plan·judge.ended (request_plan·judge.clauses 𝓤 H A mem run)
   request_plan·judge-once κs a g r r′ ws ws′ = result 𝓤 refl
+
+  pub request_block·find-block-once : OneAnswer 𝓤 request_block·find-block.ended (request_block·find-block.clauses 𝓤 H A mem run)
+  request_block·find-block-once κs a g r r′ ws ws′ = result 𝓤 refl
 
   pub request_block·judge-block-once : OneAnswer 𝓤 request_block·judge-block.ended (request_block·judge-block.clauses 𝓤 H A mem run)
   request_block·judge-block-once κs a g r r′ ws ws′ = result 𝓤 refl

@@ -1,5 +1,5 @@
--- What `blockJudged` is in each of its cases, and where a block lies.
-use mathlib.Core.Path.{_≡_, _∙_}
+-- What `blockLocated` is in each of its cases, and what that says of the block.
+use mathlib.Core.Path.{_≡_, refl, sym, _∙_}
 use mathlib.Core.Bool.{true, false, not}
 use mathlib.Core.List.{List, []}
 use Prim.Native.Nat.{ℕ, _+_, _-_, _*_, _≤_, _<_}
@@ -9,36 +9,39 @@ use borrow.Author.Tests.{le-leb, lt-leb, ltb-false, leb-false, not-false}
 use Rattle.answers.specs.declared.refusal.Refusal.{Refusal}
 use Rattle.answers.specs.declared.refusal.Refusal.the-variants.{ShortArena, NoSuchBlock, NotBuilt}
 use Rattle.byte_parts.specs.Part.{part, put}
+use Rattle.answers.specs.declared.refusal.Answer.{Answer}
 use Rattle.answers.specs.declared.refusal.Answer.the-variants.{Done, Refused}
 use Rattle.card_build.specs.declared.card.Card.{Card}
 use Rattle.card_build.specs.Card.{nodesOf, isSound, isShort}
 use Rattle.request_check.specs.declared.table.Row.{Row}
 use Rattle.request_check.specs.Row.{rowOf}
-use Rattle.request_block.specs.Block.{blockPlace, lacksBlock, blockJudged, storedBlock, arenaSet}
+use Rattle.request_block.specs.declared.Located.{Located}
+use Rattle.request_block.specs.declared.Located.the-variants.{At, Refused as NotLocated}
+use Rattle.request_block.specs.Block.{blockPlace, lacksBlock, blockJudged, locatedBy, blockLocated, storedBlock, arenaSet}
 use Rattle.request_plan.proofs.Tests.{passed-over}
 use Rattle.request_plan.proofs.Ready.{row-within, sound-laid}
 
 module _ (c : Card) (arenaLen code number : ℕ) where
   -- a card that was not built
-  pub not-built : isSound c ≡ false → Refused NotBuilt ≡ blockJudged c arenaLen code number
-  unfolding blockJudged
+  pub not-built : isSound c ≡ false → NotLocated NotBuilt ≡ blockLocated c arenaLen code number
+  unfolding blockLocated blockJudged
   not-built s = rw s
 
   module _ (s : isSound c ≡ true) where
     -- too short an arena
-    pub short-arena : isShort arenaLen (c .used) ≡ true → Refused ShortArena ≡ blockJudged c arenaLen code number
-    unfolding blockJudged
+    pub short-arena : isShort arenaLen (c .used) ≡ true → NotLocated ShortArena ≡ blockLocated c arenaLen code number
+    unfolding blockLocated blockJudged
     short-arena h = rw (s, h)
 
     module _ {w : Row} (a : isShort arenaLen (c .used) ≡ false) (r : w ≡ rowOf (nodesOf c) code) where
       -- a block that is there
-      pub there : number < w .blocks → Done ≡ blockJudged c arenaLen code number
-      unfolding blockJudged
+      pub there : number < w .blocks → At (16 * (w .start + number)) ≡ blockLocated c arenaLen code number
+      unfolding blockLocated blockJudged
       there h = rw (s, a, ← r, lt-leb (w .blocks) number h)
 
       -- one that is not
-      pub not-there : w .blocks ≤ number → Refused NoSuchBlock ≡ blockJudged c arenaLen code number
-      unfolding blockJudged
+      pub not-there : w .blocks ≤ number → NotLocated NoSuchBlock ≡ blockLocated c arenaLen code number
+      unfolding blockLocated blockJudged
       not-there h = rw (s, a, ← r, le-leb (w .blocks) number h)
 
 -- a refusal is not done
@@ -57,6 +60,28 @@ block-inside c arenaLen code number h e =
     let l = ltb-false arenaLen (16 * c .used) (a .0) in
     let w = row-within (sound-laid c h (not-false (isSound c) (s .0))) code in
     omega arith
+
+-- an answer that has a place is that the block is there, and that is the place
+by-answer : (place : ℕ) (a : Answer) {at : ℕ} → locatedBy place a ≡ At at → (a ≡ Done) × (at ≡ place)
+by-answer place Done e = (refl, cc)
+by-answer place (Refused r) e = absurd (let z : _≡_ {A = ℕ} 0 1 = cc in omega arith)
+
+-- and one that has none is its refusal
+by-refusal : (place : ℕ) (a : Answer) {r : Refusal} → locatedBy place a ≡ NotLocated r → a ≡ Refused r
+by-refusal place Done e = absurd (let z : _≡_ {A = ℕ} 0 1 = cc in omega arith)
+by-refusal place (Refused q) e = cc
+
+module _ (c : Card) (arenaLen code number : ℕ) {l : Located} (told : l ≡ blockLocated c arenaLen code number) where
+  -- a block that was found is there, and lies there
+  pub found-there : {at : ℕ} → l ≡ At at →
+      (blockJudged c arenaLen code number ≡ Done) × (at ≡ blockPlace (rowOf (nodesOf c) code) number)
+  unfolding blockLocated
+  found-there e = by-answer (blockPlace (rowOf (nodesOf c) code) number) (blockJudged c arenaLen code number) (sym told ∙ e)
+
+  -- one that was not is refused
+  pub found-refused : {r : Refusal} → l ≡ NotLocated r → blockJudged c arenaLen code number ≡ Refused r
+  unfolding blockLocated
+  found-refused e = by-refusal (blockPlace (rowOf (nodesOf c) code) number) (blockJudged c arenaLen code number) (sym told ∙ e)
 
 module _ (c : Card) (a : List ℕ) (code number : ℕ) where
   -- none
@@ -81,20 +106,19 @@ module _ (c : Card) (a : List ℕ) (code number : ℕ) where
   unfolding arenaSet
   set-there block e = rw e
 
-module _ (c : Card) (a : List ℕ) (code number : ℕ) {w : Row} (r : w ≡ rowOf (nodesOf c) code)
-    (e : blockJudged c (length a) code number ≡ Done) where
+module _ (c : Card) (a : List ℕ) (code number : ℕ) {at : ℕ} (e : blockJudged c (length a) code number ≡ Done)
+    (p : at ≡ blockPlace (rowOf (nodesOf c) code) number) where
   -- the place that is found lies in the arena
-  pub place-inside : length (c .nodes) ≡ 64 → 16 * (w .start + number) + 16 ≤ length a
-  place-inside h = rw r (block-inside c (length a) code number h e)
+  pub place-inside : length (c .nodes) ≡ 64 → at + 16 ≤ length a
+  place-inside h = rw p (block-inside c (length a) code number h e)
 
   -- the part that is lent is the block
-  pub lent-block : take (16 * (w .start + number) + 16 - 16 * (w .start + number)) (drop (16 * (w .start + number)) a)
-      ≡ storedBlock c a code number
+  pub lent-block : take (at + 16 - at) (drop at a) ≡ storedBlock c a code number
   unfolding part
   lent-block =
-      let k : 16 * (w .start + number) + 16 - 16 * (w .start + number) ≡ 16 = omega arith in
-      rw (k, stored-there c a code number e, r)
+      let k : at + 16 - at ≡ 16 = omega arith in
+      rw (k, stored-there c a code number e, p)
 
   -- the arena with the block put
-  pub block-put : (block : List ℕ) {new : List ℕ} → new ≡ put a (16 * (w .start + number)) 16 block → new ≡ arenaSet c a code number block
-  block-put block k = k ∙ rw (set-there c a code number block e, r)
+  pub block-put : (block : List ℕ) {new : List ℕ} → new ≡ put a at 16 block → new ≡ arenaSet c a code number block
+  block-put block k = k ∙ rw (set-there c a code number block e, p)

@@ -1,1 +1,1 @@
-mod Blocks
+pub mod Blocks

@@ -13,6 +13,8 @@ use Rattle.card_build.specs.declared.card.Card.{Card}
 use Rattle.card_build.specs.Card.{nodesOf, isSound, isShort}
 use Rattle.request_check.specs.declared.table.Row.{Row}
 use Rattle.request_check.specs.Row.{rowOf}
+use Rattle.request_block.specs.declared.Located.{Located}
+use Rattle.request_block.specs.declared.Located.the-variants.{At, Refused as NotLocated}
 
 -- where a row's block lies in the arena
 abbrev pub blockPlace : Row → ℕ → ℕ
@@ -30,6 +32,15 @@ blockJudged c arenaLen code number =
     (cond (isShort arenaLen (c .used)) (Refused ShortArena)
     (cond (lacksBlock (rowOf (nodesOf c) code) number) (Refused NoSuchBlock)
     Done))
+
+-- where a block lies that is there
+abbrev pub locatedBy : ℕ → Answer → Located
+locatedBy place Done = At place
+locatedBy place (Refused r) = NotLocated r
+
+-- the place of a service's block in the arena, or its refusal
+unfoldable pub blockLocated : Card → ℕ → ℕ → ℕ → Located
+blockLocated c arenaLen code number = locatedBy (blockPlace (rowOf (nodesOf c) code) number) (blockJudged c arenaLen code number)
 
 -- the block's bytes, once it is judged
 abbrev pub blockBy : Card → List ℕ → ℕ → ℕ → Answer → List ℕ

@@ -1,12 +1,11 @@
 -- None, or the part of the arena where the block lies.
-use mathlib.Core.Path.{_≡_, sym, _∙_}
+use mathlib.Core.Path.{_≡_, sym}
+use Prim.Native.Nat.{_+_, _≤_}
 use native.Mathlib.Omega.{arith}
 use lib.ListN.{length, length-map}
 use denote.Ref.{now}
 use borrow.Author.Needs.{needs}
-use Rattle.answers.specs.declared.refusal.Answer.the-variants.{Done}
-use Rattle.request_block.specs.Block.{blockJudged}
-use Rattle.request_block.proofs.Blocks.{stored-none, place-inside, lent-block}
+use Rattle.request_block.proofs.Blocks.{found-there, found-refused, stored-none, place-inside, lent-block}
 use Rattle.request_block.proofs.stored_block.Statement.{statement}
 use Rattle.request_block.proofs.stored_block.Tie as tie
 
@@ -14,24 +13,23 @@ use Rattle.request_block.proofs.stored_block.Tie as tie
 records : (c : tie.Start) → length (c .args .card .nodes) ≡ 64
 records c = simp length-map at (c .good .0 .1 .1 .0 .1 .0 .1)
 
--- the block is there
-there : (c : tie.After-enum-told2) → let a = c .before .before .before .before .args in
-    blockJudged (a .card) (length (now (a .arena))) (a .code) (a .number) ≡ Done
-there c = sym (c .before .before .judge-block .ensures) ∙ c .enum-told2 .given .1
-
--- it lies in the arena
-inside : tie.Need-part-result-end-2
+-- the block lies in the arena
+inside : (c : tie.After-at) → c .at .given .0 .0 + 16 ≤ length (now (c .before .before .before .before .args .arena))
 inside c =
-    let s = c .before .before .before .before .before .before .before in
+    let f = c .before .before in
+    let (t, p) = found-there _ _ _ _ (f .find-block .ensures) (c .at .given .1) in
+    let s = f .before .before in
     let a = s .args in
-    let t = there (c .before .before .before) in
-    omega (arith, place-inside (a .card) (now (a .arena)) (a .code) (a .number) (c .before .row-of .ensures) t (records s))
+    place-inside (a .card) (now (a .arena)) (a .code) (a .number) t p (records s)
 
 returns : tie.Need-returns
-returns c = sym (stored-none _ _ _ _ (sym (c .before .before .before .judge-block .ensures) ∙ c .before .enum-told .given .1))
+returns c = sym (stored-none _ _ _ _ (found-refused _ _ _ _ (c .before .before .before .find-block .ensures) (c .before .enum-told .given .1)))
 
 returns-2 : tie.Need-returns-2
-returns-2 c = lent-block _ _ _ _ (c .before .before .row-of .ensures) (there (c .before .before .before .before))
+returns-2 c =
+    let a = c .before .before in
+    let (t, p) = found-there _ _ _ _ (a .before .before .find-block .ensures) (a .at .given .1) in
+    lent-block _ _ _ _ t p
 
 pub stored-block-spec : {M : Type 1} → statement M
 stored-block-spec =
@@ -43,13 +41,9 @@ stored-block-spec =
     (λ c. search needs)
     (λ c. search needs)
     (λ c. search needs)
-    (λ c κs. search needs)
+    (λ c. omega (arith, inside (c .before)))
     (λ c. search needs)
     (λ c. search needs)
-    (λ c. search needs)
-    (λ c. search needs)
-    (λ c. search needs)
-    (λ c. search needs)
-    inside
+    (λ c. omega (arith, inside (c .before)))
     returns
     returns-2)
