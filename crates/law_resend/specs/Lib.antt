@@ -1,2 +1,1 @@
 pub mod Resend
-pub mod Calls

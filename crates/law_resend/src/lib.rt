@@ -1,1 +1,1 @@
-// A write that is sent again at once: what is proved of whole requests, of `write`, of the library's, and of `W` lines: no code.
+// A write that is sent again at once: what is proved of whole requests. No code.

@@ -20,7 +20,7 @@ use Rattle.law_lines.specs.Lines.{Taken, heldAfter}
 use Rattle.law_lines.proofs.Lines.{taken-first, taken-requests, after-phase}
 use Rattle.law_board.specs.Redraw.{requestIn}
 use Rattle.law_board.proofs.Redraw.{lines-leave, line-leaves}
-use Rattle.law_resend.proofs.Calls.{answered}
+use Rattle.law_resent.proofs.Calls.{answered}
 use Rattle.law_texts.specs.Lines.{textAs, TwoLines, WrittenAgain}
 use Rattle.law_texts.proofs.States.{printedBy, onwards, left, next, steps, answers-are, after-is, told-are, taken-all, taken-append, both-count}
 

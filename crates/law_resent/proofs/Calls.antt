@@ -30,9 +30,9 @@ use Rattle.law_calls.specs.Lines.{LineCall, requestBy, lineRequest, lineLeft}
 use Rattle.law_calls.proofs.Own.{ownLeft, same-reply}
 use Rattle.law_calls.proofs.Library.{decoded-long, zero-asked, write-zero}
 use Rattle.law_calls.proofs.Lines.{told-done, done-told}
 use Rattle.law_resend.specs.Resend.{PursesOnce, RingsOnce, AcceptedWrite, Idle, IdleThen, Enough, lending}
-use Rattle.law_resend.specs.Calls.{SeenWrite, NoneSeen, ResentBy, LineResent}
+use Rattle.law_resent.specs.Calls.{SeenWrite, NoneSeen, ResentBy, LineResent}
 use Rattle.law_resend.proofs.Resend.{resent}
 
 -- a write reads nothing
 unread : (c : Card) (a : List ℕ) (w : Request) → w .write ≡ true → serve c a w .read ≡ []
