@@ -1,71 +1,73 @@
 -- The loop over a card's records: what it knows on its way.
 use mathlib.Core.Path.{_≡_, refl, sym, ap, _∙_}
-use mathlib.Core.List.{List, [], _∷_, _++_, append-assoc, append-nil}
-use Prim.Native.Nat.{ℕ, _+_, _-_, _≤_, _<_}
+use mathlib.Core.List.{List, [], _∷_, _++_}
+use Prim.Native.Nat.{ℕ, _+_, _-_, _≤_, _<_, min}
 use native.Mathlib.Numerals.{add-one}
 use native.Mathlib.Omega.{arith}
-use lib.ListN.{length, getD, take, drop, length-append}
-use lib.Seq.{take-all, take-at, take-suc, length-take-le, sets-eq}
+use lib.ListN.{length, getD, take, drop, length-take, drop-of-length-le}
+use lib.Seq.{drop-cons, getD-take}
 use borrow.Author.Tests.{eq-eqb, ne-eqb}
-use Rattle.byte_parts.specs.Part.{put}
-use Rattle.byte_parts.proofs.Part.{length-put, put-lent}
 use Rattle.card_nodes.specs.declared.node.Node.{Node}
 use Rattle.card_build.specs.declared.card.Card.{Card}
-use Rattle.byte_parts.specs.Half.{halfBytes}
-use Rattle.handset_bytes.specs.Layout.{headSize, recordSize, cardSize}
-use Rattle.handset_bytes.specs.Node.{nodeBytes}
-use Rattle.handset_bytes.specs.Card.{headBytes, nodesBytes, cardBytes, cardPut}
-use Rattle.handset_bytes.proofs.Long.{node-long, at}
+use Rattle.card_build.specs.Card.{nodesOf}
+use Rattle.handset_bytes.specs.Layout.{cardSize}
+use Rattle.handset_bytes.specs.Field.{fieldsPut}
+use Rattle.handset_bytes.specs.Node.{nodeFields}
+use Rattle.handset_bytes.specs.Card.{headFields, nodesFields, cardFields, zeroBytes, cardBytes, cardPut}
+use Rattle.handset_bytes.proofs.Puts.{put-more, fields-long}
 
--- one node more
-nodes-more : (ns : List Node) (n : Node) → nodesBytes (ns ++ (n ∷ [])) ≡ nodesBytes ns ++ nodeBytes n
-unfolding nodesBytes
-nodes-more [] n = append-nil (nodeBytes n)
-nodes-more (m ∷ ns) n = ap (λ (l : List ℕ). nodeBytes m ++ l) (nodes-more ns n) ∙ sym (append-assoc (nodeBytes m) (nodesBytes ns) (nodeBytes n))
-
--- after i records that were written: they and the header stand in front
-pub record Writing (old : List ℕ) (nodes : List Node) (s : List ℕ) (i : ℕ) : Type 0 where
-  pub most : i ≤ 64
+-- after i of n records that were written: what is left to write gives the whole
+pub record Writing (c : Card) (old s : List ℕ) (n i : ℕ) : Type 0 where
+  pub most : i ≤ n
+  pub few : n ≤ 64
+  pub taken : length (nodesOf c) ≡ n
+  pub below : n ≤ c .count
   pub long : length s ≡ cardSize
-  pub same : take (at i) s ≡ take headSize old ++ nodesBytes (take i nodes)
+  pub same : fieldsPut (nodesFields 0 (nodesOf c)) old ≡ fieldsPut (nodesFields i (drop i (nodesOf c))) s
 
 -- before the first
-pub started : (s : List ℕ) (nodes : List Node) → length s ≡ cardSize → Writing s nodes s 0
-unfolding nodesBytes
-started s nodes h = record { most = omega arith; long = h; same = sym (append-nil (take headSize s)) }
+pub started : (c : Card) (s : List ℕ) (n : ℕ) → length (c .nodes) ≡ 64 → n ≡ min (c .count) 64 → length s ≡ cardSize → Writing c s s n 0
+started c s n l e h =
+    let long : length (nodesOf c) ≡ n = simp length-take (rw (l, e)) in
+    record { most = omega arith; few = omega arith; taken = long; below = omega arith; long = h; same = refl }
 
-module _ {old : List ℕ} {nodes : List Node} {s : List ℕ} {i : ℕ} (k : Writing old nodes s i) where
-  -- one more, to the bytes that were lent
-  pub wrote : (z : Node) (own : List ℕ) → i < 64 → length nodes ≡ 64 → own ≡ nodeBytes (getD nodes i z) →
-      Writing old nodes (take (at i) s ++ (own ++ drop (at i + recordSize - at i) (drop (at i) s))) (i + 1)
-  wrote z own h l e =
-      let n = getD nodes i z in
-      let front = take (at i) s in
-      let rest = drop (at i + recordSize - at i) (drop (at i) s) in
-      let twenty : length own ≡ recordSize = rw e (node-long n) in
-      let before : length front ≡ at i = length-take-le (at i) s (omega (arith, k .long)) in
-      let so : length (front ++ own) ≡ at (i + 1) = simp length-append (omega arith) in
-      let taken : take i nodes ++ (n ∷ []) ≡ take (i + 1) nodes = rw add-one (sym (take-suc nodes i z (omega arith))) in
-      let bytes : nodesBytes (take i nodes) ++ own ≡ nodesBytes (take (i + 1) nodes) = rw (e, ← nodes-more (take i nodes) n, taken) in
+-- a record more
+first : (i : ℕ) (n : Node) (ns : List Node) (s : List ℕ) → fieldsPut (nodesFields i (n ∷ ns)) s ≡ fieldsPut (nodesFields (i + 1) ns) (fieldsPut (nodeFields i n) s)
+unfolding nodesFields
+first i n ns s = put-more (nodeFields i n) (nodesFields (i + 1) ns) s
+
+-- and none
+none-left : (i : ℕ) (ns : List Node) (s : List ℕ) → length ns ≤ i → fieldsPut (nodesFields i (drop i ns)) s ≡ s
+unfolding nodesFields fieldsPut
+none-left i ns s h = rw (drop-of-length-le ns h)
+
+module _ {c : Card} {old s : List ℕ} {n i : ℕ} (k : Writing c old s n i) where
+  -- one more was written
+  pub wrote : (z : Node) {t : List ℕ} → i < n → t ≡ fieldsPut (nodeFields i (getD (c .nodes) i z)) s → Writing c old t n (i + 1)
+  wrote z {t = t} h e =
+      let ns = nodesOf c in
+      let here : drop i ns ≡ getD ns i z ∷ drop (i + 1) ns = rw add-one (drop-cons ns i z (omega (arith, k .taken))) in
+      let own : getD ns i z ≡ getD (c .nodes) i z = getD-take (c .count) (c .nodes) i z (omega (arith, k .below)) in
       record {
         most = omega arith;
-        long = ap length (put-lent s (at i) recordSize own (omega (arith, k .long)) twenty) ∙ length-put s (at i) recordSize own ∙ k .long;
+        few = k .few;
+        taken = k .taken;
+        below = k .below;
+        long = ap length e ∙ (fields-long (nodeFields i (getD (c .nodes) i z)) s ∙ k .long);
         same =
-            ap (take (at (i + 1))) (sym (append-assoc front own rest)) ∙ take-at (front ++ own) rest (at (i + 1)) so
-            ∙ (rw (k .same) (append-assoc (take headSize old) (nodesBytes (take i nodes)) own) ∙ ap (λ (l : List ℕ). take headSize old ++ l) bytes);
+            k .same ∙ (ap (λ (l : List Node). fieldsPut (nodesFields i l) s) here ∙ (first i (getD ns i z) (drop (i + 1) ns) s
+            ∙ rw (own, ← e)));
       }
 
   -- all were written
-  pub written : (first : List ℕ) (c : Card) → 64 ≤ i → length first ≡ cardSize → length (c .nodes) ≡ 64 → nodes ≡ c .nodes →
-      old ≡ put first 0 headSize (headBytes (c .count) (c .used) (c .system)) → s ≡ cardPut c first
-  unfolding put halfBytes cardPut cardBytes
-  written first c h l m e o =
-      let i64 : i ≡ 64 = omega (arith, k .most) in
-      let vs = headBytes (c .count) (c .used) (c .system) in
-      let head : take headSize old ≡ vs = rw (o, sets-eq vs first 0 (omega arith)) (take-at vs (drop headSize first) headSize refl) in
-      let nodes64 : take i nodes ≡ c .nodes = rw (e, i64) (take-all 64 (c .nodes) (omega arith)) in
-      let all : take (at i) s ≡ s = take-all (at i) s (omega (arith, k .long)) in
-      rw (eq-eqb (length first) cardSize l) (sym all ∙ k .same ∙ rw (head, nodes64))
+  pub written : (first : List ℕ) → n ≤ i → length first ≡ cardSize → old ≡ fieldsPut (headFields c) (zeroBytes (length first)) → s ≡ cardPut c first
+  unfolding cardPut cardBytes cardFields
+  written first h l o =
+      let ns = nodesOf c in
+      let done = k .same ∙ none-left i ns s (omega (arith, k .taken)) in
+      let head : old ≡ fieldsPut (headFields c) (zeroBytes cardSize) = o ∙ ap (λ (m : ℕ). fieldsPut (headFields c) (zeroBytes m)) l in
+      rw (eq-eqb (length first) cardSize l)
+      (sym done ∙ (ap (fieldsPut (nodesFields 0 ns)) head ∙ sym (put-more (headFields c) (nodesFields 0 ns) (zeroBytes cardSize))))
 
 -- bytes of another length stay
 pub stays : (c : Card) (s : List ℕ) → (length s ≡ cardSize → ⊥) → s ≡ cardPut c s

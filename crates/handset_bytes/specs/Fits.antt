@@ -1,8 +1,8 @@
--- The cards whose numbers their fields hold, and lists of bytes.
-use Prim.Native.Nat.{ℕ, _<_, _^_}
+-- The cards that bytes hold: their numbers fit the fields, and records past the count are unused.
+use Prim.Native.Nat.{ℕ, _-_, _≤_, _<_, _^_}
 use mathlib.Core.Path.{_≡_}
 use mathlib.Core.List.{List}
-use lib.ListN.{length, getD}
+use lib.ListN.{length, getD, drop, replicate}
 use lib.Signed.{mag}
 use Rattle.service_code.specs.declared.limit.Limit.{Limit}
 use Rattle.service_code.specs.declared.limit.Limit.the-variants.{Unlimited, Limited}
@@ -34,6 +34,7 @@ pub record SystemFits (s : System) : Type 0 where
 pub record Fits (c : Card) : Type 0 where
   pub nodes : (i : ℕ) → NodeFits (getD (c .nodes) i rootNode)
   pub records : length (c .nodes) ≡ 64
-  pub count : c .count < 2 ^ 16
+  pub count : c .count ≤ 64
+  pub unused : drop (c .count) (c .nodes) ≡ replicate (64 - c .count) rootNode
   pub used : c .used < 2 ^ 16
   pub system : SystemFits (c .system)

@@ -2,14 +2,15 @@
 use crate::layout;
 use crate::node;
 use byte_parts::half;
+use byte_parts::spans;
 use card_build::card::Card;
+use card_nodes::count;
 ghost use mathlib.Core.Path.{_≡_};
-ghost use Prim.Native.Nat.{_≤_};
 ghost use lib.ListN.{length};
 ghost use Rattle.byte_parts.specs.Values.{flagOf};
-ghost use Rattle.byte_parts.specs.Part.{put};
-ghost use Rattle.handset_bytes.specs.Layout.{headSize};
-ghost use Rattle.handset_bytes.specs.Card.{headBytes, cardPut};
+ghost use Rattle.handset_bytes.specs.Layout.{cardSize};
+ghost use Rattle.handset_bytes.specs.Field.{fieldsPut};
+ghost use Rattle.handset_bytes.specs.Card.{headFields, zeroBytes, cardPut};
 
 // Yes or no as a number.
 fn flag(yes: bool) -> usize
@@ -18,30 +19,39 @@ fn flag(yes: bool) -> usize
     if yes { 1 } else { 0 }
 }
 
-// Writes the header of `card`: count, blocks in use, system code, key version, whether it joins.
-fn write_head(card: Card, bytes: &mut [u8])
-    requires { ⌜ headSize ≤ length (now bytes) ⌝ }
-    ensures { λ _. ⌜ now (bytes .exit) ≡ put (now (bytes .entry)) 0 headSize (headBytes (card .count) (card .used) (card .system)) ⌝ }
+// Makes all bytes 0.
+fn clear(bytes: &mut [u8])
+    ensures { λ _. ⌜ now (bytes .exit) ≡ zeroBytes (length (now (bytes .entry))) ⌝ }
 {
-    half::put_half(bytes, 0, card.count);
-    half::put_half(bytes, 2, card.used);
-    half::put_half(bytes, 4, card.system.code as usize);
-    half::put_half(bytes, 6, card.system.version as usize);
-    half::put_half(bytes, 8, flag(card.system.join));
+    spans::zero(bytes, 0, bytes.len());
 }
 
-// Writes `card` to its bytes. Bytes of another length than a card's stay as they were.
+// Writes the header of `card`: count, blocks in use, system code, key version, whether it joins, and the layout's number.
+fn write_head(card: Card, bytes: &mut [u8])
+    requires { ⌜ length (now bytes) ≡ cardSize ⌝ }
+    ensures { λ _. ⌜ now (bytes .exit) ≡ fieldsPut (headFields card) (now (bytes .entry)) ⌝ }
+{
+    half::put_half(bytes, layout::COUNT, card.count);
+    half::put_half(bytes, layout::USED, card.used);
+    half::put_half(bytes, layout::SYSTEM, card.system.code as usize);
+    half::put_half(bytes, layout::KEY, card.system.version as usize);
+    half::put_half(bytes, layout::FLAGS, flag(card.system.join));
+    half::put_half(bytes, layout::LAYOUT, layout::NUMBER as usize);
+}
+
+// Writes `card` to its bytes; those that are no part of it become 0. Bytes of another length than a card's stay as they were.
 pub fn encode(card: Card, bytes: &mut [u8])
     ensures { λ _. ⌜ now (bytes .exit) ≡ cardPut card (now (bytes .entry)) ⌝ }
 {
     if bytes.len() != layout::SIZE {
         return;
     }
+    clear(bytes);
     write_head(card, bytes);
+    let taken = count::taken(card.count);
     let mut i = 0;
-    while i < 64 {
-        let at = layout::HEADER + layout::RECORD * i;
-        node::write(card.nodes[i], &mut bytes[at..at + layout::RECORD]);
+    while i < taken {
+        node::write(card.nodes[i], bytes, i);
         i += 1;
     }
 }

@@ -1,83 +1,68 @@
-// A node and the bytes of its record: what they read as, and how they are written.
+// A node and the bytes of its record in those of a card: what they read as, and how they are written.
+use crate::layout;
 use byte_parts::half;
-use byte_parts::spans;
 use byte_parts::word;
 use card_nodes::node::Entry;
 use card_nodes::node::Node;
 use service_code::limit::Limit;
 ghost use mathlib.Core.Path.{_≡_};
+ghost use Prim.Native.Nat.{_<_};
 ghost use lib.ListN.{length};
-ghost use Rattle.byte_parts.specs.Part.{put};
 ghost use Rattle.byte_parts.specs.Word.{wordOf};
-ghost use Rattle.handset_bytes.specs.Layout.{recordSize};
-ghost use Rattle.handset_bytes.specs.Node.{isRecord, limitIn, entryIn, nodeIn, kindByte, limitBytes, entryBytes, nodeBytes};
+ghost use Rattle.handset_bytes.specs.Layout.{cardSize};
+ghost use Rattle.handset_bytes.specs.Field.{fieldsPut};
+ghost use Rattle.handset_bytes.specs.Node.{isRecord, limitIn, entryIn, nodeIn, kindByte, limitFields, entryFields, nodeFields};
 
-// Whether the record `r` is a node's: a kind that there is, and zeros where that kind has no field.
-pub(crate) fn is_record(r: &[u8]) -> bool
-    requires { ⌜ length (now r) ≡ recordSize ⌝ }
-    ensures { λ x. ⌜ x ≡ isRecord (now (r .entry)) ⌝ }
+// Whether record i of `bytes` is of a kind that there is.
+pub(crate) fn is_record(bytes: &[u8], i: usize) -> bool
+    requires { ⌜ (length (now bytes) ≡ cardSize) × (i < 64) ⌝ }
+    ensures { λ x. ⌜ x ≡ isRecord (now (bytes .entry)) i ⌝ }
 {
-    let kind = r[0];
-    if kind == 2 {
-        return r[11] == 0;
-    }
-    if 2 < kind {
-        return false;
-    }
-    if word::word(r, 12) != 0 {
-        return false;
-    }
-    if word::word(r, 16) != 0 {
-        return false;
-    }
-    if kind == 1 {
-        return half::half(r, 10) == 0;
-    }
-    word::word(r, 8) == 0
+    bytes[layout::KIND + layout::HALF * i] <= 2
 }
 
-// Reads the limit of a service's record `r`.
-fn read_limit(r: &[u8]) -> Limit
-    requires { ⌜ length (now r) ≡ recordSize ⌝ }
-    ensures { λ x. ⌜ x ≡ limitIn (now (r .entry)) ⌝ }
+// Reads the limit of a service, record i.
+fn read_limit(bytes: &[u8], i: usize) -> Limit
+    requires { ⌜ (length (now bytes) ≡ cardSize) × (i < 64) ⌝ }
+    ensures { λ x. ⌜ x ≡ limitIn (now (bytes .entry)) i ⌝ }
 {
-    if r[0] != 2 {
+    if bytes[layout::KIND + layout::HALF * i] != 2 {
         return Limit::Unlimited;
     }
     Limit::Limited {
-        upper: word::signed32(word::word(r, 12)),
-        lower: word::signed32(word::word(r, 16)),
-        generation: r[10],
+        upper: word::signed32(word::word(bytes, layout::UPPER + layout::WORD * i)),
+        lower: word::signed32(word::word(bytes, layout::LOWER + layout::WORD * i)),
+        generation: bytes[layout::GENERATION + i],
     }
 }
 
-// Reads the entry of the record `r`: what only an area has, or only a service.
-fn read_entry(r: &[u8]) -> Entry
-    requires { ⌜ length (now r) ≡ recordSize ⌝ }
-    ensures { λ x. ⌜ x ≡ entryIn (now (r .entry)) ⌝ }
+// Reads the entry of record i: what only an area has, or only a service.
+fn read_entry(bytes: &[u8], i: usize) -> Entry
+    requires { ⌜ (length (now bytes) ≡ cardSize) × (i < 64) ⌝ }
+    ensures { λ x. ⌜ x ≡ entryIn (now (bytes .entry)) i ⌝ }
 {
-    if r[0] == 0 {
+    if bytes[layout::KIND + layout::HALF * i] == 0 {
         return Entry::Area {
-            end: half::half(r, 6),
+            end: half::half(bytes, layout::START + layout::HALF * i),
         };
     }
     Entry::Service {
-        start: half::half(r, 6),
-        blocks: half::half(r, 8),
-        limit: read_limit(r),
+        start: half::half(bytes, layout::START + layout::HALF * i),
+        blocks: half::half(bytes, layout::BLOCKS + layout::HALF * i),
+        limit: read_limit(bytes, i),
     }
 }
 
-// Reads the record `r`.
-pub(crate) fn read(r: &[u8]) -> Node
-    requires { ⌜ length (now r) ≡ recordSize ⌝ }
-    ensures { λ x. ⌜ x ≡ nodeIn (now (r .entry)) ⌝ }
+// Reads record i.
+pub(crate) fn read(bytes: &[u8], i: usize) -> Node
+    requires { ⌜ (length (now bytes) ≡ cardSize) × (i < 64) ⌝ }
+    ensures { λ x. ⌜ x ≡ nodeIn (now (bytes .entry)) i ⌝ }
 {
     Node {
-        depth: r[1],
-        code: half::half(r, 2),
-        version: half::half(r, 4),
-        entry: read_entry(r),
+        depth: bytes[layout::DEPTH + layout::HALF * i],
+        code: half::half(bytes, layout::CODE + layout::HALF * i),
+        version: half::half(bytes, layout::VERSION + layout::HALF * i),
+        entry: read_entry(bytes, i),
     }
 }
 
@@ -109,59 +94,59 @@ fn bits(bound: i32) -> u32
     word::unsigned(bound as i64)
 }
 
-// Writes `limit` to bytes 10 to 19 of the record `r`.
-fn write_limit(limit: Limit, r: &mut [u8])
-    requires { ⌜ length (now r) ≡ recordSize ⌝ }
-    ensures { λ _. ⌜ now (r .exit) ≡ put (now (r .entry)) 10 10 (limitBytes limit) ⌝ }
+// Writes the fields of `limit` to record i.
+fn write_limit(limit: Limit, bytes: &mut [u8], i: usize)
+    requires { ⌜ (length (now bytes) ≡ cardSize) × (i < 64) ⌝ }
+    ensures { λ _. ⌜ now (bytes .exit) ≡ fieldsPut (limitFields i limit) (now (bytes .entry)) ⌝ }
 {
     match limit {
-        Limit::Unlimited => {
-            spans::zero(r, 10, 10);
-        }
+        Limit::Unlimited => {}
         Limit::Limited {
             upper,
             lower,
             generation,
         } => {
-            r[10] = generation;
-            r[11] = 0;
-            word::put_word(r, 12, bits(upper));
-            word::put_word(r, 16, bits(lower));
+            bytes[layout::GENERATION + i] = generation;
+            word::put_word(bytes, layout::UPPER + layout::WORD * i, bits(upper));
+            word::put_word(bytes, layout::LOWER + layout::WORD * i, bits(lower));
         }
     }
 }
 
-// Writes `entry` to bytes 6 to 19 of the record `r`.
-fn write_entry(entry: Entry, r: &mut [u8])
-    requires { ⌜ length (now r) ≡ recordSize ⌝ }
-    ensures { λ _. ⌜ now (r .exit) ≡ put (now (r .entry)) 6 14 (entryBytes entry) ⌝ }
+// Writes the fields of `entry` to record i.
+fn write_entry(entry: Entry, bytes: &mut [u8], i: usize)
+    requires { ⌜ (length (now bytes) ≡ cardSize) × (i < 64) ⌝ }
+    ensures { λ _. ⌜ now (bytes .exit) ≡ fieldsPut (entryFields i entry) (now (bytes .entry)) ⌝ }
 {
     match entry {
         Entry::Area { end } => {
-            half::put_half(r, 6, end as usize);
-            spans::zero(r, 8, 12);
+            half::put_half(bytes, layout::START + layout::HALF * i, end as usize);
         }
         Entry::Service {
             start,
             blocks,
             limit,
         } => {
-            half::put_half(r, 6, start as usize);
-            half::put_half(r, 8, blocks as usize);
-            write_limit(limit, r);
+            half::put_half(bytes, layout::START + layout::HALF * i, start as usize);
+            half::put_half(bytes, layout::BLOCKS + layout::HALF * i, blocks as usize);
+            write_limit(limit, bytes, i);
         }
     }
 }
 
-// Writes `node` to the record `r`.
-pub(crate) fn write(node: Node, r: &mut [u8])
-    requires { ⌜ length (now r) ≡ recordSize ⌝ }
-    ensures { λ _. ⌜ now (r .exit) ≡ nodeBytes node ⌝ }
+// Writes the fields of `node` to record i.
+pub(crate) fn write(node: Node, bytes: &mut [u8], i: usize)
+    requires { ⌜ (length (now bytes) ≡ cardSize) × (i < 64) ⌝ }
+    ensures { λ _. ⌜ now (bytes .exit) ≡ fieldsPut (nodeFields i node) (now (bytes .entry)) ⌝ }
 {
     let entry = node.entry;
-    r[0] = kind(entry);
-    r[1] = node.depth;
-    half::put_half(r, 2, node.code as usize);
-    half::put_half(r, 4, node.version as usize);
-    write_entry(entry, r);
+    bytes[layout::KIND + layout::HALF * i] = kind(entry);
+    bytes[layout::DEPTH + layout::HALF * i] = node.depth;
+    half::put_half(bytes, layout::CODE + layout::HALF * i, node.code as usize);
+    half::put_half(
+        bytes,
+        layout::VERSION + layout::HALF * i,
+        node.version as usize,
+    );
+    write_entry(entry, bytes, i);
 }

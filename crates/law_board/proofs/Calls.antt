@@ -22,7 +22,7 @@ use Rattle.law_terminals.specs.Runs.{Call, Left, Leaves}
 use Rattle.law_calls.specs.Promise.{Promises}
 use Rattle.law_calls.specs.Library.{request, handsetRequest, libraryLeft}
 use Rattle.law_calls.proofs.Kept.{of-two, of-four}
-use Rattle.law_calls.proofs.Library.{decoded-long}
+use Rattle.handset_bytes.proofs.Heads.{decoded-long}
 use Rattle.law_lines.specs.Lines.{Taken}
 use Rattle.law_board.specs.Library.{BoardCall, requests, boards, sets, CallLeaves}
 use Rattle.law_lines.proofs.Lines.{leaves-all, prints}

@@ -1,30 +1,32 @@
--- One record: what is written is read back, and what reads as a node is what is written of it.
-use mathlib.Core.Path.{_≡_, refl, sym, ap, _∙_}
-use mathlib.Core.Bool.{Bool, true, false, cond, and-eq-true-iff, false≢true}
+-- One record: fields that stand are read as the node that they are of, and what reads as a node is what its fields are.
+use mathlib.Core.Path.{_≡_, refl, sym, ap, _∙_, subst}
+use mathlib.Core.Bool.{Bool, true, false, cond}
 use mathlib.Core.List.{List, [], _∷_}
-use mathlib.Core.Logic.{_⊎_, inl, inr, ⊎-elim}
 use Prim.Native.Nat.{ℕ, zero, suc, _+_, _-_, _*_, _/_, _%_, _≤_, _<_, _^_}
+use native.Mathlib.Nat.{add-zero}
 use native.Mathlib.Omega.{arith}
 use native.Mathlib.Decide.{decLt}
+use lib.Dec.{eqb}
 use lib.IntN.{ℤ, pos, negsuc}
 use lib.Signed.{mag}
-use lib.ListN.{length, getD, take, drop}
-use lib.Seq.{drop-cons, take-all}
-use borrow.Author.Tests.{lt-ltb, le-ltb, ltb-false, eqb-true, eqb-false}
+use lib.ListN.{length, getD}
+use borrow.Author.Tests.{lt-ltb, le-ltb, le-leb, leb-true, eqb-true, eqb-false}
 use Rattle.byte_parts.specs.Values.{Bytes}
 use Rattle.byte_parts.specs.Word.{wordAt, wordBytes, signedOf, wordOf}
+use Rattle.byte_parts.specs.Half.{halfBytes, halfAt}
 use Rattle.byte_parts.proofs.Laws.{word-fits}
 use Rattle.byte_parts.proofs.Halves.{digit, small, split, half-back, half-says}
 use Rattle.service_code.specs.declared.limit.Limit.the-variants.{Unlimited, Limited}
 use Rattle.card_nodes.specs.declared.node.Entry.{Entry}
 use Rattle.card_nodes.specs.declared.node.Entry.the-variants.{Area, Service}
 use Rattle.card_nodes.specs.declared.node.Node.{Node}
-use Rattle.card_build.specs.Grow.{nodeAs}
-use Rattle.byte_parts.specs.Half.{halfBytes, halfAt}
-use Rattle.handset_bytes.specs.Node.{nodeBytes, nodeIn, isRecord}
+use Rattle.handset_bytes.specs.Layout.{kindPlace, depthPlace, codePlace, startPlace, blocksPlace, versionPlace, generationPlace, upperPlace, lowerPlace}
+use Rattle.handset_bytes.specs.Field.{Field, fieldOf}
+use Rattle.handset_bytes.specs.Node.{kindByte, entryFields, nodeFields, entryIn, nodeIn, isRecord}
 use Rattle.handset_bytes.specs.Fits.{EntryFits, NodeFits}
+use Rattle.law_bytes.proofs.Fields.{Stands, AllStand}
 
--- four
+-- four bytes of a number, put together again
 word-back : (v : ℕ) → v < 2 ^ 32 →
     v % 256 + 256 * (v / 256 % 256) + 65536 * (v / 65536 % 256) + 16777216 * (v / 16777216 % 256) ≡ v
 word-back v h =
@@ -43,43 +45,6 @@ signed-back : (z : ℤ) → mag z < 2 ^ 31 → signedOf (wordOf z) ≡ z
 unfolding signedOf wordOf
 signed-back (pos n) h = rw (lt-ltb n 2147483648 h)
 signed-back (negsuc n) h = rw (le-ltb (4294967295 - n) 2147483648 (omega arith)) (ap negsuc (omega arith))
-
--- a limit's bound, from its four bytes
-bound-back : (z : ℤ) → mag z < 2 ^ 31 →
-    let v = wordOf z in signedOf (v % 256 + 256 * (v / 256 % 256) + 65536 * (v / 65536 % 256) + 16777216 * (v / 16777216 % 256)) ≡ z
-bound-back z h = rw (word-back (wordOf z) (word-fits z (omega arith))) (signed-back z h)
-
--- what is written is a record
-pub node-record : (n : Node) → isRecord (nodeBytes n) ≡ true
-unfolding nodeBytes halfBytes wordBytes halfAt wordAt isRecord
-node-record n = by (n .depth) (n .code) (n .version) (n .entry)
-  where
-    by : (depth code version : ℕ) (e : Entry) → isRecord (nodeBytes (nodeAs depth code version e)) ≡ true
-    by depth code version (Area end) = refl
-    by depth code version (Service start blocks Unlimited) = refl
-    by depth code version (Service start blocks (Limited upper lower generation)) = refl
-
--- and reads as the node
-pub node-back : (n : Node) → NodeFits n → nodeIn (nodeBytes n) ≡ n
-unfolding nodeBytes halfBytes wordBytes halfAt wordAt nodeIn
-node-back n f = by (n .depth) (n .code) (n .version) (n .entry) (f .code) (f .version) (f .entry)
-  where
-    by : (depth code version : ℕ) (e : Entry) → code < 2 ^ 16 → version < 2 ^ 16 → EntryFits e →
-        nodeIn (nodeBytes (nodeAs depth code version e)) ≡ nodeAs depth code version e
-    by depth code version (Area end) c v h = rw (half-back code c, half-back version v, half-back end h)
-    by depth code version (Service start blocks Unlimited) c v h =
-        rw (half-back code c, half-back version v, half-back start (h .0), half-back blocks (h .1))
-    by depth code version (Service start blocks (Limited upper lower generation)) c v h =
-        rw (half-back code c, half-back version v, half-back start (h .0), half-back blocks (h .1), bound-back upper (h .2 .0), bound-back lower (h .2 .1))
-
--- the n numbers from an index on
-abbrev pub spread : ℕ → List ℕ → ℕ → List ℕ
-spread zero s i = []
-spread (suc n) s i = getD s i 0 ∷ spread n s (suc i)
-
-pub spread-is : (n : ℕ) (s : List ℕ) (i : ℕ) → i + n ≤ length s → spread n s i ≡ take n (drop i s)
-spread-is zero s i h = refl
-spread-is (suc n) s i h = rw (drop-cons s i 0 (omega arith)) (ap (λ (l : List ℕ). getD s i 0 ∷ l) (spread-is n s (suc i) (omega arith)))
 
 -- a number with a sign has its bits
 signed-says : (v : ℕ) → v < 2 ^ 32 → wordOf (signedOf v) ≡ v
@@ -110,69 +75,121 @@ bound-says s at b =
         let low : v % 256 ≡ a = omega arith in
         rw (signed-says v (omega arith), from1, from2, from3, low, digit e (f + 256 * g) y .0, digit f g z .0, small g w)
 
--- the four bytes of 0
-zeros : (s : List ℕ) (at : ℕ) → wordAt s at ≡ 0 →
-    (getD s at 0 ≡ 0) × (getD s (at + 1) 0 ≡ 0) × (getD s (at + 2) 0 ≡ 0) × (getD s (at + 3) 0 ≡ 0)
-unfolding wordAt
-zeros s at e = omega arith
+module _ (s : List ℕ) (at : ℕ) where
+  -- the first byte of a field that stands
+  first : (bytes : List ℕ) → Stands s (fieldOf at bytes) → 0 < length bytes → getD s at 0 ≡ getD bytes 0 0
+  first bytes h l = ap (λ (k : ℕ). getD s k 0) (sym (add-zero at)) ∙ h 0 l
 
--- a test by cases
-cond-true : (t a b : Bool) → cond t a b ≡ true → ((t ≡ true) × (a ≡ true)) ⊎ ((t ≡ false) × (b ≡ true))
-cond-true true a b e = inl (refl, e)
-cond-true false a b e = inr (refl, e)
+  -- a byte that stands is read
+  pub byte-read : (x : ℕ) → Stands s (fieldOf at (x ∷ [])) → getD s at 0 ≡ x
+  byte-read x h = first (x ∷ []) h (omega arith)
 
-module _ (r : List ℕ) (b : Bytes r) (long : length r ≡ 20) where
-  -- its twenty bytes
-  whole : spread 20 r 0 ≡ r
-  whole = spread-is 20 r 0 (omega arith) ∙ take-all 20 r (omega arith)
+  -- so are two
+  pub half-read : (v : ℕ) → v < 2 ^ 16 → Stands s (fieldOf at (halfBytes v)) → halfAt s at ≡ v
+  unfolding halfAt halfBytes
+  half-read v f h = rw (first (halfBytes v) h (omega arith), h 1 (omega arith)) (half-back v f)
 
-  -- an area's
-  area : getD r 0 0 ≡ 0 → wordAt r 8 ≡ 0 → wordAt r 12 ≡ 0 → wordAt r 16 ≡ 0 → nodeBytes (nodeIn r) ≡ spread 20 r 0
-  unfolding nodeBytes nodeIn
-  area k x y z =
-      let p = zeros r 8 x in
-      let q = zeros r 12 y in
-      let o = zeros r 16 z in
-      rw (k, half-says r 2 (b 2) (b 3), half-says r 4 (b 4) (b 5), half-says r 6 (b 6) (b 7))
-      (rw (p .0, p .1, p .2, p .3, q .0, q .1, q .2, q .3, o .0, o .1, o .2, o .3))
+  -- and four
+  pub bound-read : (z : ℤ) → mag z < 2 ^ 31 → Stands s (fieldOf at (wordBytes (wordOf z))) → signedOf (wordAt s at) ≡ z
+  unfolding wordAt wordBytes
+  bound-read z f h =
+      rw (first (wordBytes (wordOf z)) h (omega arith), h 1 (omega arith), h 2 (omega arith), h 3 (omega arith), word-back (wordOf z) (word-fits z (omega arith))) (signed-back z f)
 
-  -- a service's
-  service : getD r 0 0 ≡ 1 → halfAt r 10 ≡ 0 → wordAt r 12 ≡ 0 → wordAt r 16 ≡ 0 → nodeBytes (nodeIn r) ≡ spread 20 r 0
-  unfolding nodeBytes nodeIn halfAt
-  service k x y z =
-      let q = zeros r 12 y in
-      let o = zeros r 16 z in
-      let low : getD r 10 0 ≡ 0 = omega arith in
-      let high : getD r 11 0 ≡ 0 = omega arith in
-      rw (k, half-says r 2 (b 2) (b 3), half-says r 4 (b 4) (b 5), half-says r 6 (b 6) (b 7), half-says r 8 (b 8) (b 9))
-      (rw (low, high, q .0, q .1, q .2, q .3, o .0, o .1, o .2, o .3))
+  -- a byte stands where it is read
+  pub byte-stands : Stands s (fieldOf at (getD s at 0 ∷ []))
+  byte-stands zero h = ap (λ (k : ℕ). getD s k 0) (add-zero at)
+  byte-stands (suc k) h = absurd (omega arith)
 
-  -- that of a service with a limit
-  limited : getD r 0 0 ≡ 2 → getD r 11 0 ≡ 0 → nodeBytes (nodeIn r) ≡ spread 20 r 0
-  unfolding nodeBytes nodeIn
-  limited k x =
-      rw (k, half-says r 2 (b 2) (b 3), half-says r 4 (b 4) (b 5), half-says r 6 (b 6) (b 7), half-says r 8 (b 8) (b 9), bound-says r 12 b, bound-says r 16 b) (rw x)
+  -- so do two
+  pub half-stands : Bytes s → Stands s (fieldOf at (halfBytes (halfAt s at)))
+  half-stands b = rw (half-says s at (b at) (b (at + 1))) two
+    where
+      two : Stands s (fieldOf at (getD s at 0 ∷ getD s (at + 1) 0 ∷ []))
+      two zero h = ap (λ (k : ℕ). getD s k 0) (add-zero at)
+      two (suc zero) h = refl
+      two (suc (suc k)) h = absurd (omega arith)
 
-  -- a record's bytes are those of the node that they read as
-  pub node-says : isRecord r ≡ true → nodeBytes (nodeIn r) ≡ r
-  unfolding isRecord
-  node-says e =
-      ⊎-elim
-      (λ h. limited (eqb-true _ _ (h .0)) (eqb-true _ _ (h .1)))
-      (λ h.
-      ⊎-elim
-      (λ g. absurd (false≢true (g .1)))
-      (λ g.
-      let t = and-eq-true-iff _ _ .0 (g .1) in
-      let u = and-eq-true-iff _ _ .0 (t .1) in
-      let y : wordAt r 12 ≡ 0 = eqb-true _ _ (t .0) in
-      let z : wordAt r 16 ≡ 0 = eqb-true _ _ (u .0) in
-      let k : getD r 0 0 ≤ 2 = ltb-false 2 (getD r 0 0) (g .0) in
-      let ne : getD r 0 0 ≡ 2 → ⊥ = eqb-false _ _ (h .0) in
-      ⊎-elim
-      (λ f. service (eqb-true _ _ (f .0)) (eqb-true _ _ (f .1)) y z)
-      (λ f. let no : getD r 0 0 ≡ 1 → ⊥ = eqb-false _ _ (f .0) in area (omega arith) (eqb-true _ _ (f .1)) y z)
-      (cond-true _ _ _ (u .1)))
-      (cond-true _ _ _ (h .1)))
-      (cond-true _ _ _ e)
-      ∙ whole
+  -- and four
+  pub bound-stands : Bytes s → Stands s (fieldOf at (wordBytes (wordOf (signedOf (wordAt s at)))))
+  bound-stands b = rw (bound-says s at b) four
+    where
+      four : Stands s (fieldOf at (getD s at 0 ∷ getD s (at + 1) 0 ∷ getD s (at + 2) 0 ∷ getD s (at + 3) 0 ∷ []))
+      four zero h = ap (λ (k : ℕ). getD s k 0) (add-zero at)
+      four (suc zero) h = refl
+      four (suc (suc zero)) h = refl
+      four (suc (suc (suc zero))) h = refl
+      four (suc (suc (suc (suc k)))) h = absurd (omega arith)
+
+-- what record i reads as, by two tests of its kind
+abbrev pub entryBy : List ℕ → ℕ → Bool → Bool → Entry
+entryBy s i area limited =
+    cond area (Area (halfAt s (startPlace i)))
+    (Service (halfAt s (startPlace i)) (halfAt s (blocksPlace i))
+    (cond limited (Limited (signedOf (wordAt s (upperPlace i))) (signedOf (wordAt s (lowerPlace i))) (getD s (generationPlace i) 0)) Unlimited))
+
+module _ (s : List ℕ) (i : ℕ) where
+  -- an entry whose fields stand is read
+  entry-read : (e : Entry) → EntryFits e → getD s (kindPlace i) 0 ≡ kindByte e → AllStand s (entryFields i e) → entryIn s i ≡ e
+  entry-read (Area end) f k a = rw (k, half-read s (startPlace i) end f (a .0))
+  entry-read (Service start blocks Unlimited) f k a =
+      rw (k, half-read s (startPlace i) start (f .0) (a .0), half-read s (blocksPlace i) blocks (f .1) (a .1 .0))
+  entry-read (Service start blocks (Limited upper lower generation)) f k a =
+      rw (
+        k,
+        half-read s (startPlace i) start (f .0) (a .0),
+        half-read s (blocksPlace i) blocks (f .1) (a .1 .0),
+        byte-read s (generationPlace i) generation (a .1 .1 .0),
+        bound-read s (upperPlace i) upper (f .2 .0) (a .1 .1 .1 .0),
+        bound-read s (lowerPlace i) lower (f .2 .1) (a .1 .1 .1 .1 .0),
+      )
+
+  kind-known : (e : Entry) → kindByte e ≤ 2
+  kind-known (Area end) = omega arith
+  kind-known (Service start blocks Unlimited) = omega arith
+  kind-known (Service start blocks (Limited upper lower generation)) = omega arith
+
+  -- a node whose fields stand is read, and is of a kind that there is
+  pub node-read : (n : Node) → NodeFits n → AllStand s (nodeFields i n) → (nodeIn s i ≡ n) × (isRecord s i ≡ true)
+  unfolding nodeFields nodeIn isRecord
+  node-read n f a =
+      let kind = byte-read s (kindPlace i) (kindByte (n .entry)) (a .0) in
+      let depth = byte-read s (depthPlace i) (n .depth) (a .1 .0) in
+      let code = half-read s (codePlace i) (n .code) (f .code) (a .1 .1 .0) in
+      let version = half-read s (versionPlace i) (n .version) (f .version) (a .1 .1 .1 .0) in
+      let entry = entry-read (n .entry) (f .entry) kind (a .1 .1 .1 .1) in
+      (λ j. record { depth = depth j; code = code j; version = version j; entry = entry j }, rw kind (le-leb (kindByte (n .entry)) 2 (kind-known (n .entry))))
+
+  module _ (b : Bytes s) where
+    -- the fields of what is read stand
+    entry-stands : (t u : Bool) → AllStand s (entryFields i (entryBy s i t u))
+    entry-stands true u = (half-stands s (startPlace i) b, tt)
+    entry-stands false false = (half-stands s (startPlace i) b, (half-stands s (blocksPlace i) b, tt))
+    entry-stands false true =
+        (half-stands s (startPlace i) b, (half-stands s (blocksPlace i) b, (byte-stands s (generationPlace i), (bound-stands s (upperPlace i) b, (bound-stands s (lowerPlace i) b, tt)))))
+
+    -- its kind too, if there is one
+    kind-says : (k a c : ℕ) (x y : ℤ) (g : ℕ) → k ≤ 2 →
+        kindByte (cond (eqb k 0) (Area a) (Service a c (cond (eqb k 2) (Limited x y g) Unlimited))) ≡ k
+    kind-says zero a c x y g h = refl
+    kind-says (suc zero) a c x y g h = refl
+    kind-says (suc (suc zero)) a c x y g h = refl
+    kind-says (suc (suc (suc k))) a c x y g h = absurd (omega arith)
+
+    pub node-stands : isRecord s i ≡ true → AllStand s (nodeFields i (nodeIn s i))
+    unfolding nodeFields nodeIn isRecord
+    node-stands e =
+        let k = getD s (kindPlace i) 0 in
+        let known = leb-true k 2 e in
+        let kind : kindByte (entryIn s i) ≡ k = kind-says k _ _ _ _ _ known in (
+          subst (λ (x : ℕ). Stands s (fieldOf (kindPlace i) (x ∷ []))) (sym kind) (byte-stands s (kindPlace i)),
+          (
+            byte-stands s (depthPlace i),
+            (
+              half-stands s (codePlace i) b,
+              (
+                half-stands s (versionPlace i) b,
+                entry-stands (eqb k 0) (eqb k 2),
+              ),
+            ),
+          ),
+        )

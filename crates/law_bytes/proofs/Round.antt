@@ -1,57 +1,32 @@
--- A card's bytes: what is written is read back, and what reads as a card is what is written of it.
-use mathlib.Core.Path.{_≡_, refl, ap, _∙_}
-use mathlib.Core.Bool.{Bool, true, false, and-eq-true-iff}
+-- A card's bytes: what is written is read back, and what reads as a card is what is written of it but for places that are no part of it.
+use mathlib.Core.Path.{_≡_, refl, sym, ap, _∙_}
+use mathlib.Core.Bool.{Bool, true, false, cond, _&&_, and-eq-true-iff}
 use mathlib.Core.List.{List, [], _∷_, _++_}
-use Prim.Native.Nat.{ℕ, zero, suc, _+_, _-_, _*_, _≤_}
+use mathlib.Core.Logic.{_↔_}
+use Prim.Native.Nat.{ℕ, zero, suc, _+_, _-_, _*_, _≤_, _<_, min}
 use native.Mathlib.Omega.{arith}
 use lib.Dec.{eqb, leb}
-use lib.ListN.{length, getD, take, drop, length-append, length-drop, take-append-drop}
-use lib.Seq.{take-at, drop-at, length-take-le}
-use borrow.Author.Tests.{eq-eqb, eqb-true, le-leb, leb-true}
+use lib.ListN.{length, getD, take, drop, replicate, length-append, length-take, length-replicate, take-append-drop}
+use lib.Seq.{take-at, ext-getD, getD-take}
+use borrow.Author.Tests.{eq-eqb, ne-eqb, eqb-true, le-leb, leb-true}
 use Rattle.byte_parts.specs.Values.{flagOf, Bytes}
+use Rattle.byte_parts.specs.Half.{halfBytes, halfAt}
+use Rattle.byte_parts.proofs.Halves.{half-back, half-says}
 use Rattle.card_nodes.specs.declared.node.Node.{Node}
 use Rattle.card_nodes.specs.Node.{rootNode}
 use Rattle.card_sound.specs.Sound.{soundOf}
 use Rattle.card_build.specs.declared.card.Card.{Card}
-use Rattle.card_build.specs.Card.{isSound}
-use Rattle.byte_parts.specs.Half.{halfBytes, halfAt}
-use Rattle.handset_bytes.specs.Layout.{headSize, recordSize, cardSize}
-use Rattle.handset_bytes.specs.Node.{nodeBytes}
-use Rattle.handset_bytes.specs.Card.{nodesBytes, cardBytes, nodesIn, areRecords, cardIn, isCard, cardDecoded}
+use Rattle.card_build.specs.Card.{isSound, nodesOf}
+use Rattle.handset_bytes.specs.Layout.{cardSize, countPlace, usedPlace, systemPlace, keyPlace, flagsPlace, layoutPlace, layoutNumber}
+use Rattle.handset_bytes.specs.Field.{Field, fieldOf, fieldsPut, isCovered}
+use Rattle.handset_bytes.specs.Node.{nodeFields, nodeIn, isRecord}
+use Rattle.handset_bytes.specs.Card.{headFields, nodesFields, cardFields, zeroBytes, cardBytes, nodesIn, areRecords, cardIn, isHeaded, isCard, noCard, cardDecoded, isUsed}
 use Rattle.handset_bytes.specs.Fits.{NodeFits, Fits}
-use Rattle.law_bytes.proofs.Bytes.{bytes-take, bytes-drop}
-use Rattle.handset_bytes.proofs.Long.{node-long}
-use Rattle.law_bytes.proofs.Records.{node-record, node-back, spread, spread-is, node-says}
-use Rattle.byte_parts.proofs.Halves.{half-back, half-says}
-
--- how many bytes records take
-pub nodes-long : (ns : List Node) → length (nodesBytes ns) ≡ recordSize * length ns
-unfolding nodesBytes
-nodes-long [] = refl
-nodes-long (n ∷ ns) = simp length-append (omega (arith, node-long n, nodes-long ns))
-
-module _ (n : Node) (rest : List ℕ) where
-  -- the first of them
-  first-record : take recordSize (nodeBytes n ++ rest) ≡ nodeBytes n
-  first-record = take-at (nodeBytes n) rest recordSize (node-long n)
-
-  -- those after it
-  later-records : drop recordSize (nodeBytes n ++ rest) ≡ rest
-  later-records = drop-at (nodeBytes n) rest recordSize (node-long n)
-
--- what is written of nodes are records
-nodes-record : (ns : List Node) → areRecords (length ns) (nodesBytes ns) ≡ true
-unfolding nodesBytes areRecords
-nodes-record [] = refl
-nodes-record (n ∷ ns) = rw (first-record n (nodesBytes ns), later-records n (nodesBytes ns), node-record n) (nodes-record ns)
-
--- and they read as those nodes
-nodes-back : (ns : List Node) → ((i : ℕ) → NodeFits (getD ns i rootNode)) → nodesIn (length ns) (nodesBytes ns) ≡ ns
-unfolding nodesBytes nodesIn
-nodes-back [] f = refl
-nodes-back (n ∷ ns) f =
-    rw (first-record n (nodesBytes ns), later-records n (nodesBytes ns), node-back n (f 0))
-    (ap (λ (l : List Node). n ∷ l) (nodes-back ns (λ i. f (suc i))))
+use Rattle.handset_bytes.proofs.Puts.{fields-long}
+use Rattle.handset_bytes.proofs.Heads.{Headed, card-headed, nodes-count}
+use Rattle.law_bytes.proofs.Fields.{Stands, AllStand, stand-split, stand-append, written-stand, stood, Within}
+use Rattle.law_bytes.proofs.Places.{card-apart, card-within}
+use Rattle.law_bytes.proofs.Records.{half-read, half-stands, node-read, node-stands}
 
 -- yes or no as a number
 flag-one : (j : Bool) → flagOf j ≤ 1
@@ -69,70 +44,157 @@ flag-says zero h = refl
 flag-says (suc zero) h = refl
 flag-says (suc (suc n)) h = absurd (omega arith)
 
+-- nodes whose fields stand are read
+nodes-read : (s : List ℕ) (i : ℕ) (ns : List Node) → ((j : ℕ) → NodeFits (getD ns j rootNode)) → AllStand s (nodesFields i ns) →
+    (nodesIn (length ns) i s ≡ ns) × (areRecords (length ns) i s ≡ true)
+unfolding nodesFields nodesIn areRecords
+nodes-read s i [] f a = (refl, refl)
+nodes-read s i (n ∷ ns) f a =
+    let b = stand-split s (nodeFields i n) (nodesFields (i + 1) ns) a in
+    let own = node-read s i n (f 0) (b .0) in
+    let later = nodes-read s (i + 1) ns (λ j. f (suc j)) (b .1) in
+    (rw (own .0, later .0), rw (own .1, later .1))
+
+-- a part of the nodes fits
+pub few-fit : (k i : ℕ) (ns : List Node) → NodeFits rootNode → ((j : ℕ) → NodeFits (getD ns j rootNode)) → NodeFits (getD (take k ns) i rootNode)
+few-fit zero i ns z g = z
+few-fit (suc k) i [] z g = z
+few-fit (suc k) zero (x ∷ ns) z g = g 0
+few-fit (suc k) (suc i) (x ∷ ns) z g = few-fit k i ns z (λ j. g (suc j))
+
+-- the root fits
+pub root-fits : NodeFits rootNode
+root-fits = record { depth = omega arith; code = omega arith; version = omega arith; entry = omega arith }
+
+-- how many nodes a card has
+few-nodes : (c : Card) → Fits c → length (nodesOf c) ≡ c .count
+few-nodes c f = simp length-take (omega (arith, f .records, f .count))
+
+module _ (c : Card) (f : Fits c) (s : List ℕ) (long : length s ≡ cardSize) (a : AllStand s (cardFields c)) where
+  -- a card whose fields stand is read
+  stands-read : (isCard s ≡ true) × (cardIn s ≡ c)
+  unfolding cardFields isCard isHeaded
+  stands-read =
+      let b = stand-split s (headFields c) (nodesFields 0 (nodesOf c)) a in
+      let h = b .0 in
+      let count : halfAt s countPlace ≡ c .count = half-read s countPlace (c .count) (omega (arith, f .count)) (h .0) in
+      let used : halfAt s usedPlace ≡ c .used = half-read s usedPlace (c .used) (f .used) (h .1 .0) in
+      let code : halfAt s systemPlace ≡ c .system .code = half-read s systemPlace (c .system .code) (f .system .code) (h .1 .1 .0) in
+      let key : halfAt s keyPlace ≡ c .system .version = half-read s keyPlace (c .system .version) (f .system .version) (h .1 .1 .1 .0) in
+      let one = flag-one (c .system .join) in
+      let flag : halfAt s flagsPlace ≡ flagOf (c .system .join) = half-read s flagsPlace (flagOf (c .system .join)) (omega arith) (h .1 .1 .1 .1 .0) in
+      let layout : halfAt s layoutPlace ≡ layoutNumber = half-read s layoutPlace layoutNumber (omega arith) (h .1 .1 .1 .1 .1 .0) in
+      let n = few-nodes c f in
+      let r = nodes-read s 0 (nodesOf c) (λ j. few-fit (c .count) j (c .nodes) root-fits (f .nodes)) (b .1) in
+      let nodes : nodesIn (c .count) 0 s ≡ nodesOf c = rw n at (r .0) in
+      let kinds : areRecords (c .count) 0 s ≡ true = rw n at (r .1) in
+      let all : nodesOf c ++ replicate (64 - c .count) rootNode ≡ c .nodes = rw (← f .unused) (take-append-drop (c .count) (c .nodes)) in (
+        rw (eq-eqb (length s) cardSize long, layout, flag, le-leb (flagOf (c .system .join)) 1 one, count, le-leb (c .count) 64 (f .count), kinds),
+        rw (count, nodes, all, used, code, key, flag, flag-back (c .system .join)),
+      )
+
 -- how many bytes a card takes
-pub card-long : (c : Card) → length (c .nodes) ≡ 64 → length (cardBytes c) ≡ cardSize
-unfolding cardBytes halfBytes
-card-long c h = omega (arith, nodes-long (c .nodes))
+zero-count : (n : ℕ) → length (zeroBytes n) ≡ n
+unfolding zeroBytes
+zero-count n = length-replicate n 0
 
--- what is written of a card is a card's bytes
-pub written-is : (c : Card) → Fits c → isCard (cardBytes c) ≡ true
-unfolding cardBytes halfBytes halfAt isCard
-written-is c f =
-    let ok : areRecords 64 (nodesBytes (c .nodes)) ≡ true = rw (f .records) at (nodes-record (c .nodes)) in
-    let j = flagOf (c .system .join) in
-    let one = flag-one (c .system .join) in
-    rw (eq-eqb _ cardSize (card-long c (f .records)), half-back j (omega arith), le-leb j 1 one, ok)
+zero-long : length (zeroBytes cardSize) ≡ cardSize
+zero-long = zero-count cardSize
 
--- and is read back
-pub read-back : (c : Card) → Fits c → cardDecoded (cardBytes c) ≡ c
-unfolding cardBytes halfBytes halfAt cardDecoded
-read-back c f =
-    let same : nodesIn 64 (nodesBytes (c .nodes)) ≡ c .nodes = rw (f .records) at (nodes-back (c .nodes) (f .nodes)) in
-    let one = flag-one (c .system .join) in
-    rw (written-is c f)
-    (rw (
-      same,
-      half-back (c .count) (f .count),
-      half-back (c .used) (f .used),
-      half-back (c .system .code) (f .system .code),
-      half-back (c .system .version) (f .system .version),
-      half-back (flagOf (c .system .join)) (omega arith),
-      flag-back (c .system .join),
-    ))
+pub card-long : (c : Card) → length (cardBytes c) ≡ cardSize
+unfolding cardBytes
+card-long c = fields-long (cardFields c) (zeroBytes cardSize) ∙ zero-long
+
+zero-byte : (n p : ℕ) → getD (zeroBytes n) p 0 ≡ 0
+unfolding zeroBytes
+zero-byte zero p = refl
+zero-byte (suc n) zero = refl
+zero-byte (suc n) (suc p) = zero-byte n p
+
+module _ (c : Card) (f : Fits c) where
+  -- what is written of a card stands
+  written-stands : AllStand (cardBytes c) (cardFields c)
+  unfolding cardBytes
+  written-stands =
+      let few : length (nodesOf c) ≤ 64 = omega (arith, few-nodes c f, f .count) in
+      written-stand (cardFields c) (zeroBytes cardSize) (card-apart c few) (rw zero-long (card-within c few))
+
+  -- so it is a card's bytes
+  pub written-is : isCard (cardBytes c) ≡ true
+  written-is = stands-read c f (cardBytes c) (card-long c) written-stands .0
+
+  -- and is read back
+  pub read-back : cardDecoded (cardBytes c) ≡ c
+  unfolding cardDecoded
+  read-back = rw written-is (stands-read c f (cardBytes c) (card-long c) written-stands .1)
+
+-- those taken are those read
+pub nodes-taken : (s : List ℕ) → nodesOf (cardIn s) ≡ nodesIn (halfAt s countPlace) 0 s
+nodes-taken s =
+    let n = halfAt s countPlace in
+    take-at (nodesIn n 0 s) (replicate (64 - n) rootNode) n (nodes-count n 0 s)
 
 -- records are what is written of the nodes that they read as
-nodes-say : (n : ℕ) (s : List ℕ) → Bytes s → length s ≡ recordSize * n → areRecords n s ≡ true → nodesBytes (nodesIn n s) ≡ s
-unfolding nodesBytes nodesIn areRecords
-nodes-say zero [] b h e = refl
-nodes-say zero (x ∷ s) b h e = absurd (omega arith)
-nodes-say (suc n) s b h e =
-    let t = and-eq-true-iff _ _ .0 e in
-    let first = node-says (take recordSize s) (bytes-take recordSize s b) (length-take-le recordSize s (omega arith)) (t .0) in
-    let later = nodes-say n (drop recordSize s) (bytes-drop recordSize s b) (simp length-drop (omega arith)) (t .1) in
-    rw (first, later) (take-append-drop recordSize s)
-
--- so are the bytes of a card
-pub card-says : (s : List ℕ) → Bytes s → isCard s ≡ true → cardBytes (cardIn s) ≡ s
-unfolding isCard cardBytes
-card-says s b e =
-    let t = and-eq-true-iff _ _ .0 e in
-    let long : length s ≡ cardSize = eqb-true _ _ (t .0) in
-    let head : spread headSize s 0 ≡ take headSize s = spread-is headSize s 0 (omega arith) in
-    let u = and-eq-true-iff (leb (halfAt s 8) 1) (areRecords 64 (drop headSize s)) .0 (t .1) in
-    let rest = nodes-say 64 (drop headSize s) (bytes-drop headSize s b) (simp length-drop (omega arith)) (u .1) in
-    let flag = flag-says (halfAt s 8) (leb-true (halfAt s 8) 1 (u .0)) in
-    rw (flag, half-says s 0 (b 0) (b 1), half-says s 2 (b 2) (b 3), half-says s 4 (b 4) (b 5), half-says s 6 (b 6) (b 7), half-says s 8 (b 8) (b 9), rest)
-    (ap (λ (l : List ℕ). l ++ drop headSize s) head ∙ take-append-drop headSize s)
+nodes-stand : (s : List ℕ) (n i : ℕ) → Bytes s → areRecords n i s ≡ true → AllStand s (nodesFields i (nodesIn n i s))
+unfolding nodesFields nodesIn areRecords
+nodes-stand s zero i b e = tt
+nodes-stand s (suc n) i b e =
+    let t = and-eq-true-iff (isRecord s i) (areRecords n (i + 1) s) .0 e in
+    stand-append s (nodeFields i (nodeIn s i)) (nodesFields (i + 1) (nodesIn n (i + 1) s)) (node-stands s i b (t .0)) (nodes-stand s n (i + 1) b (t .1))
 
 -- they are as many as a card takes
 pub valid-long : (s : List ℕ) → isCard s ≡ true → length s ≡ cardSize
-unfolding isCard
-valid-long s e = eqb-true _ _ (and-eq-true-iff _ _ .0 e .0)
+valid-long s e = card-headed s e .0 .long
 
--- bytes that encode a card are what is written of it
-pub says : (s : List ℕ) → Bytes s → isCard s ≡ true → cardBytes (cardDecoded s) ≡ s
-unfolding cardDecoded
-says s b e = rw e (card-says s b e)
+module _ (s : List ℕ) (b : Bytes s) (e : isCard s ≡ true) where
+  -- the fields of the card that bytes read as stand there
+  card-stands : AllStand s (cardFields (cardIn s))
+  unfolding cardFields
+  card-stands =
+      let h = card-headed s e .0 in
+      let head : AllStand s (headFields (cardIn s)) = (
+        half-stands s countPlace b,
+        (
+          half-stands s usedPlace b,
+          (
+            half-stands s systemPlace b,
+            (
+              half-stands s keyPlace b,
+              (rw (flag-says (halfAt s flagsPlace) (h .flag)) (half-stands s flagsPlace b), (rw (h .layout) at (half-stands s layoutPlace b), tt)),
+            ),
+          ),
+        ),
+      ) in
+      let nodes : AllStand s (nodesFields 0 (nodesOf (cardIn s))) = rw (nodes-taken s) (nodes-stand s (halfAt s countPlace) 0 b (card-headed s e .1)) in
+      stand-append s (headFields (cardIn s)) (nodesFields 0 (nodesOf (cardIn s))) head nodes
+
+  -- written anew, each place that is part of the card stays, and any other is zero
+  pub rewritten : (p : ℕ) → getD (cardBytes (cardIn s)) p 0 ≡ cond (isUsed s p) (getD s p 0) 0
+  unfolding cardBytes isUsed
+  rewritten p =
+      let few : length (nodesOf (cardIn s)) ≤ 64 = rw (nodes-taken s, nodes-count (halfAt s countPlace) 0 s) (card-headed s e .0 .count) in
+      stood s (cardFields (cardIn s)) (zeroBytes cardSize) p card-stands (rw zero-long (card-within (cardIn s) few)) ∙ rw (zero-byte cardSize p)
+
+  -- so they are what is written of the card that they read as exactly where their other places are zero
+  pub exact : ((p : ℕ) → isUsed s p ≡ false → getD s p 0 ≡ 0) ↔ (cardBytes (cardIn s) ≡ s)
+  exact = (
+    λ z.
+        ext-getD 0 (cardBytes (cardIn s)) s (card-long (cardIn s) ∙ sym (card-headed s e .0 .long)) (λ p h. rewritten p ∙ by (isUsed s p) (getD s p 0) (z p)),
+    λ q p u. ap (λ (l : List ℕ). getD l p 0) (sym q) ∙ (rewritten p ∙ rw u),
+  )
+    where
+      by : (t : Bool) (x : ℕ) → (t ≡ false → x ≡ 0) → cond t x 0 ≡ x
+      by true x h = refl
+      by false x h = sym (h refl)
+
+-- bytes of another layout are no card's
+pub other-layout : (s : List ℕ) → (halfAt s layoutPlace ≡ layoutNumber → ⊥) → isCard s ≡ false
+unfolding isCard isHeaded
+other-layout s h = rw (ne-eqb (halfAt s layoutPlace) layoutNumber h) (by (eqb (length s) cardSize))
+  where
+    by : (t : Bool) → ((t && false) && areRecords (halfAt s countPlace) 0 s) ≡ false
+    by true = refl
+    by false = refl
 
 -- what stands for the card of other bytes is refused with 8
 pub unsound : (s : List ℕ) → isCard s ≡ false → isSound (cardDecoded s) ≡ false

@@ -28,7 +28,8 @@ use Rattle.law_terminals.specs.Runs.{Exchange, Leaves, RanAlong, requestsOf, Ca
 use Rattle.law_calls.specs.Library.{handsetRequest, libraryLeft}
 use Rattle.law_calls.specs.Lines.{LineCall, requestBy, lineRequest, lineLeft}
 use Rattle.law_calls.proofs.Own.{ownLeft, same-reply}
-use Rattle.law_calls.proofs.Library.{decoded-long, zero-asked, write-zero}
+use Rattle.handset_bytes.proofs.Heads.{decoded-long}
+use Rattle.law_calls.proofs.Library.{zero-asked, write-zero}
 use Rattle.law_calls.proofs.Lines.{told-done, done-told}
 use Rattle.law_resend.specs.Resend.{PursesOnce, RingsOnce, AcceptedWrite, Idle, IdleThen, Enough, lending}
 use Rattle.law_resent.specs.Calls.{SeenWrite, NoneSeen, ResentBy, LineResent}
