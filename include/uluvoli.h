@@ -18,8 +18,10 @@
  *
  * What the library checks, and what it cannot
  *   Every call on a card checks its bytes: a length other than ULUVOLI_CARD_SIZE, bytes that no card is written as,
- *   and cards that no accepted calls build, are refusal 8. An arena, a staging or an output that is too short is
- *   refused too, and no call reads or writes past the lengths given to it.
+ *   and cards that no accepted calls build, are refusal 8. Cards saved before, of 1,290 bytes, are refused with 8 too:
+ *   build them anew. Bytes that are no part of a card (records not taken, fields that a node of its kind has not) are
+ *   written as zero and never read. An arena, a staging or an output that is too short is refused too, and no call
+ *   reads or writes past the lengths given to it.
  *   It cannot check the pointers: each must be valid for as many elements as the length after it says, aligned for
  *   its type, and not null, even where the length is 0. A part that a call writes may overlap no other part of that
  *   call. Two calls may run at once only if neither writes what the other is lent. A call takes at most ULUVOLI_STACK
@@ -70,7 +72,7 @@ extern "C" {
 
 /* Sizes. */
 enum {
-    ULUVOLI_CARD_SIZE = 1290,        /* bytes of a card */
+    ULUVOLI_CARD_SIZE = 1376,        /* bytes of a card */
     ULUVOLI_BLOCK_SIZE = 16,         /* bytes of a block */
     ULUVOLI_ARENA_MOST = 65536,      /* bytes of an arena that can be used: 4,096 blocks */
     ULUVOLI_NODES_MOST = 64,         /* areas and services of a card, its root among them */

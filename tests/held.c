@@ -46,6 +46,9 @@ const uint8_t *lent_unbuilt(void) {
 
 void spoil_card(void) {
     spoilt = (lines * 2654435761u >> 7) % sizeof card;
+    while (!layout_used(card, (unsigned)spoilt)) {
+        spoilt = (spoilt + 1) % sizeof card;
+    }
     kept = card[spoilt];
     card[spoilt] = (uint8_t)(kept + 1 + lines % 255);
 }

@@ -51,7 +51,7 @@ const uint8_t *lent_card(void);
 /* The card with a count of records that none has, which every call refuses. */
 const uint8_t *lent_unbuilt(void);
 
-/* Changes one byte of the card, another one from line to line, and changes it back. */
+/* Changes one byte that is part of the card, another one from line to line, and changes it back. */
 void spoil_card(void);
 void mend_card(void);
 

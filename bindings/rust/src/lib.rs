@@ -14,7 +14,7 @@ pub use answer::{Cause, Failure, Refusal};
 pub use messages::{BlockInformation, CodeList};
 
 /// Bytes of a card.
-pub const CARD_SIZE: usize = 1290;
+pub const CARD_SIZE: usize = 1376;
 /// Bytes of stack that a call takes, at most.
 pub const STACK: usize = 16_384;
 /// Bytes of a block.

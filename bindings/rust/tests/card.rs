@@ -341,7 +341,7 @@ fn bytes_that_no_calls_build_are_refused() {
     let mut arena = [0u8; 256];
     let card = race(&mut arena);
     assert_eq!(Card::from_bytes(*card.as_bytes()), card);
-    for place in [0, 2, 8, 9, 10, 19, CARD_SIZE - 1] {
+    for place in [0, 2, 12, 13, 22, 23, 32, 33, 160, 288] {
         let mut bytes = *card.as_bytes();
         bytes[place] ^= 0x40;
         let mut broken = Card::from_bytes(bytes);
@@ -349,6 +349,9 @@ fn bytes_that_no_calls_build_are_refused() {
         assert_eq!(broken.add_area(1, 0x2000, 0x20ff, 0), Err(Refusal(8)));
         assert_eq!(broken.as_bytes(), &bytes);
     }
+    let mut bytes = *card.as_bytes();
+    bytes[CARD_SIZE - 1] ^= 0x40;
+    assert_eq!(Card::from_bytes(bytes).total(0), card.total(0));
     assert_eq!(
         card.clone().add_area(1, 0x10ff, 0x1000, 0),
         Err(Refusal(14))
