@@ -12,7 +12,7 @@ use Rattle.card_build.specs.declared.card.System.{System}
 use Rattle.card_build.specs.declared.card.Card.{Card}
 use Rattle.card_build.specs.Card.{systemOf, nodesOf}
 use Rattle.handset_bytes.specs.Layout.{countPlace, usedPlace, systemPlace, keyPlace, flagsPlace, layoutPlace, layoutNumber, cardSize}
-use Rattle.handset_bytes.specs.Field.{Field, fieldOf, fieldsPut, isCovered}
+use Rattle.handset_bytes.specs.Field.{Field, fieldOf, fieldsPut}
 use Rattle.handset_bytes.specs.Node.{nodeFields, nodeIn, isRecord}
 
 abbrev pub headFields : Card → List Field
@@ -81,8 +81,3 @@ noCard = record { nodes = replicate 64 rootNode; count = 0; used = 0; system = s
 -- RULES 15.2
 unfoldable pub cardDecoded : List ℕ → Card
 cardDecoded s = cond (isCard s) (cardIn s) noCard
-
--- whether a place is part of the card that bytes read as: any other is written as zero and never read
--- RULES 15.1
-unfoldable pub isUsed : List ℕ → ℕ → Bool
-isUsed s p = isCovered (cardFields (cardIn s)) p

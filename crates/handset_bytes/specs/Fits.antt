@@ -1,7 +1,6 @@
 -- The cards that bytes hold: their numbers fit the fields, and records past the count are unused.
 use Prim.Native.Nat.{ℕ, _-_, _≤_, _<_, _^_}
 use mathlib.Core.Path.{_≡_}
-use mathlib.Core.List.{List}
 use lib.ListN.{length, getD, drop, replicate}
 use lib.Signed.{mag}
 use Rattle.service_code.specs.declared.limit.Limit.{Limit}

@@ -12,7 +12,8 @@ use lib.Seq.{take-length}
 use borrow.Author.Tests.{le-leb, lt-leb, lt-ltb, le-ltb}
 use Rattle.byte_parts.specs.Part.{put}
 use Rattle.byte_parts.proofs.Part.{length-put, part-put, getD-part, getD-put-apart}
-use Rattle.handset_bytes.specs.Field.{Field, fieldsPut, isCovered}
+use Rattle.handset_bytes.specs.Field.{Field, fieldsPut}
+use Rattle.law_bytes.specs.Used.{isCovered}
 
 -- whether a place lies from a on, before b
 abbrev isBetween : ℕ → ℕ → ℕ → Bool

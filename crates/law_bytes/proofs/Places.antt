@@ -1,9 +1,9 @@
 -- A card's fields lie apart from each other, and inside its bytes.
-use mathlib.Core.Path.{_≡_, refl, sym, ap, _∙_}
-use mathlib.Core.Bool.{Bool, true, false, cond, _||_}
-use mathlib.Core.List.{List, [], _∷_, _++_}
-use mathlib.Core.Logic.{inl, inr}
-use Prim.Native.Nat.{ℕ, suc, _+_, _-_, _*_, _/_, _%_, _≤_, _<_}
+use mathlib.Core.Path.{_≡_, refl, _∙_}
+use mathlib.Core.Bool.{false, cond}
+use mathlib.Core.List.{List, [], _∷_}
+use mathlib.Core.Logic.{inr}
+use Prim.Native.Nat.{ℕ, _+_, _-_, _*_, _/_, _%_, _≤_, _<_}
 use native.Mathlib.Omega.{arith}
 use lib.Dec.{ltb}
 use lib.ListN.{length}
@@ -17,9 +17,10 @@ use Rattle.card_nodes.specs.declared.node.Node.{Node}
 use Rattle.card_build.specs.declared.card.Card.{Card}
 use Rattle.card_build.specs.Card.{nodesOf}
 use Rattle.handset_bytes.specs.Layout.{cardSize, kindPlace, depthPlace, codePlace, versionPlace}
-use Rattle.handset_bytes.specs.Field.{Field, fieldOf, isCovered}
+use Rattle.handset_bytes.specs.Field.{Field, fieldOf}
 use Rattle.handset_bytes.specs.Node.{kindByte, entryFields, nodeFields}
 use Rattle.handset_bytes.specs.Card.{headFields, nodesFields, cardFields}
+use Rattle.law_bytes.specs.Used.{isCovered}
 use Rattle.law_bytes.proofs.Fields.{ne-true, covered-append, uncovered, Under, under, Apart, apart-append, Rising, rising-clear, rising-apart, Within, within-append}
 
 -- which record a place belongs to, counted from 1; 0 for the header

@@ -10,7 +10,7 @@ use lib.Dec.{eqb}
 use lib.IntN.{ℤ, pos, negsuc}
 use lib.Signed.{mag}
 use lib.ListN.{length, getD}
-use borrow.Author.Tests.{lt-ltb, le-ltb, le-leb, leb-true, eqb-true, eqb-false}
+use borrow.Author.Tests.{lt-ltb, le-ltb, le-leb, leb-true}
 use Rattle.byte_parts.specs.Values.{Bytes}
 use Rattle.byte_parts.specs.Word.{wordAt, wordBytes, signedOf, wordOf}
 use Rattle.byte_parts.specs.Half.{halfBytes, halfAt}
@@ -21,7 +21,7 @@ use Rattle.card_nodes.specs.declared.node.Entry.{Entry}
 use Rattle.card_nodes.specs.declared.node.Entry.the-variants.{Area, Service}
 use Rattle.card_nodes.specs.declared.node.Node.{Node}
 use Rattle.handset_bytes.specs.Layout.{kindPlace, depthPlace, codePlace, startPlace, blocksPlace, versionPlace, generationPlace, upperPlace, lowerPlace}
-use Rattle.handset_bytes.specs.Field.{Field, fieldOf}
+use Rattle.handset_bytes.specs.Field.{fieldOf}
 use Rattle.handset_bytes.specs.Node.{kindByte, entryFields, nodeFields, entryIn, nodeIn, isRecord}
 use Rattle.handset_bytes.specs.Fits.{EntryFits, NodeFits}
 use Rattle.law_bytes.proofs.Fields.{Stands, AllStand}

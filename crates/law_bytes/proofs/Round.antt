@@ -3,28 +3,27 @@ use mathlib.Core.Path.{_≡_, refl, sym, ap, _∙_}
 use mathlib.Core.Bool.{Bool, true, false, cond, _&&_, and-eq-true-iff}
 use mathlib.Core.List.{List, [], _∷_, _++_}
 use mathlib.Core.Logic.{_↔_}
-use Prim.Native.Nat.{ℕ, zero, suc, _+_, _-_, _*_, _≤_, _<_, min}
+use Prim.Native.Nat.{ℕ, zero, suc, _+_, _-_, _≤_}
 use native.Mathlib.Omega.{arith}
-use lib.Dec.{eqb, leb}
-use lib.ListN.{length, getD, take, drop, replicate, length-append, length-take, length-replicate, take-append-drop}
-use lib.Seq.{take-at, ext-getD, getD-take}
-use borrow.Author.Tests.{eq-eqb, ne-eqb, eqb-true, le-leb, leb-true}
+use lib.Dec.{eqb}
+use lib.ListN.{length, getD, take, replicate, length-take, length-replicate, take-append-drop}
+use lib.Seq.{take-at, ext-getD}
+use borrow.Author.Tests.{eq-eqb, ne-eqb, le-leb}
 use Rattle.byte_parts.specs.Values.{flagOf, Bytes}
-use Rattle.byte_parts.specs.Half.{halfBytes, halfAt}
-use Rattle.byte_parts.proofs.Halves.{half-back, half-says}
+use Rattle.byte_parts.specs.Half.{halfAt}
 use Rattle.card_nodes.specs.declared.node.Node.{Node}
 use Rattle.card_nodes.specs.Node.{rootNode}
 use Rattle.card_sound.specs.Sound.{soundOf}
 use Rattle.card_build.specs.declared.card.Card.{Card}
 use Rattle.card_build.specs.Card.{isSound, nodesOf}
 use Rattle.handset_bytes.specs.Layout.{cardSize, countPlace, usedPlace, systemPlace, keyPlace, flagsPlace, layoutPlace, layoutNumber}
-use Rattle.handset_bytes.specs.Field.{Field, fieldOf, fieldsPut, isCovered}
 use Rattle.handset_bytes.specs.Node.{nodeFields, nodeIn, isRecord}
-use Rattle.handset_bytes.specs.Card.{headFields, nodesFields, cardFields, zeroBytes, cardBytes, nodesIn, areRecords, cardIn, isHeaded, isCard, noCard, cardDecoded, isUsed}
+use Rattle.handset_bytes.specs.Card.{headFields, nodesFields, cardFields, zeroBytes, cardBytes, nodesIn, areRecords, cardIn, isHeaded, isCard, cardDecoded}
 use Rattle.handset_bytes.specs.Fits.{NodeFits, Fits}
 use Rattle.handset_bytes.proofs.Puts.{fields-long}
-use Rattle.handset_bytes.proofs.Heads.{Headed, card-headed, nodes-count}
-use Rattle.law_bytes.proofs.Fields.{Stands, AllStand, stand-split, stand-append, written-stand, stood, Within}
+use Rattle.handset_bytes.proofs.Heads.{card-headed, nodes-count}
+use Rattle.law_bytes.specs.Used.{isUsed}
+use Rattle.law_bytes.proofs.Fields.{AllStand, stand-split, stand-append, written-stand, stood}
 use Rattle.law_bytes.proofs.Places.{card-apart, card-within}
 use Rattle.law_bytes.proofs.Records.{half-read, half-stands, node-read, node-stands}
 

@@ -1,22 +1,19 @@
 -- Bytes that agree on each place that is part of the card read alike: no other place is ever read.
-use mathlib.Core.Path.{_≡_, refl, sym, ap, _∙_}
-use mathlib.Core.Bool.{Bool, true, false, cond, _&&_}
-use mathlib.Core.List.{List, [], _∷_, _++_}
+use mathlib.Core.Path.{_≡_, refl, ap, _∙_}
+use mathlib.Core.Bool.{Bool, true, false, _&&_}
+use mathlib.Core.List.{List, _∷_}
 use Prim.Native.Nat.{ℕ, zero, suc, _+_, _-_, _≤_, _<_}
 use native.Mathlib.Omega.{arith}
 use lib.Dec.{eqb, leb}
 use lib.ListN.{length, getD}
-use Rattle.byte_parts.specs.Word.{wordAt, wordBytes, signedOf, wordOf}
+use Rattle.byte_parts.specs.Word.{wordAt, wordBytes}
 use Rattle.byte_parts.specs.Half.{halfBytes, halfAt}
-use Rattle.service_code.specs.declared.limit.Limit.the-variants.{Unlimited, Limited}
-use Rattle.card_nodes.specs.declared.node.Entry.{Entry}
-use Rattle.card_nodes.specs.declared.node.Entry.the-variants.{Area, Service}
-use Rattle.card_nodes.specs.declared.node.Node.{Node}
+use Rattle.card_nodes.specs.declared.node.Entry.the-variants.{Area}
 use Rattle.card_build.specs.Card.{nodesOf}
-use Rattle.handset_bytes.specs.Layout.{cardSize, countPlace, usedPlace, systemPlace, keyPlace, flagsPlace, layoutPlace, layoutNumber, kindPlace, depthPlace, codePlace, startPlace, blocksPlace, versionPlace, generationPlace, upperPlace, lowerPlace}
-use Rattle.handset_bytes.specs.Field.{Field, isCovered}
-use Rattle.handset_bytes.specs.Node.{kindByte, entryFields, nodeFields, entryIn, nodeIn, isRecord}
-use Rattle.handset_bytes.specs.Card.{headFields, nodesFields, cardFields, nodesIn, areRecords, cardIn, isHeaded, isCard, noCard, cardDecoded, isUsed}
+use Rattle.handset_bytes.specs.Layout.{countPlace, usedPlace, systemPlace, keyPlace, flagsPlace, layoutPlace, kindPlace, depthPlace, codePlace, startPlace, blocksPlace, versionPlace, generationPlace, upperPlace, lowerPlace}
+use Rattle.handset_bytes.specs.Node.{entryFields, nodeFields, entryIn, nodeIn, isRecord}
+use Rattle.handset_bytes.specs.Card.{headFields, nodesFields, cardFields, nodesIn, areRecords, cardIn, isHeaded, isCard, cardDecoded}
+use Rattle.law_bytes.specs.Used.{isUsed}
 use Rattle.law_bytes.proofs.Fields.{Under, all-under, under-split}
 use Rattle.law_bytes.proofs.Records.{entryBy}
 use Rattle.law_bytes.proofs.Round.{nodes-taken}
@@ -34,7 +31,12 @@ module _ (s t : List ℕ) where
   word-same : (at : ℕ) → ((p : ℕ) → at ≤ p → p < at + 4 → Same p) → wordAt s at ≡ wordAt t at
   unfolding wordAt
   word-same at u =
-      rw (u at (omega arith) (omega arith), u (at + 1) (omega arith) (omega arith), u (at + 2) (omega arith) (omega arith), u (at + 3) (omega arith) (omega arith))
+      rw (
+        u at (omega arith) (omega arith),
+        u (at + 1) (omega arith) (omega arith),
+        u (at + 2) (omega arith) (omega arith),
+        u (at + 3) (omega arith) (omega arith),
+      )
 
   module _ (i : ℕ) where
     -- what only an area has, or only a service

@@ -1,5 +1,5 @@
 -- The tests in the definition's order.
-use mathlib.Core.Path.{sym, ap, _∙_}
+use mathlib.Core.Path.{sym}
 use borrow.Author.Needs.{needs}
 use Rattle.byte_parts.proofs.Tests.{tests}
 use Rattle.handset_bytes.specs.Card.{isHeaded}

@@ -1,5 +1,4 @@
 -- Each field is what its call reads.
-use Prim.Native.Nat.{ℕ}
 use lib.ListN.{getD}
 use borrow.Author.Needs.{needs}
 use Rattle.handset_bytes.specs.Layout.{depthPlace}
