@@ -1,4 +1,4 @@
 // Inspects a card by standard input, and says on standard error where it could not be read or the answers could not be written.
 fn main() {
-    text_pull::report(inspect_shell::inspect(0));
+    text_pull::report(shell::inspect(0));
 }

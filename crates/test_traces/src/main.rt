@@ -10,7 +10,7 @@ fn one(n: u32) -> bool {
     io::write_all(1, b"== ");
     io::write_all(1, &name[0..4]);
     io::write_all(1, b"\n");
-    replay_shell::replay(file);
+    shell::replay(file);
     libc::close(file);
     true
 }
