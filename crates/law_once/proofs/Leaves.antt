@@ -15,7 +15,6 @@ use Rattle.byte_parts.proofs.spans.zero as byte_parts·zero
 use Rattle.byte_parts.proofs.spans.same as byte_parts·same
 use Rattle.byte_parts.proofs.half.half as byte_parts·half
 use Rattle.byte_parts.proofs.half.put_half as byte_parts·put-half
-use Rattle.byte_parts.proofs.word.byte as byte_parts·byte
 use Rattle.byte_parts.proofs.word.word as byte_parts·word
 use Rattle.byte_parts.proofs.word.put_word as byte_parts·put-word
 use Rattle.byte_parts.proofs.word.signed as byte_parts·signed
@@ -70,9 +69,6 @@ module _ {M : Type 1} (𝓤 : URA M) (H : Heap 𝓤) (A : Atoms 𝓤) (mem : Mem
 
   pub byte_parts·put-half-once : OneAnswer 𝓤 byte_parts·put-half.ended (byte_parts·put-half.clauses 𝓤 H A mem run)
   byte_parts·put-half-once κs a g r r′ ws ws′ = of-one 𝓤 (λ p q. (refl, λ i. (once p q i, (tt, (tt, tt)))))
-
-  pub byte_parts·byte-once : OneAnswer 𝓤 byte_parts·byte.ended (byte_parts·byte.clauses 𝓤 H A mem run)
-  byte_parts·byte-once κs a g r r′ ws ws′ = of-one 𝓤 (λ p q. (once (p .0) (q .0), refl))
 
   pub byte_parts·word-once : OneAnswer 𝓤 byte_parts·word.ended (byte_parts·word.clauses 𝓤 H A mem run)
   byte_parts·word-once κs a g r r′ ws ws′ = result 𝓤 refl
