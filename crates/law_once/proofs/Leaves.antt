@@ -10,6 +10,7 @@ use contract.Monad.{Fun}
 use Rattle.law_once.specs.One.{OneAnswer}
 use Rattle.law_once.proofs.Law.{once, of-one, of-two, result}
 use Rattle.byte_parts.proofs.spans.least as byte_parts·least
+use Rattle.byte_block.proofs.copy_block as byte_block·copy-block
 use Rattle.byte_parts.proofs.spans.copy as byte_parts·copy
 use Rattle.byte_parts.proofs.spans.zero as byte_parts·zero
 use Rattle.byte_parts.proofs.spans.same as byte_parts·same
@@ -54,6 +55,9 @@ use Rattle.rule_cyclic.proofs.apply_cyclic_write as rule_cyclic·apply-cyclic-w
 module _ {M : Type 1} (𝓤 : URA M) (H : Heap 𝓤) (A : Atoms 𝓤) (mem : Memory → SProp 𝓤) (run : Routine → Fun 𝓤) where
   pub byte_parts·least-once : OneAnswer 𝓤 byte_parts·least.ended (byte_parts·least.clauses 𝓤 H A mem run)
   byte_parts·least-once κs a g r r′ ws ws′ = result 𝓤 refl
+
+  pub byte_block·copy-block-once : OneAnswer 𝓤 byte_block·copy-block.ended (byte_block·copy-block.clauses 𝓤 H A mem run)
+  byte_block·copy-block-once κs a g r r′ ws ws′ = of-one 𝓤 (λ p q. (refl, λ i. (once p q i, (tt, (tt, (tt, tt))))))
 
   pub byte_parts·copy-once : OneAnswer 𝓤 byte_parts·copy.ended (byte_parts·copy.clauses 𝓤 H A mem run)
   byte_parts·copy-once κs a g r r′ ws ws′ = of-one 𝓤 (λ p q. (refl, λ i. (once p q i, (tt, (tt, (tt, (tt, tt)))))))

@@ -21,7 +21,7 @@ use Rattle.request_plan.specs.Serve.{stagingBy}
 use Rattle.request_plan.specs.declared.Reply.{Reply}
 use Rattle.law_once.specs.One.{Promised, OneAnswer, OneSeen}
 use Rattle.law_once.proofs.Law.{once, once-by, of-one, of-two, result}
-use Rattle.request_check.proofs.check.check_all as request_check·check-all
+use Rattle.request_check.proofs.walk.check_all as request_check·check-all
 use Rattle.request_check.proofs.table.row_of as request_check·row-of
 use Rattle.request_check.proofs.table.table_of as request_check·table-of
 use Rattle.request_rules.proofs.element_on as request_rules·element-on

@@ -78,7 +78,7 @@ module _ (code : ℕ) (a : ServiceAttribute) (write «open» : Bool) (mode : ℕ
 
 module _ (w : Row) (a : ServiceAttribute) (write «open» : Bool) (number mode : ℕ) where
   -- what the service lets a request do, then its block
-  service-is : thenCheck (accessCheck (w .code) a write «open» mode) (blockCheck (w .blocks) number) ≡ serviceCheck w a write «open» number mode
+  pub service-is : thenCheck (accessCheck (w .code) a write «open» mode) (blockCheck (w .blocks) number) ≡ serviceCheck w a write «open» number mode
   unfolding serviceCheck accessCheck
   service-is = by-key («open» && requiresKey (w .code)) (attributeCheck write a mode) (blockCheck (w .blocks) number)
     where

@@ -1,44 +1,58 @@
 -- One turn of the loop over the elements of a list.
-use mathlib.Core.Path.{_≡_, sym, _∙_}
+use mathlib.Core.Path.{_≡_, refl, sym, _∙_}
 use mathlib.Core.Bool.{Bool, true, false, cond}
 use mathlib.Core.List.{List}
-use Prim.Native.Nat.{ℕ, zero, suc, _+_, _-_, _<_}
+use Prim.Native.Nat.{ℕ, zero, suc, _+_, _-_, _/_, _%_, _<_}
 use native.Mathlib.Omega.{arith}
+use native.Mathlib.Decide.{decLt}
 use lib.Dec.{leb, ltb}
 use lib.ListN.{length, getD}
-use Rattle.answers.specs.declared.status.Fault.{Fault}
 use Rattle.block_list.specs.declared.element.BlockListElement.{BlockListElement}
 use Rattle.block_list.specs.declared.element.Unpacked.{Unpacked}
 use Rattle.block_list.specs.declared.element.Unpacked.the-variants.{Element, Short}
 use Rattle.block_list.specs.Element.{elementOf, unpackAt, elementsFrom}
+use Rattle.block_list.proofs.Cases.{past}
 use Rattle.block_list.proofs.ListsLaws.{elements-short, elements-element}
 use Rattle.request_check.specs.declared.table.Row.{Row}
 use Rattle.request_check.specs.declared.check.Check.{Check}
-use Rattle.request_check.specs.declared.check.Check.the-variants.{Passed, Failed}
-use Rattle.request_check.specs.declared.check.Checked.the-variants.{Passed as AllPassed, Failed as FailedAt}
-use Rattle.request_check.specs.Check.{elementCheck, checkedFrom}
+use Rattle.request_check.specs.declared.check.Check.the-variants.{Passed}
+use Rattle.request_check.specs.declared.check.Checked.the-variants.{Passed as AllPassed}
+use Rattle.request_check.specs.Check.{elementCheck, nextCheck, checkedFrom}
 
--- an index has four bits
-pub index-small : (s : List ℕ) (at : ℕ) {e : BlockListElement} {next : ℕ} → unpackAt s at ≡ Element e next → e .index < 16
+-- an element's index and mode are those of its first byte
+pub head-is : (s : List ℕ) (at : ℕ) {e : BlockListElement} {next : ℕ} → unpackAt s at ≡ Element e next →
+    (e .index ≡ getD s at 0 % 16) × (e .mode ≡ getD s at 0 / 16 % 8)
 unfolding unpackAt
-index-small s at h = read (leb (length s) at) (ltb (getD s at 0) 0x80) (ltb (length s) (at + 3)) (ltb (length s) (at + 2)) _ _ _ _ h
+head-is s at h = read (leb (length s) at) (ltb (getD s at 0) 0x80) (ltb (length s) (at + 3)) (ltb (length s) (at + 2)) _ _ _ _ h
   where
     -- too few bytes are no element
     none : {A : Type 0} {e : BlockListElement} {next : ℕ} → Short ≡ Element e next → A
     none g = let z : _≡_ {A = ℕ} 0 1 = cc in absurd (omega arith)
 
-    four : (number : ℕ) {e : BlockListElement} {n next : ℕ} → Element (elementOf (getD s at 0) number) n ≡ Element e next → e .index < 16
-    four number {e} g = let z : elementOf (getD s at 0) number ≡ e = cc in rw (sym z) (omega arith)
+    four : (number : ℕ) {e : BlockListElement} {n next : ℕ} → Element (elementOf (getD s at 0) number) n ≡ Element e next →
+        (e .index ≡ getD s at 0 % 16) × (e .mode ≡ getD s at 0 / 16 % 8)
+    four number {e} g = let z : elementOf (getD s at 0) number ≡ e = cc in rw (sym z) (refl, refl)
 
     read : (a b c d : Bool) (x y p q : ℕ) {e : BlockListElement} {next : ℕ} →
         cond a Short (cond b (cond c Short (Element (elementOf (getD s at 0) x) p)) (cond d Short (Element (elementOf (getD s at 0) y) q)))
         ≡ Element e next →
-        e .index < 16
+        (e .index ≡ getD s at 0 % 16) × (e .mode ≡ getD s at 0 / 16 % 8)
     read true b c d x y p q g = none g
     read false true true d x y p q g = none g
     read false true false d x y p q g = four x g
     read false false c true x y p q g = none g
     read false false c false x y p q g = four y g
+
+-- an index has four bits
+pub index-small : (s : List ℕ) (at : ℕ) {e : BlockListElement} {next : ℕ} → unpackAt s at ≡ Element e next → e .index < 16
+index-small s at h = omega (arith, head-is s at h .0)
+
+-- where an element stands, there is a byte
+pub stands : (s : List ℕ) (at : ℕ) {e : BlockListElement} {next : ℕ} → unpackAt s at ≡ Element e next → at < length s
+stands s at {e} {next} h = elim (decLt at (length s)) [
+  | yes p ↦ p
+  | no p ↦ let k : unpackAt s at ≡ Short = past s at (omega arith) in let z : _≡_ {A = ℕ} 0 1 = cc in absurd (omega arith)
+]
 
 module _ (rows : List Row) (write «open» : Bool) (i : ℕ) (s : List ℕ) (at : ℕ) where
   -- where no element is left, none fails
@@ -53,13 +67,13 @@ module _ (rows : List Row) (write «open» : Bool) (i : ℕ) (s : List ℕ) (at 
     cut-short n h short = rw (elements-short s at n h (sym told ∙ short))
 
     module _ {n next : ℕ} {e : BlockListElement} (here : u ≡ Element e next) {c : Check} (checked : c ≡ elementCheck rows write «open» e) where
-      -- an element that fails answers for all
-      pub fails : {f : Fault} → zero < n → c ≡ Failed f → checkedFrom rows write «open» i (elementsFrom s n at) ≡ FailedAt i f
+      -- an element is the first to be asked
+      pub asked : {m : ℕ} → n ≡ suc m →
+          checkedFrom rows write «open» i (elementsFrom s n at) ≡ nextCheck i c (checkedFrom rows write «open» (i + 1) (elementsFrom s m next))
       unfolding checkedFrom
-      fails h k = let left : n ≡ suc (n - 1) = omega arith in rw (elements-element s at left (sym told ∙ here), sym checked ∙ k)
+      asked left = rw (elements-element s at left (sym told ∙ here), sym checked)
 
       -- one that passes leaves the answer to the rest
       pub passes : {m : ℕ} → n ≡ suc m → c ≡ Passed →
           checkedFrom rows write «open» i (elementsFrom s n at) ≡ checkedFrom rows write «open» (i + 1) (elementsFrom s m next)
-      unfolding checkedFrom
-      passes left k = rw (elements-element s at left (sym told ∙ here), sym checked ∙ k)
+      passes left k = asked left ∙ rw k

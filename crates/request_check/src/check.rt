@@ -1,20 +1,15 @@
 // The checks of a block list element, in their order (`validate_block_element` of the Rust).
 use crate::table::Row;
-use crate::table::Table;
 use answers::status::Fault;
-use block_list::element;
 use block_list::element::BlockListElement;
-use block_list::element::Unpacked;
 use service_code::code::Decoded;
 use service_code::code::ServiceAttribute;
 use service_code::code::ServiceCode;
 ghost use mathlib.Core.Path.{_≡_};
 ghost use mathlib.Core.Bool.{true, not, _&&_};
 ghost use lib.Dec.{eqb};
-ghost use lib.ListN.{take};
 ghost use Rattle.service_code.specs.Code.{requiresKey, allowsCashback};
-ghost use Rattle.block_list.specs.Element.{elementsFrom};
-ghost use Rattle.request_check.specs.Check.{modeAllowed, attributeCheck, accessCheck, blockCheck, serviceCheck, definedCheck, rowCheck, namedCheck, checkedFrom};
+ghost use Rattle.request_check.specs.Check.{modeAllowed, attributeCheck, accessCheck, blockCheck, serviceCheck, definedCheck, rowCheck, namedCheck};
 
 // How an element's check ended.
 pub enum Check {
@@ -132,7 +127,7 @@ fn defined_check(row: Row, write: bool, open: bool, number: u16, mode: u8) -> Ch
 }
 
 // Checks an element's mode, then its number against the row that it names.
-fn row_check(row: Row, write: bool, open: bool, number: u16, mode: u8) -> Check
+pub(crate) fn row_check(row: Row, write: bool, open: bool, number: u16, mode: u8) -> Check
     ensures { λ r. ⌜ r ≡ rowCheck row write «open» number mode ⌝ }
 {
     if !mode_allowed(write, mode) {
@@ -142,31 +137,17 @@ fn row_check(row: Row, write: bool, open: bool, number: u16, mode: u8) -> Check
 }
 
 // Checks one element against the row at its index, of which the first `count` are the codes'.
-fn element_check(row: Row, count: usize, write: bool, open: bool, e: BlockListElement) -> Check
+pub(crate) fn element_check(
+    row: Row,
+    count: usize,
+    write: bool,
+    open: bool,
+    e: BlockListElement,
+) -> Check
     ensures { λ r. ⌜ r ≡ namedCheck count row write «open» e ⌝ }
 {
     if count <= e.index as usize {
         return Check::Failed(Fault::ListIndex); // A3
     }
     row_check(row, write, open, e.number, e.mode)
-}
-
-// Checks the counted elements of a list in order, and stops at the first that fails.
-pub fn check_all(table: Table, write: bool, open: bool, list: &[u8], count: usize) -> Checked
-    ensures { λ r. ⌜ r ≡ checkedFrom (take (table .count) (table .rows)) write «open» 0 (elementsFrom (now (list .entry)) count 0) ⌝ }
-{
-    let mut at = 0;
-    let mut i = 0;
-    while i < count {
-        let Unpacked::Element { element: e, next } = element::unpack(list, at) else {
-            return Checked::Passed;
-        };
-        let row = table.rows[e.index as usize];
-        if let Check::Failed(fault) = element_check(row, table.count, write, open, e) {
-            return Checked::Failed { index: i, fault };
-        }
-        at = next;
-        i += 1;
-    }
-    Checked::Passed
 }

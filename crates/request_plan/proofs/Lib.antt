@@ -1,6 +1,6 @@
 -- What the functions' proofs cite; what callers may is pub.
 pub mod Tests
-mod Plans
+pub mod Plans
 pub mod Serves
 pub mod Left
 pub mod Ready

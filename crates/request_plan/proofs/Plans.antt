@@ -1,5 +1,5 @@
 -- What a request is judged to be, in each case.
-use mathlib.Core.Path.{_≡_, refl, sym, _∙_, ap}
+use mathlib.Core.Path.{_≡_, refl, sym, _∙_}
 use mathlib.Core.Bool.{Bool, true, false, cond, not}
 use mathlib.Core.List.{List}
 use Prim.Native.Nat.{ℕ, _*_}
@@ -12,23 +12,23 @@ use Rattle.block_list.specs.Element.{endsAfter}
 use Rattle.request_plan.specs.declared.Sizes.{Sizes}
 use Rattle.request_plan.specs.declared.Judged.{Judged}
 use Rattle.request_plan.specs.declared.Judged.the-variants.{Refused as NotFit}
-use Rattle.request_plan.specs.Plan.{boundsJudged, writeJudged, readJudged, lentJudged, judgedWith}
+use Rattle.request_plan.specs.Plan.{boundsJudged, writeJudged, readJudged, lentJudged, judgedWith, bounded, judgedEnding}
 
-module _ (list : List ℕ) (n : Sizes) where
+module _ (ends : Bool) (n : Sizes) where
   -- too many elements
-  pub elements-refused : ltb 512 (n .count) ≡ true → Refused TooManyElements ≡ boundsJudged list n
+  pub elements-refused : ltb 512 (n .count) ≡ true → Refused TooManyElements ≡ boundsJudged ends n
   unfolding boundsJudged
   elements-refused h = rw h
 
   module _ (f : ltb 512 (n .count) ≡ false) where
     -- too many codes
-    pub codes-refused : ltb 16 (n .codes) ≡ true → Refused TooManyCodes ≡ boundsJudged list n
+    pub codes-refused : ltb 16 (n .codes) ≡ true → Refused TooManyCodes ≡ boundsJudged ends n
     unfolding boundsJudged
     codes-refused h = rw (f, h)
 
     module _ (g : ltb 16 (n .codes) ≡ false) where
-      -- The list's own length decides.
-      pub by-list : {a : Answer} → a ≡ cond (not (endsAfter list (n .count))) (Refused ListLength) Done → a ≡ boundsJudged list n
+      -- Whether the list ends decides.
+      pub by-list : {a : Answer} → a ≡ cond (not ends) (Refused ListLength) Done → a ≡ boundsJudged ends n
       unfolding boundsJudged
       by-list h = rw (f, g) h
 
@@ -49,35 +49,35 @@ module _ (write : Bool) (n : Sizes) where
     unfolding lentJudged writeJudged readJudged
     to-read w k = rw (a, w) k
 
-module _ (sound write : Bool) (list : List ℕ) (n : Sizes) where
+module _ (sound write ends : Bool) (n : Sizes) where
   -- a card that was not built
-  pub not-built : sound ≡ false → NotFit NotBuilt ≡ judgedWith sound write list n
-  unfolding judgedWith
+  pub not-built : sound ≡ false → NotFit NotBuilt ≡ judgedEnding sound write ends n
+  unfolding judgedEnding
   not-built s = rw s
 
-  -- what is out of bounds is refused, and of what is not the rest is judged
-  abbrev bounded : Answer → Judged → Judged
-  bounded (Refused x) more = NotFit x
-  bounded Done more = more
-
-  module _ (s : sound ≡ true) {b : Answer} (told : b ≡ boundsJudged list n) where
-    -- the bounds, then what is lent
-    bounds-lent : bounded (boundsJudged list n) (lentJudged write n) ≡ judgedWith sound write list n
-    unfolding judgedWith boundsJudged lentJudged
-    bounds-lent = rw s (by-tests (ltb 512 (n .count)) (ltb 16 (n .codes)) (endsAfter list (n .count)) (lentJudged write n))
-      where
-        by-tests : (e c l : Bool) (more : Judged) →
-            bounded (cond e (Refused TooManyElements) (cond c (Refused TooManyCodes) (cond (not l) (Refused ListLength) Done))) more
-            ≡ cond e (NotFit TooManyElements) (cond c (NotFit TooManyCodes) (cond (not l) (NotFit ListLength) more))
-        by-tests true c l more = refl
-        by-tests false true l more = refl
-        by-tests false false true more = refl
-        by-tests false false false more = refl
-
+  module _ (s : sound ≡ true) {b : Answer} (told : b ≡ boundsJudged ends n) where
     -- out of bounds
-    pub no-bounds : {x : Refusal} → b ≡ Refused x → NotFit x ≡ judgedWith sound write list n
-    no-bounds h = ap (λ (k : Answer). bounded k (lentJudged write n)) (sym h ∙ told) ∙ bounds-lent
+    pub no-bounds : {x : Refusal} → b ≡ Refused x → NotFit x ≡ judgedEnding sound write ends n
+    unfolding judgedEnding
+    no-bounds h = rw (s, sym told ∙ h)
 
     -- in bounds
-    pub to-lent : {j : Judged} → b ≡ Done → j ≡ lentJudged write n → j ≡ judgedWith sound write list n
-    to-lent h k = k ∙ ap (λ (k : Answer). bounded k (lentJudged write n)) (sym h ∙ told) ∙ bounds-lent
+    pub to-lent : {j : Judged} → b ≡ Done → j ≡ lentJudged write n → j ≡ judgedEnding sound write ends n
+    unfolding judgedEnding
+    to-lent h k = rw (s, sym told ∙ h) k
+
+-- by the list itself
+pub ending-with : (sound write : Bool) (list : List ℕ) (n : Sizes) → judgedEnding sound write (endsAfter list (n .count)) n ≡ judgedWith sound write list n
+unfolding judgedEnding judgedWith boundsJudged lentJudged
+ending-with sound write list n =
+    by-tests sound (ltb 512 (n .count)) (ltb 16 (n .codes)) (endsAfter list (n .count))
+    (cond (ltb (n .arena) (16 * n .used)) (NotFit ShortArena) (cond write (writeJudged n) (readJudged n)))
+  where
+    by-tests : (s e c l : Bool) (more : Judged) →
+        cond (not s) (NotFit NotBuilt) (bounded (cond e (Refused TooManyElements) (cond c (Refused TooManyCodes) (cond (not l) (Refused ListLength) Done))) more)
+        ≡ cond (not s) (NotFit NotBuilt) (cond e (NotFit TooManyElements) (cond c (NotFit TooManyCodes) (cond (not l) (NotFit ListLength) more)))
+    by-tests false e c l more = refl
+    by-tests true true c l more = refl
+    by-tests true false true l more = refl
+    by-tests true false false true more = refl
+    by-tests true false false false more = refl

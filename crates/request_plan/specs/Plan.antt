@@ -37,12 +37,12 @@ rowsIn c r = rowsOf (nodesOf c) (r .codes)
 abbrev pub elementsIn : Request → List BlockListElement
 elementsIn r = elementsFrom (r .list) (r .count) 0
 
--- 1, 2, 3
-unfoldable pub boundsJudged : List ℕ → Sizes → Answer
-boundsJudged list n =
+-- 1, 2, 3, of a list that ends where its elements do, or not
+unfoldable pub boundsJudged : Bool → Sizes → Answer
+boundsJudged ends n =
     cond (ltb mostElements (n .count)) (OutOfBounds TooManyElements)
     (cond (ltb mostCodes (n .codes)) (OutOfBounds TooManyCodes)
-    (cond (not (endsAfter list (n .count))) (OutOfBounds ListLength)
+    (cond (not ends) (OutOfBounds ListLength)
     Within))
 
 -- 4 (staging: 16 bytes per block in use), then FF AC (data: 16 bytes per element)
@@ -76,6 +76,15 @@ judgedWith sound write list n =
     (cond (not (endsAfter list (n .count))) (NotFit ListLength)
     (cond (isShort (n .arena) (n .used)) (NotFit ShortArena)
     (cond write (writeJudged n) (readJudged n))))))
+
+-- what is out of bounds is refused, and of what is not the rest is judged
+abbrev pub bounded : Answer → Judged → Judged
+bounded (OutOfBounds x) more = NotFit x
+bounded Within more = more
+
+-- the same, of a list of which it is known whether it ends where its elements do
+unfoldable pub judgedEnding : Bool → Bool → Bool → Sizes → Judged
+judgedEnding sound write ends n = cond (not sound) (NotFit NotBuilt) (bounded (boundsJudged ends n) (lentJudged write n))
 
 -- how a request is judged on an arena of so many bytes
 abbrev pub judgedOf : Card → ℕ → Request → Judged

@@ -3,7 +3,6 @@ use answers::refusal::Answer;
 use answers::refusal::Refusal;
 use answers::status;
 use answers::status::Fault;
-use block_list::reader;
 use byte_parts::sizes::MOST_CODES;
 use byte_parts::sizes::MOST_ELEMENTS;
 use card_build::card;
@@ -11,11 +10,10 @@ ghost use mathlib.Core.Path.{_≡_};
 ghost use mathlib.Core.Bool.{cond, not};
 ghost use Rattle.byte_parts.specs.Sizes.{mostElements, mostCodes};
 ghost use Rattle.answers.specs.Refusal.{refusalNumber};
-ghost use Rattle.block_list.specs.Element.{endsAfter};
 ghost use Rattle.card_build.specs.Card.{tooShort};
 ghost use Rattle.request_plan.specs.Request.{flag1In, flag2In, responseOf, causeIn};
 ghost use lib.Dec.{ltb};
-ghost use Rattle.request_plan.specs.Plan.{boundsJudged, writeJudged, readJudged, lentJudged, judgedWith};
+ghost use Rattle.request_plan.specs.Plan.{boundsJudged, writeJudged, readJudged, lentJudged, judgedEnding};
 
 // The reply to a request. Only `Done` is a request carried out.
 pub enum Reply {
@@ -124,19 +122,19 @@ fn many_codes(codes: usize) -> bool
     MOST_CODES < codes
 }
 
-// The refusal of a list that is not as many elements as are counted, or none.
-fn list_judged(list: &[u8], sizes: Sizes) -> Answer
-    ensures { λ r. ⌜ r ≡ cond (not (endsAfter (now (list .entry)) (sizes .count))) (Answer.Refused Refusal.ListLength) Answer.Done ⌝ }
+// The refusal of a list that does not end where its elements do, or none.
+fn list_judged(ends: bool) -> Answer
+    ensures { λ r. ⌜ r ≡ cond (not ends) (Answer.Refused Refusal.ListLength) Answer.Done ⌝ }
 {
-    if !reader::list_ends(list, sizes.count) {
+    if !ends {
         return Answer::Refused(Refusal::ListLength); // 3: the list ends early, or runs on
     }
     Answer::Done
 }
 
-// Judges the counts and the list of a request: 1, 2, 3.
-fn bounds_judged(list: &[u8], sizes: Sizes) -> Answer
-    ensures { λ r. ⌜ r ≡ boundsJudged (now (list .entry)) sizes ⌝ }
+// Judges the counts of a request, and whether its list ends: 1, 2, 3.
+fn bounds_judged(ends: bool, sizes: Sizes) -> Answer
+    ensures { λ r. ⌜ r ≡ boundsJudged ends sizes ⌝ }
 {
     if many_elements(sizes.count) {
         return Answer::Refused(Refusal::TooManyElements); // 1
@@ -144,7 +142,7 @@ fn bounds_judged(list: &[u8], sizes: Sizes) -> Answer
     if many_codes(sizes.codes) {
         return Answer::Refused(Refusal::TooManyCodes); // 2
     }
-    list_judged(list, sizes) // 3
+    list_judged(ends) // 3
 }
 
 // Whether a write has data for each of its elements.
@@ -191,14 +189,15 @@ fn lent_judged(write: bool, sizes: Sizes) -> Judged
     }
 }
 
-// Judges a request of a card that is `sound` or not: 8, then its counts and its list, then what is lent. No stored byte is looked at.
-pub fn judge(sound: bool, write: bool, list: &[u8], sizes: Sizes) -> Judged
-    ensures { λ r. ⌜ r ≡ judgedWith sound write (now (list .entry)) sizes ⌝ }
+// Judges a request of a card that is `sound` or not, whose list `ends` where its elements do or not: 8, then its counts and its list, then
+// what is lent. No stored byte is looked at.
+pub fn judge(sound: bool, write: bool, ends: bool, sizes: Sizes) -> Judged
+    ensures { λ r. ⌜ r ≡ judgedEnding sound write ends sizes ⌝ }
 {
     if !sound {
         return Judged::Refused(Refusal::NotBuilt); // 8
     }
-    if let Answer::Refused(refusal) = bounds_judged(list, sizes) {
+    if let Answer::Refused(refusal) = bounds_judged(ends, sizes) {
         return Judged::Refused(refusal);
     }
     lent_judged(write, sizes)

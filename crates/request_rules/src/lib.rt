@@ -2,7 +2,6 @@
 use answers::status::Fault;
 use answers::status::Written;
 use byte_parts::sizes::BLOCK_SIZE;
-use byte_parts::spans;
 use request_check::table::Row;
 use rule_purse::bytes;
 use rule_purse::fields::PurseOperation;
@@ -70,7 +69,7 @@ fn element_by(
 {
     match attribute {
         ServiceAttribute::RandomReadWrite => {
-            spans::copy(store, BLOCK_SIZE * (number as usize), block, 0, 16);
+            byte_block::copy_block(store, BLOCK_SIZE * (number as usize), block, 0);
             Written::Done
         }
         ServiceAttribute::RandomReadOnly => Written::Failed(Fault::ReadOnly),

@@ -1,4 +1,5 @@
 mod Copied
 mod ReadingLaws
+mod SettleLaws
 mod Stores
 mod WritingLaws

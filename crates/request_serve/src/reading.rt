@@ -1,13 +1,11 @@
 // Reading: all elements are checked, then their blocks copied (`validate_read_block` of the Rust).
+use crate::settle;
 use block_list::element;
 use block_list::element::BlockListElement;
 use block_list::element::Unpacked;
 use byte_parts::sizes::BLOCK_SIZE;
-use byte_parts::spans;
 use card_build::card::Card;
-use request_check::check;
 use request_check::check::Checked;
-use request_check::table;
 use request_check::table::Row;
 use request_check::table::Table;
 use request_plan::Judged;
@@ -43,7 +41,7 @@ fn copy_blocks(out: &mut [u8], arena: &[u8], table: Table, list: &[u8], count: u
         };
         let own = table.rows[e.index as usize];
         let from = block_at(own, e);
-        spans::copy(out, BLOCK_SIZE * i, arena, from, 16);
+        byte_block::copy_block(out, BLOCK_SIZE * i, arena, from);
         at = next;
         i += 1;
     }
@@ -71,15 +69,17 @@ pub fn read(
         data: 0,
         room: out.len(),
     };
-    match request_plan::judge(sound, false, list, sizes) {
+    let settled = settle::settle(sound, card, false, open, codes, list, sizes);
+    let judged = settled.judged;
+    match judged {
         Judged::Refused(refusal) => Reply::Refused(refusal),
         Judged::ShortData => Reply::ShortData,
         Judged::Fit => {
-            let nodes = card.nodes;
-            let table = table::table_of(nodes, card.count, codes);
-            match check::check_all(table, false, open, list, count as usize) {
+            let checked = settled.checked;
+            match checked {
                 Checked::Failed { index, fault } => Reply::Failed { index, fault },
                 Checked::Passed => {
+                    let table = settled.table;
                     copy_blocks(out, arena, table, list, count as usize);
                     Reply::Done
                 }

@@ -1,11 +1,11 @@
 // Writing: all elements are checked, then the runs work on the stores that the codes name, staged, which are committed
 // only if every run passes.
+use crate::settle;
+use crate::settle::Settled;
 use byte_parts::sizes::BLOCK_SIZE;
 use byte_parts::spans;
 use card_build::card::Card;
-use request_check::check;
 use request_check::check::Checked;
-use request_check::table;
 use request_check::table::Table;
 use request_plan::Judged;
 use request_plan::Reply;
@@ -13,6 +13,7 @@ use request_plan::Sizes;
 use request_runs::run;
 use request_runs::run::Applied;
 ghost use mathlib.Core.Path.{_≡_};
+ghost use mathlib.Core.Bool.{true};
 ghost use Prim.Native.Nat.{_*_, _≤_};
 ghost use lib.ListN.{length, take};
 ghost use Rattle.byte_parts.specs.Sizes.{blockSize};
@@ -24,7 +25,7 @@ ghost use Rattle.request_plan.specs.Request.{writeRequest};
 ghost use Rattle.request_plan.specs.Plan.{judgedOf};
 ghost use Rattle.request_plan.specs.Serve.{serve, committed};
 ghost use Rattle.request_serve.specs.Stores.{AllIn, storesPut};
-ghost use Rattle.request_serve.specs.Steps.{rowsHeld, stagingLeft, SameFrom, WriteLeaves};
+ghost use Rattle.request_serve.specs.Steps.{rowsHeld, stagingLeft, SameFrom, WriteLeaves, Looked};
 
 // Copies the stores of the table's rows to where they stand in the other slice.
 fn copy_stores(to: &mut [u8], from: &[u8], table: Table)
@@ -64,9 +65,10 @@ fn carry_out(
     }
 }
 
-// Checks the elements of a write that fits, then carries it out.
+// Carries out a write that fits, if its elements passed their checks.
 fn checked_write(
     card: Card,
+    settled: Settled,
     arena: &mut [u8],
     staging: &mut [u8],
     open: bool,
@@ -75,12 +77,12 @@ fn checked_write(
     count: usize,
     data: &[u8],
 ) -> Reply
-    requires { ⌜ judgedOf card (length (now arena)) (writeRequest «open» (now codes) count (now list) (now «data») (length (now staging))) ≡ Fit ⌝ }
+    requires { ⌜ (judgedOf card (length (now arena)) (writeRequest «open» (now codes) count (now list) (now «data») (length (now staging))) ≡ Fit) × Looked card true «open» (now codes) (now list) count settled ⌝ }
     ensures { λ r. ⌜ WriteLeaves (serve card (now (arena .entry)) (writeRequest «open» (now (codes .entry)) count (now (list .entry)) (now («data» .entry)) (length (now (staging .entry))))) r (now (arena .exit)) (SameFrom (blockSize * card .used) (now (staging .exit)) (now (staging .entry))) ⌝ }
 {
-    let nodes = card.nodes;
-    let table = table::table_of(nodes, card.count, codes);
-    match check::check_all(table, true, open, list, count) {
+    let checked = settled.checked;
+    let table = settled.table;
+    match checked {
         Checked::Failed { index, fault } => Reply::Failed { index, fault },
         Checked::Passed => carry_out(
             arena,
@@ -94,9 +96,10 @@ fn checked_write(
     }
 }
 
-// Checks and carries out a write that fits, then zeroes the staging for all blocks in use, so that no other card's bytes stay in it.
+// Carries out a write that fits, if its elements passed their checks, then zeroes the staging for all blocks in use, so that no other card's bytes stay in it.
 fn wiped_write(
     card: Card,
+    settled: Settled,
     arena: &mut [u8],
     staging: &mut [u8],
     open: bool,
@@ -105,10 +108,20 @@ fn wiped_write(
     count: usize,
     data: &[u8],
 ) -> Reply
-    requires { ⌜ judgedOf card (length (now arena)) (writeRequest «open» (now codes) count (now list) (now «data») (length (now staging))) ≡ Fit ⌝ }
+    requires { ⌜ (judgedOf card (length (now arena)) (writeRequest «open» (now codes) count (now list) (now «data») (length (now staging))) ≡ Fit) × Looked card true «open» (now codes) (now list) count settled ⌝ }
     ensures { λ reply. ⌜ WriteLeaves (serve card (now (arena .entry)) (writeRequest «open» (now (codes .entry)) count (now (list .entry)) (now («data» .entry)) (length (now (staging .entry))))) reply (now (arena .exit)) (now (staging .exit) ≡ stagingLeft card reply (now (staging .entry))) ⌝ }
 {
-    let reply = checked_write(card, arena, staging, open, codes, list, count, data);
+    let reply = checked_write(
+        card,
+        settled,
+        arena,
+        staging,
+        open,
+        codes,
+        list,
+        count,
+        data,
+    );
     spans::zero(staging, 0, BLOCK_SIZE * card.used); // wherever a store was staged
     reply
 }
@@ -137,7 +150,9 @@ pub fn write(
         data: data.len(),
         room: staging.len(),
     };
-    match request_plan::judge(sound, true, list, sizes) {
+    let settled = settle::settle(sound, card, true, open, codes, list, sizes);
+    let judged = settled.judged;
+    match judged {
         Judged::Refused(refusal) => Reply::Refused(refusal),
         Judged::ShortData => {
             spans::zero(staging, 0, BLOCK_SIZE * card.used); // as after every status pair
@@ -146,6 +161,7 @@ pub fn write(
         Judged::Fit => {
             wiped_write(
                 card,
+                settled,
                 arena,
                 staging,
                 open,

@@ -8,7 +8,7 @@ use Rattle.request_rules.proofs.element_by.Tie as tie
 
 returns : tie.Need-returns
 unfolding elementBy
-returns c = rw (c .before .before .before .before .enum-told .given .1) (refl, c .before .before .copy .ensures)
+returns c = rw (c .before .before .before .before .enum-told .given .1) (refl, c .before .before .copy-block .ensures)
 
 returns-2 : tie.Need-returns-2
 unfolding elementBy

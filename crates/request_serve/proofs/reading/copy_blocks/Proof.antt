@@ -54,8 +54,8 @@ own-row s = ready-row (start-of s .args .t3) (sixteen (start-of s)) (ready s)
 loop-holds : tie.Need-loop-holds Inv-loop μ-loop
 loop-holds c = begun _ _ _ _ _ (c .before .before .before .pre .1)
 
-copy-requires : tie.Need-copy-requires Inv-loop μ-loop
-copy-requires c κs =
+copy-block-requires : tie.Need-copy-block-requires Inv-loop μ-loop
+copy-block-requires c κs =
     let b = c .before in
     let s = b .before .before in
     let u = unpack-of s in
@@ -69,7 +69,7 @@ loop-again c =
     let s = b .before .before in
     let u = unpack-of s in
     let l = u .before .before .loop in
-    turn (l .inv) (u .unpack .ensures) (u .before .loop-test .taken) (s .before .before .e .given .1) (own-row s _) (b .block-at .ensures) (c .before .before .copy .ensures)
+    turn (l .inv) (u .unpack .ensures) (u .before .loop-test .taken) (s .before .before .e .given .1) (own-row s _) (b .block-at .ensures) (c .before .before .copy-block .ensures)
 
 returns : tie.Need-returns Inv-loop μ-loop
 returns c = over (c .before .loop .inv) (omega arith)
@@ -94,7 +94,7 @@ copy-blocks-spec =
     (λ c. small c)
     (λ c κs. search needs)
     (λ c. search needs)
-    copy-requires
+    copy-block-requires
     (λ c. search needs)
     (λ c. search needs)
     loop-again

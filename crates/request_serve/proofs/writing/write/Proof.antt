@@ -12,8 +12,8 @@ use Rattle.request_serve.proofs.WritingLaws.{short-fits}
 use Rattle.request_serve.proofs.writing.write.Statement.{statement}
 use Rattle.request_serve.proofs.writing.write.Tie as tie
 
--- the function's entry, from the judgement
-abbrev start-of : tie.After-judge → tie.Start
+-- the function's entry, from what is settled
+abbrev start-of : tie.After-settle → tie.Start
 start-of c = c .before .before .before .before .before .before .before
 
 -- the request
@@ -21,8 +21,8 @@ abbrev asked : tie.Start → Request
 asked s = let a = s .args in writeRequest (a .«open») (now (a .codes)) (a .count) (now (a .list)) (now (a .«data»)) (length (now (a .staging)))
 
 -- how it is judged
-judged : (c : tie.After-judge) → let s = start-of c in judgedOf (s .args .card) (length (now (s .args .arena))) (asked s) ≡ c .judge .result
-judged c = sym (rw (c .before .is-sound .ensures) at (c .judge .ensures))
+judged : (c : tie.After-settle) → let s = start-of c in judgedOf (s .args .card) (length (now (s .args .arena))) (asked s) ≡ c .settle .result .judged
+judged c = sym (rw (c .before .is-sound .ensures) at (c .settle .ensures .0))
 
 -- too few data
 no-data : (c : tie.After-enum-told) → let s = start-of (c .before .before) in judgedOf (s .args .card) (length (now (s .args .arena))) (asked s) ≡ NoData
@@ -43,11 +43,11 @@ zero-requires c κs =
     omega (arith, short-fits (st .args .card) (length (now (st .args .arena))) (asked st) refl (no-data (c .before .before)))
 
 wiped-write-requires : tie.Need-wiped-write-requires
-wiped-write-requires c κs = fit (c .before .before)
+wiped-write-requires c κs = (fit (c .before .before), c .before .before .before .before .settle .ensures .1)
 
 returns : tie.Need-returns
 returns c =
-    let o = unchanged (refused _ _ _ (judged (c .before .before .before) ∙ c .before .refusal .given .1)) in
+    let o = unchanged (refused _ _ _ (judged (c .before .before .before) ∙ c .before .judged .given .1)) in
     (o .0, (o .1, refl))
 
 returns-2 : tie.Need-returns-2
