@@ -3,7 +3,7 @@ ghost use Rattle.std.specs.Prelude.{◌≡◌};
 ghost use Rattle.answers.specs.Refusal.{refusal_number, number_from11};
 
 // Why a call is refused. 11 to 19 have the names that the Rust has for them; the others are for what the Rust never meets.
-#[derive(Drop)]
+#[derive(Clone, Copy)]
 pub enum Refusal {
     // More than 512 elements.
     TooManyElements,
@@ -57,14 +57,14 @@ pub enum Refusal {
 }
 
 // How a call ended.
-#[derive(Drop)]
+#[derive(Clone, Copy)]
 pub enum Answer {
     Done,
     Refused(Refusal),
 }
 
 // A number of 16 bits, or why there is none.
-#[derive(Drop)]
+#[derive(Clone, Copy)]
 pub enum Told {
     Number(u16),
     Refused(Refusal),

@@ -3,7 +3,7 @@ ghost use Rattle.std.specs.Prelude.{◌≡◌, min};
 ghost use Rattle.answers.specs.Status.{sf1_of, sf2_of, cause_of, rule_cause_of};
 
 // Why an element or a rule fails. Several share a status byte; they stand apart so that a contract says which one it was.
-#[derive(Drop)]
+#[derive(Clone, Copy)]
 pub enum Fault {
     // The element's list index is beyond the codes.
     ListIndex,
@@ -110,7 +110,7 @@ pub fn list_error_index(index: usize) -> u8
 }
 
 // How a rule ended: the bytes lent to it are now those to store, or it failed and they are as they were.
-#[derive(Drop)]
+#[derive(Clone, Copy)]
 pub enum Written {
     Done,
     Failed(Fault),

@@ -5,7 +5,7 @@ ghost use Rattle.block_list.specs.Element.{head_of, element_of, packed_of, unpac
 
 // What an element names: a block's number, the index of its service's code in the request's list, and an access mode.
 // RULES 7.1
-#[derive(Drop)]
+#[derive(Clone, Copy)]
 pub struct BlockListElement {
     pub number: u16,
     pub index: u8,
@@ -13,14 +13,14 @@ pub struct BlockListElement {
 }
 
 // The bytes of an element: the first `len` of three. One that is not used is 0.
-#[derive(Drop)]
+#[derive(Clone, Copy)]
 pub struct Packed {
     pub bytes: [u8; 3],
     pub len: usize,
 }
 
 // What stands at a place of a list: an element and the place past it, or too few bytes for one.
-#[derive(Drop)]
+#[derive(Clone, Copy)]
 pub enum Unpacked {
     Element {
         element: BlockListElement,

@@ -8,7 +8,7 @@ use crate::element;
 use crate::element::Unpacked;
 
 // The caller's list bytes, and a place in them: all before it is taken.
-#[derive(Drop)]
+#[derive(Clone, Copy)]
 pub struct Reader<'a> {
     pub list: &'a [u8],
     pub at: usize,

@@ -6,7 +6,7 @@ use crate::block::{are_crew, block, byte, crew, is_empty, race};
 use crate::refusal::BoardRefusal;
 
 // How blocks were judged: they make a board, or not.
-#[derive(Drop)]
+#[derive(Clone, Copy)]
 pub enum Judged {
     Sound,
     Refused(BoardRefusal),

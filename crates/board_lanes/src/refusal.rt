@@ -3,7 +3,7 @@ ghost use Rattle.std.specs.Prelude.{◌≡◌};
 ghost use Rattle.board_lanes.specs.Board.{board_number};
 
 // Why blocks make no board.
-#[derive(Drop)]
+#[derive(Clone, Copy)]
 pub enum BoardRefusal {
     // Two filled lanes are of different races.
     RacesDiffer,

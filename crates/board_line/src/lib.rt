@@ -1,4 +1,6 @@
 // An `L` line: a refresh of the lane board, carried out and printed.
+#![tactic(auto)]
+
 mod text;
 
 ghost use Rattle.std.specs.Prelude.{◌≡◌, ◌&&◌, [], ◌+◌, ◌≤◌, eqb, length};

@@ -1,4 +1,6 @@
 // A refresh of the lane board: one read of a store's first eight blocks, in a session, and what they make.
+#![tactic(auto)]
+
 ghost use Rattle.std.specs.Prelude.{◌≡◌, [], ◌∷◌, length};
 ghost use Rattle.request_plan.specs.Request.{read_request};
 ghost use Rattle.request_plan.specs.Serve.{serve, output_after};
@@ -13,7 +15,7 @@ use request_plan::Reply;
 use request_serve::reading;
 
 // What a refresh came to: a board, whose blocks were read; blocks that make none, and why; or the card's own answer, with no block read.
-#[derive(Drop)]
+#[derive(Clone, Copy)]
 pub enum Refreshed {
     Board,
     NoBoard(BoardRefusal),

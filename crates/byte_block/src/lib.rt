@@ -1,4 +1,6 @@
 // A block of sixteen bytes, copied at one go.
+#![tactic(auto)]
+
 ghost use Rattle.std.specs.Prelude.{◌≡◌, ◌+◌, ◌≤◌, length, drop};
 ghost use Rattle.byte_parts.specs.Part.{put};
 

@@ -15,7 +15,7 @@ pub fn copy(dst: &mut [u8], at: usize, src: &[u8], from: usize, n: usize)
     requires { (at + n ≤ length dst.old) × (from + n ≤ length src.now) }
     ensures { dst.new ≡ put dst.old at n (drop from src.now) }
 {
-    bytes::copy(&src[from..from + n], &mut dst[at..at + n]);
+    dst[at..at + n].copy_from_slice(&src[from..from + n]);
 }
 
 // Makes the n bytes of s from `at` on 0.

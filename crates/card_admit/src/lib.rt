@@ -1,4 +1,6 @@
 // What may come under a node: the refusals of a new area and of a new service, in their order, and the store that a service gets.
+#![tactic(auto)]
+
 ghost use Rattle.std.specs.Prelude.{◌≡◌};
 ghost use Rattle.service_code.specs.Code.{attribute_of};
 ghost use Rattle.card_nodes.specs.Node.{end_of};
@@ -11,7 +13,7 @@ use card_nodes::node::{Entry, Node};
 use service_code::code::{Decoded, DecodedKind, ServiceCode, ServiceKind};
 
 // Where a new service's store lies, and the blocks in use after it.
-#[derive(Drop)]
+#[derive(Clone, Copy)]
 pub enum Placed {
     Store {
         start: u16,
@@ -22,7 +24,7 @@ pub enum Placed {
 }
 
 // The first service of a number, or that there is none.
-#[derive(Drop)]
+#[derive(Clone, Copy)]
 pub enum First {
     There(Node),
     Missing,

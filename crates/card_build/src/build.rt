@@ -18,7 +18,7 @@ use card_nodes::node::{Entry, Node};
 use service_code::limit::Limit;
 
 // What an addition makes of a card: its next record, and how many records and blocks are then in use.
-#[derive(Drop)]
+#[derive(Clone, Copy)]
 struct Growth {
     node: Node,
     count: usize,

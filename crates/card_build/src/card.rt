@@ -7,7 +7,7 @@ use byte_parts::sizes::BLOCK_SIZE;
 use card_nodes::node::Node;
 
 // The system of a card: its code, its key version, and whether a service may join a store of another block count.
-#[derive(Drop)]
+#[derive(Clone, Copy)]
 pub struct System {
     pub code: u16,
     pub version: u16,
@@ -15,7 +15,7 @@ pub struct System {
 }
 
 // A card: 64 records of which `count` are taken, root first, and how many blocks of the arena are in use.
-#[derive(Drop)]
+#[derive(Clone, Copy)]
 pub struct Card {
     pub nodes: [Node; 64],
     pub count: usize,
@@ -24,7 +24,7 @@ pub struct Card {
 }
 
 // A card handed back, and how the call on it ended.
-#[derive(Drop)]
+#[derive(Clone, Copy)]
 pub struct Added {
     pub card: Card,
     pub answer: Answer,

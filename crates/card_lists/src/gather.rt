@@ -8,7 +8,7 @@ use card_nodes::node::{Entry, Node};
 use node_messages::code_list::CodeList;
 
 // The children gathered for a packet, and how many children were seen.
-#[derive(Drop)]
+#[derive(Clone, Copy)]
 pub struct Gathered {
     pub list: CodeList,
     pub children: usize,

@@ -7,14 +7,14 @@ use crate::{count, node};
 use service_code::code::ServiceCode;
 
 // The index of the node that was found, or that there is none.
-#[derive(Drop)]
+#[derive(Clone, Copy)]
 pub enum Found {
     At(usize),
     Nothing,
 }
 
 // What a search by a code looks for.
-#[derive(Drop)]
+#[derive(Clone, Copy)]
 enum Sought {
     ServiceCode,
     AreaCode,

@@ -6,7 +6,7 @@ use service_code::limit::Limit;
 
 // What a node is: an area to the end of its codes, or a service over a store of blocks.
 // RULES 5.2
-#[derive(Drop)]
+#[derive(Clone, Copy)]
 pub enum Entry {
     Area {
         end: u16,
@@ -20,7 +20,7 @@ pub enum Entry {
 
 // A node of the tree, at its depth; the root's is 0.
 // RULES 5.2
-#[derive(Drop)]
+#[derive(Clone, Copy)]
 pub struct Node {
     pub depth: u8,
     pub code: u16,

@@ -13,7 +13,7 @@ use card_nodes::{count, find};
 use service_code::code::ServiceCode;
 
 // Whether a list is well formed, or why that is not said.
-#[derive(Drop)]
+#[derive(Clone, Copy)]
 pub enum Checked {
     WellFormed,
     Malformed,
@@ -21,7 +21,7 @@ pub enum Checked {
 }
 
 // What an entry of a service list names.
-#[derive(Drop)]
+#[derive(Clone, Copy)]
 pub enum ListNode {
     Keyed,
     KeyFree,

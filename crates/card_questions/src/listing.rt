@@ -12,7 +12,7 @@ use card_nodes::count;
 use card_nodes::node::Node;
 
 // How many nodes a directory lists, or why it is refused.
-#[derive(Drop)]
+#[derive(Clone, Copy)]
 pub enum Listing {
     Listed(usize),
     Refused(Refusal),

@@ -7,7 +7,7 @@ use card_nodes::node;
 use card_nodes::node::{Entry, Node};
 
 // What a column has of each node: its depth, its code, the second number of its pair, the blocks of its store.
-#[derive(Drop)]
+#[derive(Clone, Copy)]
 pub(crate) enum Column {
     Depth,
     Code,

@@ -13,7 +13,7 @@ use card_nodes::find::Found;
 use card_nodes::node::Node;
 
 // A sum of blocks, and the index past the nodes that it covers.
-#[derive(Drop)]
+#[derive(Clone, Copy)]
 pub struct Sum {
     pub blocks: u32,
     pub next: usize,

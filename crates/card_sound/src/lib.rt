@@ -1,4 +1,6 @@
 // Refusal 8: whether accepted additions and limits produce a card's records.
+#![tactic(auto)]
+
 ghost use Rattle.std.specs.Prelude.{◌≡◌, ◌<◌, ◌≤◌, drop};
 ghost use Rattle.service_code.specs.Code.{number_of};
 ghost use Rattle.card_sound.specs.Sound.{is_root, all_roots, area_step, service_step, sound_of};
@@ -10,7 +12,7 @@ use card_nodes::node::{Entry, Node};
 use service_code::code::ServiceCode;
 
 // The blocks in use after a record, or that no accepted addition makes it.
-#[derive(Drop)]
+#[derive(Clone, Copy)]
 pub enum Step {
     Goes(usize),
     Stops,

@@ -1,12 +1,14 @@
 // Status flag 1 as bits: the places of a list that a set bit can denote (`types.rs` of the Rust). Bit k stands for place k + 1, and, but
 // for bit 7, for place k + 9 as well, so that a byte denotes fifteen places at most.
+#![tactic(auto)]
+
 ghost use Rattle.std.specs.Prelude.{◌≡◌, ◌+◌, ◌%◌, ◌≤◌, ◌<◌, length};
 ghost use Rattle.std.specs.Int.Count.{ones};
 ghost use Rattle.std.proofs.lemmas.List.Edits.{sets};
 ghost use Rattle.error_places.specs.Bitmap.{places_from, places_of, bitmap_of};
 
 // The places that an error byte denotes, ascending, and how many they are; unused entries are 0.
-#[derive(Drop)]
+#[derive(Clone, Copy)]
 pub struct Positions {
     pub places: [u8; 15],
     pub count: usize,

@@ -1,5 +1,7 @@
 // The calls that programs in C and Rust link (include/uluvoli.h). The card is bytes that the caller keeps: every call decodes
 // them, asks the card, and answers one number (`outcome`). No call requires anything of what it is lent.
+#![tactic(auto)]
+
 pub mod blocks;
 pub mod board;
 pub mod build;

@@ -1,4 +1,6 @@
 // What a question prints: its name and the fields of its answer, or that it is unknown.
+#![tactic(auto)]
+
 mod card;
 mod message;
 

@@ -1,4 +1,6 @@
 // What a question line asks.
+#![tactic(auto)]
+
 ghost use Rattle.std.specs.Prelude.{◌≡◌};
 ghost use Rattle.text_fields.specs.Field.{split, ends_of};
 ghost use Rattle.inspect_ask.specs.Question.{list_line, block_question, single_of, code_line, codes_line, bytes_line, room_line, arena_line, lent_asked, stored_asked, lists_asked, card_asked, bytes_asked, message_asked, question_of};
@@ -10,7 +12,7 @@ use text_numbers::codes::Code;
 use text_numbers::decimals::Number;
 
 // What is asked of a card. Codes and bytes of a question stand in the line's field 1.
-#[derive(Drop)]
+#[derive(Clone, Copy)]
 pub enum Asked {
     List { parent: u16, packet: u32 },
     Info,
@@ -27,7 +29,7 @@ pub enum Asked {
 }
 
 // What is asked of one code.
-#[derive(Drop)]
+#[derive(Clone, Copy)]
 pub enum Single {
     Total,
     Version,
@@ -35,7 +37,7 @@ pub enum Single {
 }
 
 // What a line asks: something of the card, that other lengths be lent from here on, or nothing that is known.
-#[derive(Drop)]
+#[derive(Clone, Copy)]
 pub enum Question {
     Unknown,
     Of(Asked),

@@ -1,4 +1,6 @@
 // Inspection, line by line: an image, requests as in replay, and questions, mixed after line 1.
+#![tactic(auto)]
+
 ghost use Rattle.std.specs.Prelude.{◌≡◌, ℕ, ◌+◌, ◌≤◌, length};
 ghost use Rattle.byte_parts.specs.Sizes.{most_printed};
 ghost use Rattle.text_stream.specs.Stream.{Written};
@@ -16,7 +18,7 @@ use replay_state::Replay;
 
 // An inspection between two lines: a replay, whose line number counts every line, and the lengths of the output and of the arena that are
 // lent to a question.
-#[derive(Drop)]
+#[derive(Clone, Copy)]
 pub struct Inspect {
     pub replay: Replay,
     pub room: usize,
@@ -24,7 +26,7 @@ pub struct Inspect {
 }
 
 // An inspection after a line, and the place after what the line printed.
-#[derive(Drop)]
+#[derive(Clone, Copy)]
 pub struct Looked {
     pub inspect: Inspect,
     pub at: usize,

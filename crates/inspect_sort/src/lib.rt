@@ -1,4 +1,6 @@
 // What a line of an inspection is taken for.
+#![tactic(auto)]
+
 ghost use Rattle.std.specs.Prelude.{◌≡◌};
 ghost use Rattle.inspect_sort.specs.Sort.{later_sort, sort_of};
 
@@ -7,7 +9,7 @@ use replay_kind::Kind;
 use replay_state::Phase;
 
 // What a line is taken for: a line of a replay, a question, or nothing, after the end of the run.
-#[derive(Drop)]
+#[derive(Clone, Copy)]
 pub enum Sort {
     Replayed(Kind),
     Asked(Question),

@@ -1,6 +1,8 @@
 // A race's card: the marshal writes lane 1 through a read/write service, the finish tower reads it through a read-only
 // service of the same number. A late redraw in between is what the tower then reads; a write with too short a staging is
 // refused, and the tower reads the lane as it was.
+#![tactic(auto)]
+
 use card_build::card::{Card, System};
 use request_plan::{Reply, Response};
 use request_serve::{reading, writing};

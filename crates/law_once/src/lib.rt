@@ -1,1 +1,3 @@
 // Each promise of a library admits one answer, as proofs/ proves: no code.
+#![tactic(auto)]
+

@@ -1,4 +1,6 @@
 // The line that answers a request.
+#![tactic(auto)]
+
 ghost use Rattle.std.specs.Prelude.{[], ◌∷◌, ◌+◌, ◌≤◌, ◌<◌, length};
 ghost use Rattle.text_numbers.specs.Hex.{hex_text};
 ghost use Rattle.text_stream.specs.Stream.{Written};

@@ -1,4 +1,6 @@
 // An image line, carried out on a card and an arena.
+#![tactic(auto)]
+
 ghost use Rattle.std.specs.Prelude.{◌≡◌, true, length};
 ghost use Rattle.text_numbers.specs.Hex.{unhex};
 ghost use Rattle.request_block.specs.Block.{block_judged, arena_set};

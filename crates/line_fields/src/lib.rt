@@ -1,5 +1,7 @@
 // What the fields of a line say: words, codes, numbers, bounds, bytes. They are parted by tabs, and sought once a line: each function
 // here goes by where they end (`text_fields::find_ends`).
+#![tactic(auto)]
+
 ghost use Rattle.std.specs.Prelude.{◌≡◌, true, ◌+◌, ◌≤◌, min, length};
 ghost use Rattle.byte_parts.specs.Part.{put, same_bytes};
 ghost use Rattle.text_fields.specs.Field.{split, ends_of};

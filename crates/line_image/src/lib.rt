@@ -1,2 +1,4 @@
 // What an image line says.
+#![tactic(auto)]
+
 pub mod line;

@@ -14,7 +14,7 @@ use text_numbers::decimals::{Number, Signed};
 use text_numbers::hex::is_hex_field;
 
 // What an image line says, or that it is malformed. A block's bytes stay in the line's last field.
-#[derive(Drop)]
+#[derive(Clone, Copy)]
 pub enum Line {
     Malformed,
     Card(System),
@@ -60,7 +60,7 @@ fn card_line(line: &[u8], ends: Ends, join: bool) -> Line
 }
 
 // What `area` and `svc` have in common: depth, code and version, in fields 1, 2 and 4.
-#[derive(Drop)]
+#[derive(Clone, Copy)]
 enum Heading {
     Malformed,
     Is { depth: u32, code: u16, version: u16 },

@@ -1,4 +1,6 @@
 // What a request line asks.
+#![tactic(auto)]
+
 ghost use Rattle.std.specs.Prelude.{◌≡◌};
 ghost use Rattle.text_fields.specs.Field.{ends_of};
 ghost use Rattle.line_fields.specs.Fields.{field_in};
@@ -10,7 +12,7 @@ use text_fields::Ends;
 use text_numbers::decimals::Number;
 
 // What a line asks: a read or a write, open or in a session, and how many elements it has. Codes, list and data stand in the line.
-#[derive(Drop)]
+#[derive(Clone, Copy)]
 pub enum Ask {
     Malformed,
     Read { open: bool, count: u32 },

@@ -1,4 +1,6 @@
 // Request lines, carried out on a card and answered.
+#![tactic(auto)]
+
 ghost use Rattle.std.specs.Prelude.{◌≡◌, ◌+◌, ◌≤◌, length};
 ghost use Rattle.byte_parts.specs.Sizes.{most_printed};
 ghost use Rattle.text_fields.specs.Field.{ends_of};
@@ -86,7 +88,7 @@ fn length_read(reply: Reply, count: u32) -> usize
 }
 
 // What a request line came to: the reply, and how many bytes were read, which stand at the front of the buffer lent as `work`.
-#[derive(Drop)]
+#[derive(Clone, Copy)]
 pub struct Outcome {
     pub reply: Reply,
     pub read: usize,

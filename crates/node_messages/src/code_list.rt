@@ -11,7 +11,7 @@ use byte_parts::spans;
 
 // Whether more packets follow; how many areas this one has, with code and end of each; how many services, with their codes. Entries
 // past their count are 0.
-#[derive(Drop)]
+#[derive(Clone, Copy)]
 pub struct CodeList {
     pub more: bool,
     pub areas: usize,
@@ -21,7 +21,7 @@ pub struct CodeList {
 }
 
 // A code list, or why there is none; the list is then the empty one.
-#[derive(Drop)]
+#[derive(Clone, Copy)]
 pub struct Listed {
     pub list: CodeList,
     pub answer: Answer,

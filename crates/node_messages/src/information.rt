@@ -9,7 +9,7 @@ use answers::refusal::{Answer, Refusal};
 use byte_parts::spans;
 
 // The blocks assigned to each node and those free for it, in the order asked. Entries past their count are 0.
-#[derive(Drop)]
+#[derive(Clone, Copy)]
 pub struct BlockInformation {
     pub count: usize,
     pub assigned: [u16; 32],
@@ -17,7 +17,7 @@ pub struct BlockInformation {
 }
 
 // Block information, or why there is none; it is then that of no node.
-#[derive(Drop)]
+#[derive(Clone, Copy)]
 pub struct Informed {
     pub told: BlockInformation,
     pub answer: Answer,

@@ -4,7 +4,7 @@ ghost use Rattle.std.specs.Prelude.{◌≡◌, ltb};
 use answers::refusal::Refusal;
 
 // How many bytes the message takes, or why it is not written.
-#[derive(Drop)]
+#[derive(Clone, Copy)]
 pub enum Put {
     Bytes(usize),
     Refused(Refusal),

@@ -1,4 +1,6 @@
 // What a line of a replay is taken for.
+#![tactic(auto)]
+
 ghost use Rattle.std.specs.Prelude.{◌≡◌};
 ghost use Rattle.replay_kind.specs.Kind.{image_kind, request_kind, taken_for};
 
@@ -6,7 +8,7 @@ use replay_state::Phase;
 
 // What a line is taken for: an image line, the first or a later one; a request; a refresh of the lane board; or nothing, after the end of
 // the run.
-#[derive(Drop)]
+#[derive(Clone, Copy)]
 pub enum Kind {
     Image(bool),
     Request,

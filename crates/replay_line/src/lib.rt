@@ -1,4 +1,6 @@
 // Replay, line by line: an image, then requests and their answers.
+#![tactic(auto)]
+
 ghost use Rattle.std.specs.Prelude.{◌≡◌, ◌+◌, ◌≤◌, length};
 ghost use Rattle.byte_parts.specs.Sizes.{most_printed};
 ghost use Rattle.text_stream.specs.Stream.{Written};
@@ -14,7 +16,7 @@ use replay_kind::Kind;
 use replay_state::{Phase, Replay, put_refusal};
 
 // A replay after a line, and the place after what the line printed.
-#[derive(Drop)]
+#[derive(Clone, Copy)]
 pub struct Taken {
     pub replay: Replay,
     pub at: usize,

@@ -1,4 +1,6 @@
 // A replay: where it is between two lines, how it starts and ends, and when it stops reading.
+#![tactic(auto)]
+
 ghost use Rattle.std.specs.Prelude.{◌≡◌, ◌+◌, ◌≤◌, length, false};
 ghost use Rattle.text_stream.specs.Stream.{Written};
 ghost use Rattle.text_pull.specs.Pull.{is_line, Rested};
@@ -10,7 +12,7 @@ use text_print::{put_number, put_word};
 use text_pull::Flow;
 
 // Where a replay is: ahead of its first line, in the image, among the requests, or ended by a refused image line.
-#[derive(Drop)]
+#[derive(Clone, Copy)]
 pub enum Phase {
     First,
     Image,
@@ -19,7 +21,7 @@ pub enum Phase {
 }
 
 // A replay between two lines: its card, and how many image lines and requests there were.
-#[derive(Drop)]
+#[derive(Clone, Copy)]
 pub struct Replay {
     pub card: Card,
     pub phase: Phase,

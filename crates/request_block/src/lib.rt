@@ -1,4 +1,6 @@
 // One stored block: as the caller's own arena bytes, and set.
+#![tactic(auto)]
+
 ghost use Rattle.std.specs.Prelude.{◌≡◌, length};
 ghost use Rattle.request_block.specs.Block.{block_located, block_judged, stored_block, arena_set};
 
@@ -9,7 +11,7 @@ use card_build::card::{Card, is_short};
 use request_check::table;
 
 // Where a block's bytes begin in the arena, or its refusal.
-#[derive(Drop)]
+#[derive(Clone, Copy)]
 pub enum Located {
     At(usize),
     Refused(Refusal),

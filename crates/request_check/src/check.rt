@@ -9,14 +9,14 @@ use block_list::element::BlockListElement;
 use service_code::code::{Decoded, ServiceAttribute, ServiceCode};
 
 // How an element's check ended.
-#[derive(Drop)]
+#[derive(Clone, Copy)]
 pub enum Check {
     Passed,
     Failed(Fault),
 }
 
 // How the check of all elements ended: the first that fails is named by its index, from 0.
-#[derive(Drop)]
+#[derive(Clone, Copy)]
 pub enum Checked {
     Passed,
     Failed { index: usize, fault: Fault },

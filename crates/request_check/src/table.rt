@@ -10,7 +10,7 @@ use service_code::code::{Decoded, ServiceCode};
 use service_code::limit::Limit;
 
 // What a code comes to: its attribute and, where the card has that service, its store and limit.
-#[derive(Drop)]
+#[derive(Clone, Copy)]
 pub struct Row {
     pub code: u16,
     pub attribute: Decoded,
@@ -21,7 +21,7 @@ pub struct Row {
 }
 
 // The rows of a request's codes, of sixteen the first `count`.
-#[derive(Drop)]
+#[derive(Clone, Copy)]
 pub struct Table {
     pub rows: [Row; 16],
     pub count: usize,

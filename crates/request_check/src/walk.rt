@@ -11,14 +11,14 @@ use block_list::{element, reader};
 use byte_parts::spans;
 
 // What a walk says: whether the list is the counted elements and nothing more, and how the check of its elements ended.
-#[derive(Drop)]
+#[derive(Clone, Copy)]
 pub struct Walked {
     pub ends: bool,
     pub checked: Checked,
 }
 
 // How far the elements of a list pass: all that are there, which then end where the list does or not, or up to one that does not.
-#[derive(Drop)]
+#[derive(Clone, Copy)]
 enum Stop {
     Over(bool),
     Stopped { index: usize, place: usize },

@@ -1,4 +1,6 @@
 // What is settled of a request before its elements are looked at.
+#![tactic(auto)]
+
 ghost use Rattle.std.specs.Prelude.{◌≡◌, cond, not, ltb};
 ghost use Rattle.byte_parts.specs.Sizes.{most_elements, most_codes};
 ghost use Rattle.answers.specs.Refusal.{refusal_number};
@@ -13,7 +15,7 @@ use byte_parts::sizes::{MOST_CODES, MOST_ELEMENTS};
 use card_build::card;
 
 // The reply to a request. Only `Done` is a request carried out.
-#[derive(Drop)]
+#[derive(Clone, Copy)]
 pub enum Reply {
     Refused(Refusal),
     Done,
@@ -24,7 +26,7 @@ pub enum Reply {
 }
 
 // What a request is told: a status pair, or the number of a refusal.
-#[derive(Drop)]
+#[derive(Clone, Copy)]
 pub enum Response {
     Pair { flag1: u8, flag2: u8 },
     Refusal(u8),
@@ -90,7 +92,7 @@ impl Reply {
 }
 
 // What a request and the buffers lent to it are judged to be.
-#[derive(Drop)]
+#[derive(Clone, Copy)]
 pub enum Judged {
     Refused(Refusal),
     ShortData,
@@ -99,7 +101,7 @@ pub enum Judged {
 
 // What a request is judged by, beside its list: the card's blocks in use, the counts of elements and codes, and the lengths in bytes of
 // the arena, of a write's data, and of the output (read) or staging (write) that is lent.
-#[derive(Drop)]
+#[derive(Clone, Copy)]
 pub struct Sizes {
     pub used: usize,
     pub count: usize,

@@ -1,4 +1,6 @@
 // What an element, and the end of a run, do to one store; and to that store where it lies in the stage.
+#![tactic(auto)]
+
 ghost use Rattle.std.specs.Prelude.{◌≡◌, ◌+◌, ◌*◌, ◌≤◌, length};
 ghost use Rattle.byte_parts.specs.Sizes.{block_size};
 ghost use Rattle.answers.specs.Outcome.{written_of, bytes_after};

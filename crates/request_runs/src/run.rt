@@ -14,7 +14,7 @@ use request_check::table::{Row, Table};
 use service_code::code::ServiceCode;
 
 // How the runs ended: the element that failed is named by its index, from 0.
-#[derive(Drop)]
+#[derive(Clone, Copy)]
 pub enum Applied {
     Done,
     Failed { index: usize, fault: Fault },

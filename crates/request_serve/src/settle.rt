@@ -10,7 +10,7 @@ use request_check::{table, walk};
 use request_plan::{Judged, Sizes};
 
 // How a request and what is lent to it are judged, how its elements are checked, and what its codes come to.
-#[derive(Drop)]
+#[derive(Clone, Copy)]
 pub(crate) struct Settled {
     pub judged: Judged,
     pub checked: Checked,

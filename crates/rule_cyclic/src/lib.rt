@@ -1,5 +1,7 @@
 // What a write makes of a cyclic store (`blocks.rs` of the Rust): the newest block stands first, and the oldest ones are lost. It takes a
 // whole run of blocks at once, since a run that is repeated may not shift the store again.
+#![tactic(auto)]
+
 ghost use Rattle.std.specs.Prelude.{◌≡◌, ◌++◌, ◌-◌, ◌≤◌, length, take};
 ghost use Rattle.byte_parts.specs.Part.{put, same_bytes};
 ghost use Rattle.answers.specs.Outcome.{written_of, bytes_after};

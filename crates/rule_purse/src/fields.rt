@@ -9,7 +9,7 @@ use byte_parts::word;
 use service_code::limit::Limit;
 
 // What a write to a purse block does; the service's attribute and the access mode say which.
-#[derive(Drop)]
+#[derive(Clone, Copy)]
 pub enum PurseOperation {
     Direct,
     Decrement,
@@ -18,7 +18,7 @@ pub enum PurseOperation {
 
 // The fields of a block that the rule reads: the purse, the cashback (what was taken from the purse last), the execution id.
 // In a command the purse is the amount.
-#[derive(Drop)]
+#[derive(Clone, Copy)]
 pub struct PurseData {
     pub purse: u32,
     pub cashback: u32,
@@ -26,7 +26,7 @@ pub struct PurseData {
 }
 
 // What becomes of a block: it stays, it is replaced whole, two of its fields are replaced; or the write fails.
-#[derive(Drop)]
+#[derive(Clone, Copy)]
 pub enum PurseWrite {
     Unchanged,
     Whole,
@@ -35,7 +35,7 @@ pub enum PurseWrite {
 }
 
 // A sum or a difference: its 32 bits if it is in range, else that it is outside.
-#[derive(Drop)]
+#[derive(Clone, Copy)]
 enum Sum {
     Inside(u32),
     Outside,

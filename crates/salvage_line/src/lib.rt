@@ -1,4 +1,6 @@
 // One line of a salvage: whether it is kept, and what is known after it.
+#![tactic(auto)]
+
 ghost use Rattle.std.specs.Prelude.{◌≡◌};
 ghost use Rattle.salvage_rule.specs.Salvage.{fate_of, stepped};
 ghost use Rattle.salvage_line.specs.Image.{depth_by, depth_of, is_word, fate_on, image_builder, held_of};
@@ -48,7 +50,7 @@ fn fate_on(answer: Answer) -> Fate
 }
 
 // A salvage after a line, and what came of the line.
-#[derive(Drop)]
+#[derive(Clone, Copy)]
 pub struct Verdict {
     pub card: Card,
     pub rules: Rules,

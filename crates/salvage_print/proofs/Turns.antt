@@ -9,7 +9,7 @@ use mathlib.Core.List.{List, [], ◌∷◌, ◌++◌}
 use lib.ListN.{length, take, drop, drop_of_length-le}
 use lib.Seq.{take_all}
 use borrow.Author.Tests.{eq-eqb, ne_eqb}
-use Rattle.bytes.specs.Bytes.{index_of, index_after}
+use Rattle.byte_scan.specs.Bytes.{index_of, index_after}
 use Rattle.byte_parts.proofs.Part.{put_zero}
 use Rattle.byte_parts.proofs.Put.{put-append}
 use Rattle.text_pieces.specs.Piece.{Piece, full, bare, line_of, bytes_of, pieces_of, text_of}

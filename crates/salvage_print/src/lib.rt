@@ -1,4 +1,6 @@
 // What a line of a salvage puts into the image and into the report, where there is room; or only how much that is.
+#![tactic(auto)]
+
 ghost use Rattle.std.specs.Prelude.{◌+◌, ◌≤◌, ◌≡◌, length};
 ghost use Rattle.text_stream.specs.Stream.{Written};
 ghost use Rattle.salvage_print.specs.Print.{said_of, gain_of, gain_by, spot_by, put_if, spotted};
@@ -7,7 +9,7 @@ use byte_parts::spans;
 use salvage_rule::Fate;
 
 // The place behind what was put, or that there is no room for it.
-#[derive(Drop)]
+#[derive(Clone, Copy)]
 pub enum Spot {
     Full,
     At(usize),

@@ -1,9 +1,11 @@
 // The two rules of a salvage that take lines along, whatever builds the card: a stretch below a dropped area, and limits behind a dropped service.
+#![tactic(auto)]
+
 ghost use Rattle.std.specs.Prelude.{◌≡◌, cond, ◌||◌, ltb};
 ghost use Rattle.salvage_rule.specs.Rule.{deeper, takes, ended_by, begun_by, rules_after};
 
 // The depth of a line: well-formed `area` and `svc` lines alone have one.
-#[derive(Drop)]
+#[derive(Clone, Copy)]
 pub enum Depth {
     Flat,
     Area(u32),
@@ -11,14 +13,14 @@ pub enum Depth {
 }
 
 // A stretch of lines below a dropped area of this depth, or none.
-#[derive(Drop)]
+#[derive(Clone, Copy)]
 pub enum Stretch {
     Free,
     Below(u32),
 }
 
 // What comes of a line: it is kept; a dropped line before it takes it along; or the builder refuses it with this number.
-#[derive(Drop)]
+#[derive(Clone, Copy)]
 pub enum Fate {
     Kept,
     Parent,
@@ -26,7 +28,7 @@ pub enum Fate {
 }
 
 // What the two rules know between two lines.
-#[derive(Drop)]
+#[derive(Clone, Copy)]
 pub struct Rules {
     pub stretch: Stretch,
     pub orphaned: bool,

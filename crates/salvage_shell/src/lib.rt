@@ -1,4 +1,6 @@
 // Salvage over a text: it is read whole, its image goes to standard output and the report to standard error.
+#![tactic(auto)]
+
 ghost use Rattle.std.specs.Prelude.{◌+◌, ◌≤◌, ◌≡◌, true, false, length, take};
 ghost use Rattle.answers.specs.declared.refusal.Refusal.TheVariants.{OutputTooShort};
 ghost use Rattle.text_pull.specs.Pull.{is_line, is_end, closed_of, Wrote};

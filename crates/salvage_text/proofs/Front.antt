@@ -9,7 +9,7 @@ use mathlib.Core.List.{List, [], ◌∷◌, ◌++◌, append-nil}
 use lib.Dec.{ltb}
 use lib.ListN.{length, take, drop, length-append, length-take, replicate, length-replicate, drop_of_length-le}
 use lib.Seq.{take_all}
-use Rattle.bytes.specs.Bytes.{index_of, slice}
+use Rattle.byte_scan.specs.Bytes.{index_of, slice}
 use Rattle.byte_parts.specs.Part.{put, same_bytes}
 use Rattle.byte_parts.proofs.Part.{put-split}
 use Rattle.byte_parts.proofs.Put.{put-append}

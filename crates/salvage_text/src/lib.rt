@@ -1,16 +1,18 @@
 // A whole text salvaged into lent buffers.
+#![tactic(auto)]
+
 ghost use Rattle.std.specs.Prelude.{◌≤◌, ◌≡◌, length};
 ghost use Rattle.salvage_text.specs.Text.{salvaged_text, reported_text, due_whole, due_behind, Passed, extent_of, salvaged_by, salvage_answer, landed_by, image_after, report_after};
 
 use answers::refusal::{Answer, Refusal};
 use byte_parts::spans;
-use bytes::scan;
+use byte_scan as scan;
 use card_build::card::{Card, System};
 use salvage_print::Spot;
 use salvage_walk::Extent;
 
 // The lengths of an image and of its report, or why there is none.
-#[derive(Drop)]
+#[derive(Clone, Copy)]
 pub enum Salvaged {
     Done { image: usize, report: usize },
     Refused(Refusal),

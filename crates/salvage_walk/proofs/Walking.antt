@@ -9,7 +9,7 @@ use lib.Dec.{ltb}
 use lib.ListN.{length, take, drop, length-append, length-drop}
 use lib.Seq.{take_all, drop-drop}
 use borrow.Author.Tests.{lt-ltb, le-ltb}
-use Rattle.bytes.specs.Bytes.{index_of, slice}
+use Rattle.byte_scan.specs.Bytes.{index_of, slice}
 use Rattle.byte_parts.proofs.Part.{length-put}
 use Rattle.salvage_rule.specs.declared.Fate.{Fate}
 use Rattle.salvage_rule.specs.Salvage.{Between, fate_of, stepped}

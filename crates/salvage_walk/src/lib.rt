@@ -1,16 +1,18 @@
 // The lines of a text salvaged one after the other: a walk that counts, and the same walk that writes.
+#![tactic(auto)]
+
 ghost use Rattle.std.specs.Prelude.{◌+◌, ◌≤◌, ◌≡◌, length};
 ghost use Rattle.salvage_rule.specs.Salvage.{fresh};
 ghost use Rattle.salvage_line.specs.Image.{imaged};
 ghost use Rattle.salvage_walk.specs.Walk.{image_at, report_at, extent_by, WroteIf};
 
-use bytes::scan;
+use byte_scan as scan;
 use card_build::card::Card;
 use salvage_print::Spot;
 use salvage_rule::{Rules, Stretch};
 
 // The lengths of an image and of its report, or that there is no room for one of them.
-#[derive(Drop)]
+#[derive(Clone, Copy)]
 pub enum Extent {
     Fits { image: usize, report: usize },
     Short,

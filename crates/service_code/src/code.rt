@@ -4,7 +4,7 @@ ghost use Rattle.std.specs.Prelude.{◌≡◌};
 ghost use Rattle.service_code.specs.Code.{number_of, attributes_of, plain_of, purse_of, table_of, decoded_of, attribute_of, kind_of, code_kind_of, requires_key, allows_write, allows_cashback};
 
 // The kinds of service, each with its own rule for a write.
-#[derive(Drop)]
+#[derive(Clone, Copy)]
 pub enum ServiceKind {
     Random,
     Cyclic,
@@ -12,7 +12,7 @@ pub enum ServiceKind {
 }
 
 // What a service is for. Whether it needs a key is said by the code's lowest bit, not here.
-#[derive(Drop)]
+#[derive(Clone, Copy)]
 pub enum ServiceAttribute {
     RandomReadWrite,
     RandomReadOnly,
@@ -25,14 +25,14 @@ pub enum ServiceAttribute {
 }
 
 // What six bits stand for: an attribute, or none.
-#[derive(Drop)]
+#[derive(Clone, Copy)]
 pub enum Decoded {
     Defined(ServiceAttribute),
     Undefined,
 }
 
 // What a code says of its kind: one, or none where its attribute is undefined.
-#[derive(Drop)]
+#[derive(Clone, Copy)]
 pub enum DecodedKind {
     Defined(ServiceKind),
     Undefined,
@@ -131,7 +131,7 @@ impl ServiceAttribute {
 }
 
 // A service code, of 16 bits.
-#[derive(Drop)]
+#[derive(Clone, Copy)]
 pub struct ServiceCode(pub u16);
 
 impl ServiceCode {

@@ -2,7 +2,7 @@
 
 // The bounds that a service sets its purse, both included, with the number of the setting; or none.
 // RULES 5.2
-#[derive(Drop)]
+#[derive(Clone, Copy)]
 pub enum Limit {
     Unlimited,
     Limited {

@@ -1,4 +1,6 @@
 // Replay and inspection over a text: the answer to an event, the write, the loop, and what it lends, for both.
+#![tactic(auto)]
+
 ghost use Rattle.std.specs.Prelude.{◌≡◌, true, ◌+◌, ◌≤◌, ◌<◌, length, take, replicate};
 ghost use Rattle.byte_parts.specs.Sizes.{most_printed};
 ghost use Rattle.text_stream.specs.Stream.{says_of};
@@ -15,7 +17,7 @@ use replay_state::Phase;
 use text_pull::Flow;
 
 // An inspection, and where the reading is. A replay is an inspection that is asked nothing.
-#[derive(Drop)]
+#[derive(Clone, Copy)]
 struct Moved {
     inspect: Inspect,
     flow: Flow,

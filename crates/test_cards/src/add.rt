@@ -5,7 +5,7 @@ use card_build::card::{Added, Card, System};
 use test_spelt::numbers::{at16, at32};
 
 // A card, the length of the arena that is lent, and whether the line agreed.
-#[derive(Drop)]
+#[derive(Clone, Copy)]
 pub(crate) struct Grown {
     pub(crate) card: Card,
     pub(crate) arena_len: usize,

@@ -1,5 +1,7 @@
 // Replays the Rust's stored answers on cards, a line each, through the proved card: growing one, asking about its tree,
 // and serving requests. Prints how many lines of each kind agree and how many lines do not.
+#![tactic(auto)]
+
 use add::Grown;
 use card_build::card::{Card, System};
 
@@ -7,7 +9,7 @@ mod add;
 mod ask;
 
 // How many lines agree, and how many do not.
-#[derive(Drop)]
+#[derive(Clone, Copy)]
 struct Tally {
     cards: u64,
     additions: u64,
@@ -84,7 +86,7 @@ fn kind_of(line: &[u8]) -> u8 {
 }
 
 // The card after the lines so far, and what they came to.
-#[derive(Drop)]
+#[derive(Clone, Copy)]
 struct Run {
     grown: Grown,
     tally: Tally,

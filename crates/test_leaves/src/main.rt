@@ -1,11 +1,13 @@
 // Replays the Rust's stored answers to questions on the leaves, a line each, through the proved leaves,
 // and prints how many lines of each kind agree and how many lines do not.
+#![tactic(auto)]
+
 mod code;
 mod element;
 mod rule;
 
 // How many lines of each kind agree, and how many lines do not.
-#[derive(Drop)]
+#[derive(Clone, Copy)]
 struct Tally {
     attributes: u64,
     packs: u64,

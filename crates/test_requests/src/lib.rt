@@ -1,4 +1,6 @@
 // Requests on a card, and blocks set between them.
+#![tactic(auto)]
+
 ghost use Rattle.std.specs.Prelude.{◌≤◌, length};
 
 use answers::refusal::Answer;

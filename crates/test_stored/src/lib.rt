@@ -1,7 +1,9 @@
 // Stored answers: the lines of the files 0001.in, 0002.in, .. of the folder that a program runs in, and the hex in them.
+#![tactic(auto)]
+
 ghost use Rattle.std.specs.Prelude.{◌≡◌, ◌+◌, ◌*◌, ◌%◌, ◌^◌, ◌<◌, ◌≤◌, length, nat_lt};
 
-use bytes::scan;
+use byte_scan as scan;
 use text_numbers::codes::{Code, read_hex16};
 
 // More lines than the stored files have.
@@ -91,7 +93,7 @@ pub fn bytes_of(line: &[u8], out: &mut [u8]) -> usize
 
 // A line of the stored files: the number of its file, how long that file's text is, and where in it the line starts and ends.
 // Before the first line all are 0; after the last the text has no length.
-#[derive(Drop)]
+#[derive(Clone, Copy)]
 pub struct Line {
     pub file: u32,
     pub size: usize,

@@ -1,5 +1,7 @@
 // Puts each file 0001.in, 0002.in, .. of a program's folder to inspect or to replay, until one is missing, under a heading; where there is none it
 // says so.
+#![tactic(auto)]
+
 
 // Answers file number n, or says false where it is missing.
 fn one(n: u32, asks: bool) -> bool {

@@ -7,7 +7,7 @@ use mathlib.Core.List.{List, [], ◌∷◌}
 use lib.ListN.{length, take, drop, set, length-set, drop_of_length-le}
 use lib.Seq.{sets, set_out, take-nil, take-take, take-length}
 use borrow.Author.Tests.{lt-ltb, le-ltb}
-use Rattle.bytes.specs.Bytes.{index_of, slice}
+use Rattle.byte_scan.specs.Bytes.{index_of, slice}
 use Rattle.byte_parts.specs.Part.{put}
 use Rattle.text_feed.specs.declared.Place.{Place}
 use Rattle.text_feed.specs.Feed.{upto_lf, place_past, place_after, line_after}

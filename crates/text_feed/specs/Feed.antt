@@ -1,6 +1,6 @@
 -- A stream of chunks, cut into lines at each LF. Assumes nothing.
 use Rattle.std.specs.Prelude.{ℕ, ◌+◌, min, cond, List, ltb, length, drop}
-use Rattle.bytes.specs.Bytes.{index_of}
+use Rattle.byte_scan.specs.Bytes.{index_of}
 use Rattle.byte_parts.specs.Part.{put}
 use Rattle.text_feed.specs.declared.Place.{Place}
 

@@ -1,12 +1,14 @@
 // A stream of chunks, cut into lines at each LF.
+#![tactic(auto)]
+
 ghost use Rattle.std.specs.Prelude.{◌≡◌, length};
 ghost use Rattle.text_feed.specs.Feed.{place_after, line_after};
 
 use byte_parts::spans;
-use bytes::scan;
+use byte_scan as scan;
 
 // A reader's place: `at` in the chunk, `len` bytes of a line kept, `whole` 1 where a LF has just ended that line, else 0.
-#[derive(Drop)]
+#[derive(Clone, Copy)]
 pub struct Place {
     pub at: usize,
     pub len: usize,

@@ -7,7 +7,7 @@ use mathlib.Core.Logic.{⊎_elim}
 use mathlib.Core.List.{List, [], ◌∷◌}
 use lib.ListN.{length, get_or, take, drop, drop_of_length-le}
 use borrow.Author.Tests.{lt-ltb, le-ltb}
-use Rattle.bytes.specs.Bytes.{index_of, slice}
+use Rattle.byte_scan.specs.Bytes.{index_of, slice}
 use Rattle.text_fields.specs.declared.Ends.{Ends}
 use Rattle.text_fields.specs.Field.{split, field_end, ends_of}
 use Rattle.text_fields.proofs.FieldLaws.{end_cut, field_here, field-none, field_next}

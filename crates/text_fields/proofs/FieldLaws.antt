@@ -9,7 +9,7 @@ use lib.ListN.{length, get_or, take, drop, length-drop, drop_of_length-le}
 use lib.Seq.{drop-drop, take_all, take-length}
 use borrow.Author.Tests.{eq-eqb, ne_eqb}
 use Rattle.byte_parts.proofs.Part.{here}
-use Rattle.bytes.specs.Bytes.{index_after, index_of, slice}
+use Rattle.byte_scan.specs.Bytes.{index_after, index_of, slice}
 use Rattle.text_fields.specs.Field.{onto, split}
 
 -- A byte ahead stands in the first field.

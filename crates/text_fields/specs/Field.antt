@@ -1,6 +1,6 @@
 -- The fields of a line. Assumes nothing.
 use Rattle.std.specs.Prelude.{ℕ, ◌+◌, cond, List, [], ◌∷◌, eqb, ltb, length}
-use Rattle.bytes.specs.Bytes.{index_of, slice}
+use Rattle.byte_scan.specs.Bytes.{index_of, slice}
 use Rattle.text_fields.specs.declared.Ends.{Ends}
 
 -- a byte ahead of the first field

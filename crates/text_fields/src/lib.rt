@@ -1,12 +1,14 @@
 // Fields of a line, parted by a separator. A line has one field more than it has separators, so no field is ever missing but the
 // ones past the last, and an empty line is one empty field.
+#![tactic(auto)]
+
 ghost use Rattle.std.specs.Prelude.{◌≡◌, [], ◌-◌, ◌≤◌, length, get_or, take, drop};
 ghost use Rattle.text_fields.specs.Field.{split, field_end, ends_of};
 
-use bytes::scan;
+use byte_scan as scan;
 
 // Where the first six fields of a line end: each at a separator or at the line's end, where all after it end too.
-#[derive(Drop)]
+#[derive(Clone, Copy)]
 pub struct Ends {
     pub first: usize,
     pub second: usize,

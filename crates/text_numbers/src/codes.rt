@@ -8,7 +8,7 @@ use crate::digits::{are_digits, digit};
 use crate::hex::is_hex_field;
 
 // What a field was read as: a number of 16 bits, or malformed.
-#[derive(Drop)]
+#[derive(Clone, Copy)]
 pub enum Code {
     Is(u16),
     Bad,

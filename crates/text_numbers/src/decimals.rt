@@ -8,14 +8,14 @@ ghost use Rattle.text_numbers.specs.Decimal.{plain, up_to, decimal, positive, ne
 use crate::digits::{are_digits, digit};
 
 // What a field was read as: a number, or malformed.
-#[derive(Drop)]
+#[derive(Clone, Copy)]
 pub enum Number {
     Is(u32),
     Bad,
 }
 
 // What a field was read as: a number of either sign, or malformed.
-#[derive(Drop)]
+#[derive(Clone, Copy)]
 pub enum Signed {
     Is(i32),
     Bad,

@@ -7,7 +7,7 @@ use mathlib.Core.List.{List, [], ◌∷◌, ◌++◌, append-nil, append_assoc}
 use lib.ListN.{length, take, drop}
 use native.Mathlib.Numerals.{add-one}
 use borrow.Author.Tests.{eq-eqb, ne_eqb}
-use Rattle.bytes.specs.Bytes.{index_of, index_after}
+use Rattle.byte_scan.specs.Bytes.{index_of, index_after}
 use Rattle.text_stream.specs.Stream.{pushed, lines_of}
 use Rattle.text_pieces.specs.Piece.{Piece, full, bare, pushed_on, pieces_of, text_of, lines_in, Plain, Whole, Sub, finish, keep, skip}
 

@@ -1,4 +1,6 @@
 // What stands in a field of a printed line: a mark, a word, a number, bytes in hex, codes, each with the byte that ends its field.
+#![tactic(auto)]
+
 ghost use Rattle.std.specs.Prelude.{[], ◌∷◌, ◌+◌, ◌*◌, ◌≤◌, length};
 ghost use Rattle.text_numbers.specs.Decimal.{dec_text};
 ghost use Rattle.text_numbers.specs.Hex.{to_hex, hex_text};

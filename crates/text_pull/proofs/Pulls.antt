@@ -8,7 +8,7 @@ use lib.IntN.{ℤ}
 use lib.ListN.{length, take, drop, length-take, length-drop, take-append-drop, drop_of_length-le}
 use lib.Seq.{length-take-le, split_at, drop-drop}
 use borrow.Author.Tests.{eq-eqb, ne_eqb, lt-ltb}
-use Rattle.bytes.specs.Bytes.{index_of, index_after}
+use Rattle.byte_scan.specs.Bytes.{index_of, index_after}
 use Rattle.io.specs.Counts.{clamp_len}
 use Rattle.text_feed.specs.declared.Place.{Place}
 use Rattle.text_feed.specs.Feed.{place_after, line_after}

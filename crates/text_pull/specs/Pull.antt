@@ -1,7 +1,7 @@
 -- A text pulled line by line, and what a program over one has come to.
 use Rattle.std.specs.Prelude.{ℕ, ◌+◌, ◌-◌, ◌≤◌, ◌<◌, ◌≡◌, Bool, true, false, cond, List, [], ◌∷◌, ◌++◌, ℤ, pos, negsuc, eqb, ltb, length, take, drop}
 use Rattle.std.specs.Int.Signed.{lt_z}
-use Rattle.bytes.specs.Bytes.{index_of}
+use Rattle.byte_scan.specs.Bytes.{index_of}
 use Rattle.io.specs.Counts.{clamp_len}
 use Rattle.text_feed.specs.declared.Place.{Place}
 use Rattle.text_stream.specs.Stream.{Machine, between, said, says_of, Written}

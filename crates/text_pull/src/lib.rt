@@ -1,4 +1,6 @@
 // A text pulled line by line: where the reading is, what a read brings, the next whole line, what a line leaves, what a write leaves.
+#![tactic(auto)]
+
 pub mod whole;
 pub mod writing;
 
@@ -27,7 +29,7 @@ const FULL: u64 = 6;
 // chunk has and how many of them are taken; whether the line at hand is whole (1, else 0); how many bytes are printed and wait to be
 // written; the stage; and how many were read and written in all. No other room can make one or change one: a stage is what a read, a write
 // or a machine came to.
-#[derive(Drop)]
+#[derive(Clone, Copy)]
 pub struct Flow {
     turns: u64,
     len: usize,
@@ -267,7 +269,7 @@ pub fn closed(flow: Flow, made: usize) -> Flow
 }
 
 // What is said of a program that has left its loop.
-#[derive(Drop)]
+#[derive(Clone, Copy)]
 enum Fault {
     Nothing,
     Unread,

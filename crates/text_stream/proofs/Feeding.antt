@@ -7,7 +7,7 @@ use mathlib.Core.List.{List, ◌++◌}
 use lib.ListN.{length, take, drop, length-take, length-append}
 use lib.Seq.{take-take, take_all, take_at, take-append-add, length-take-le}
 use borrow.Author.Tests.{lt-ltb, le-ltb}
-use Rattle.bytes.specs.Bytes.{index_of}
+use Rattle.byte_scan.specs.Bytes.{index_of}
 use Rattle.byte_parts.proofs.Part.{put-split}
 use Rattle.text_feed.specs.declared.Place.{Place}
 use Rattle.text_feed.specs.Feed.{upto_lf, place_past, place_after, line_after}

@@ -6,7 +6,7 @@ use mathlib.Core.Path.{◌≡◌, refl, sym, ap, ◌∙◌}
 use mathlib.Core.List.{List, [], ◌∷◌, ◌++◌, append-nil, append_assoc}
 use lib.ListN.{length, take, get_or}
 use borrow.Author.Tests.{eq-eqb, ne_eqb}
-use Rattle.bytes.specs.Bytes.{index_of, index_after}
+use Rattle.byte_scan.specs.Bytes.{index_of, index_after}
 use Rattle.text_stream.specs.Stream.{Machine, Mid, byte_fed, byte_said, fed, said, Keeps}
 
 -- Where a LF was found one stands.
