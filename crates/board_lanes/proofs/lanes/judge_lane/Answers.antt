@@ -1,0 +1,14 @@
+-- `lanes::judge_lane` meets its contract: empty, or filled. Assumes nothing.
+use borrow.Author.Rules.{rules}
+use mathlib.Core.Path.{◌≡◌, sym, ◌∙◌}
+use mathlib.Core.Bool.{Bool}
+use Rattle.board_lanes.specs.Board.{is_empty, lane_judged}
+use Rattle.board_lanes.proofs.lanes.judge_lane.Goals as goal
+
+pub returns-then-is_empty : goal.returns-then-is_empty
+unfolding lane_judged
+returns-then-is_empty c = rw (sym c.is_empty.ensures ∙ c.if-is_empty.true)
+
+pub returns : goal.returns
+unfolding lane_judged
+returns c = rw (sym c.is_empty.ensures ∙ c.if-is_empty.false) c.judge_block.ensures

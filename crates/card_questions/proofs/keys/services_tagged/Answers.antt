@@ -1,0 +1,37 @@
+-- Whether the list is well formed is whether what is left of it is, after the entries that were read.
+use mathlib.Core.Path.{◌≡◌, sym, ◌∙◌}
+use mathlib.Core.Logic.{⊎_elim}
+use Prim.Native.Nat.{◌-◌}
+use native.Mathlib.Omega.{arith}
+use lib.ListN.{length}
+use borrow.Author.Rules.{rules}
+use Rattle.card_nodes.proofs.Scan.{done}
+use Rattle.card_questions.specs.Tags.{OfTags}
+use Rattle.card_questions.specs.Keys.{service_list_of}
+use Rattle.card_questions.proofs.Lists.{InList, rest_of, none_read, last-read, unknown, disorder, keyed_read, free-read}
+use Rattle.card_questions.proofs.keys.services_tagged.Goals as goal
+
+pub loop-i-preserved : goal.loop-i-preserved
+loop-i-preserved c ns t =
+    let l = c.loop-i in
+    let e = sym (c.list_node.ensures ns t) in
+    ⊎_elim
+    (λ w. keyed_read ns l.has-keyed l.seen-free (l.invariant ns t) (omega arith) _ _ (e ∙ w.1.given.1) w.2.left w.3 w.4)
+    (λ w. free-read ns l.has-keyed l.seen-free (l.invariant ns t) (omega arith) _ _ (e ∙ w.1.given.1) w.2 w.3)
+    c.match-list_node.branch
+
+pub loop-i-init : goal.loop-i-init
+loop-i-init c ns t = none_read ns _
+
+pub returns-then-seen_free : goal.returns-then-seen_free
+returns-then-seen_free c ns t =
+    let l = c.loop-i in
+    disorder ns l.has-keyed l.seen-free (l.invariant ns t) (omega arith) (sym (c.list_node.ensures ns t) ∙ c.in-Keyed.is) c.if-seen_free.true
+
+pub returns-in-Unknown : goal.returns-in-Unknown
+returns-in-Unknown c ns t =
+    let l = c.loop-i in
+    unknown ns l.has-keyed l.seen-free (l.invariant ns t) (omega arith) (sym (c.list_node.ensures ns t) ∙ c.in-Unknown.is)
+
+pub returns : goal.returns
+returns c ns t = last-read ns c.loop-i.has-keyed c.loop-i.seen-free ∙ done (c.loop-i.invariant ns t) (omega arith)

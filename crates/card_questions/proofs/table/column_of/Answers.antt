@@ -1,0 +1,29 @@
+-- The cells before i are the column's, those after it zero as they were.
+use mathlib.Core.Path.{◌≡◌, sym, ◌∙◌}
+use mathlib.Core.List.{map}
+use Prim.Native.Nat.{◌-◌}
+use native.Mathlib.Omega.{arith}
+use lib.ListN.{length, length-map}
+use borrow.Author.Rules.{rules}
+use Rattle.card_questions.specs.Table.{cell_of}
+use Rattle.card_questions.proofs.Columns.{column_read}
+use Rattle.card_questions.proofs.Filled.{Filled, none_filled, one_filled, all-filled}
+use Rattle.card_questions.proofs.table.column_of.Goals as goal
+
+pub loop-i-init : goal.loop-i-init
+loop-i-init c =
+    let all : length c.args.t1 ≡ 64 = search rules in
+    none_filled (omega (arith, all, length-map c.args.t1 (cell_of c.args.column)))
+
+pub loop-i-preserved : goal.loop-i-preserved
+loop-i-preserved c =
+    let a = c.args in
+    let all : length a.t1 ≡ 64 = search rules in
+    one_filled c.loop-i.invariant (omega (arith, all, length-map a.t1 (cell_of a.column)))
+    (c.cell.ensures ∙ sym (column_read a.column a.t1 c.loop-i.i _ (omega (arith, all))))
+
+pub returns : goal.returns
+returns c =
+    let a = c.args in
+    let all : length a.t1 ≡ 64 = search rules in
+    all-filled c.loop-i.invariant (omega (arith, all, length-map a.t1 (cell_of a.column)))

@@ -1,0 +1,16 @@
+use mathlib.Core.Path.{◌≡◌, sym, ◌∙◌}
+use mathlib.Core.List.{map}
+use Prim.Native.Nat.{◌-◌}
+use native.Mathlib.Omega.{arith}
+use lib.ListN.{length, length-map}
+use borrow.Author.Rules.{rules}
+use Rattle.card_questions.specs.Tags.{tag_of}
+use Rattle.card_questions.proofs.Columns.{cells_read}
+use Rattle.card_questions.proofs.Filled.{Filled, none_filled, one_filled, all-filled}
+use Rattle.card_questions.proofs.tags.tags_of.Given as goal
+
+abbrev pub invariant-loop-i : goal.invariant-loop-i
+invariant-loop-i l = Filled (map tag_of l.nodes) l.initial.tags l.tags l.i
+
+abbrev pub decreases-loop-i : goal.decreases-loop-i
+decreases-loop-i l = 64 - l.i

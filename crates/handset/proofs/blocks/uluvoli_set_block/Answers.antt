@@ -1,0 +1,17 @@
+-- Sixteen bytes are set; others are refused, after the call's own refusals.
+use mathlib.Core.Path.{refl}
+use borrow.Author.Tests.{eq-eqb, ne_eqb}
+use borrow.Author.Rules.{rules}
+use Rattle.handset_words.specs.Block.{set_answer, set_after}
+use Rattle.handset.proofs.blocks.uluvoli_set_block.Goals as goal
+
+pub returns-then-block-ne16 : goal.returns-then-block-ne16
+unfolding set_answer set_after
+returns-then-block-ne16 c =
+    rw (ne_eqb _ 16 c.if-block-ne16.true, ← c.decode-own.ensures) (rw (← c.judge_block.ensures) c.unfit.ensures, refl)
+
+pub returns : goal.returns
+unfolding set_answer set_after
+returns c =
+    let e = c.set_block.ensures in
+    rw (eq-eqb _ 16 c.if-block-ne16.false, ← c.decode-own.ensures, ← c.sixteen-bytes.ensures) (rw (← e.0) c.answered.ensures, e.1)

@@ -1,0 +1,23 @@
+-- `message::put_message` meets its contract: what was written, or the refusal. Assumes nothing.
+use borrow.Author.Rules.{rules}
+use native.Mathlib.Omega.{arith}
+use native.Mathlib.Nat.{sub-zero}
+use lib.ListN.{length-take}
+use Rattle.inspect_answer.proofs.message.put_message.Goals as goal
+
+pub slice_bounds-put_hex-end : goal.slice_bounds-put_hex-end
+slice_bounds-put_hex-end c =
+    omega (arith, rw c.in-Bytes.is at c.requires.0)
+
+pub put_hex-requires : goal.put_hex-requires
+put_hex-requires c =
+    simp length-take (omega (arith, c.requires.1, c.requires.2))
+
+pub returns-in-Bytes : goal.returns-in-Bytes
+returns-in-Bytes c =
+    let w = rw (sub-zero c.in-Bytes.n) at c.put_hex.ensures in
+    rw c.in-Bytes.is (w.0, omega (arith, simp length-take at w.1, c.requires.1))
+
+pub returns-in-Refused : goal.returns-in-Refused
+returns-in-Refused c =
+    rw c.in-Refused.is (c.put_refusal.ensures.written, omega (arith, c.put_refusal.ensures.upper_bound))

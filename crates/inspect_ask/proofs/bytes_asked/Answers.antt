@@ -1,0 +1,17 @@
+-- `inspect_ask::bytes_asked` meets its contract: name after name. Assumes nothing.
+use borrow.Author.Rules.{rules}
+use Rattle.inspect_ask.specs.Question.{bytes_asked}
+use Rattle.inspect_ask.proofs.Tests.{names}
+use Rattle.inspect_ask.proofs.bytes_asked.Goals as goal
+
+pub returns-then-is_form : goal.returns-then-is_form
+unfolding bytes_asked
+returns-then-is_form c = search names
+
+pub returns-then-is_form-2 : goal.returns-then-is_form-2
+unfolding bytes_asked
+returns-then-is_form-2 c = search names
+
+pub returns : goal.returns
+unfolding bytes_asked
+returns c = search names

@@ -1,0 +1,15 @@
+-- `read::put_listed` meets its contract: what the bytes read as, or the refusal. Assumes nothing.
+use borrow.Author.Rules.{rules}
+use native.Mathlib.Omega.{arith}
+use Rattle.inspect_fields.specs.Fields.{read_list_fields}
+use Rattle.inspect_fields.proofs.read.put_listed.Goals as goal
+
+pub returns-in-Done : goal.returns-in-Done
+unfolding read_list_fields
+returns-in-Done c =
+    rw (← c.read_code_list-listed.ensures, c.in-Done.is) c.put_code_list.ensures
+
+pub returns-in-Refused : goal.returns-in-Refused
+unfolding read_list_fields
+returns-in-Refused c =
+    rw (← c.read_code_list-listed.ensures, c.in-Refused.is) (c.put_refusal.ensures.written, omega (arith, c.put_refusal.ensures.upper_bound))

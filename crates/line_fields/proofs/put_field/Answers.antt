@@ -1,0 +1,20 @@
+-- `line_fields::put_field` meets its contract: the bytes of a field are those that it spells. Assumes nothing.
+use borrow.Author.Rules.{rules}
+use native.Mathlib.Omega.{arith}
+use Rattle.text_numbers.proofs.HexLaws.{length-unhex}
+use Rattle.line_fields.specs.Fields.{field_in}
+use Rattle.line_fields.proofs.Spelled.{spelled}
+use Rattle.line_fields.proofs.put_field.Goals as goal
+
+pub put_bytes-requires : goal.put_bytes-requires
+put_bytes-requires c =
+    let f = field_in c.args.line.now c.args.k in
+    rw c.field_at.ensures (c.requires.0, omega (arith, length-unhex f))
+
+pub returns : goal.returns
+returns c =
+    let a = c.args in
+    spelled _ (field_in a.line.now a.k) a.bytes.now a.at c.field_at.ensures c.put_bytes.ensures.value c.put_bytes.ensures.out_after
+
+pub field_at-requires : goal.field_at-requires
+field_at-requires c = c.requires.2

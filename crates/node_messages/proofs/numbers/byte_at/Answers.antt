@@ -1,0 +1,15 @@
+-- A byte of the slice, or none.
+use mathlib.Core.Path.{◌≡◌, refl, sym}
+use native.Mathlib.Omega.{arith}
+use lib.ListN.{get_or-eq_default}
+use borrow.Author.Rules.{rules}
+use Rattle.node_messages.proofs.numbers.byte_at.Goals as goal
+
+pub returns-then-i-s : goal.returns-then-i-s
+returns-then-i-s c = (refl, omega (arith, c.shared_slice_known-1.given c.args.i))
+
+pub returns : goal.returns
+returns c = (sym (get_or-eq_default c.args.s.now 0 (omega arith)), omega arith)
+
+pub overflow_cast-result : goal.overflow_cast-result
+overflow_cast-result c = omega (arith, c.shared_slice_known-1.given c.args.i)

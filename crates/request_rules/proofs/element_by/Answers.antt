@@ -1,0 +1,40 @@
+-- `rules::element_by` meets its contract: each attribute is a case of the rule. Assumes nothing.
+use mathlib.Core.Path.{refl, sym}
+use borrow.Author.Rules.{rules}
+use Rattle.request_rules.specs.Rules.{element_by}
+use Rattle.request_rules.proofs.Lent.{cyclic_ends}
+use Rattle.request_rules.proofs.element_by.Goals as goal
+
+pub returns-in-RandomReadWrite : goal.returns-in-RandomReadWrite
+unfolding element_by
+returns-in-RandomReadWrite c = rw c.in-RandomReadWrite.is (refl, c.copy_block.ensures)
+
+pub returns-in-RandomReadOnly : goal.returns-in-RandomReadOnly
+unfolding element_by
+returns-in-RandomReadOnly c = rw c.in-RandomReadOnly.is (refl, refl)
+
+pub returns-in-CyclicReadWrite : goal.returns-in-CyclicReadWrite
+unfolding element_by
+returns-in-CyclicReadWrite c = rw c.in-CyclicReadWrite.is (cyclic_ends _ _ c.cyclic_element.ensures)
+
+pub returns-in-CyclicReadOnly : goal.returns-in-CyclicReadOnly
+unfolding element_by
+returns-in-CyclicReadOnly c = rw c.in-CyclicReadOnly.is (refl, refl)
+
+pub returns-in-PurseDirect : goal.returns-in-PurseDirect
+unfolding element_by
+returns-in-PurseDirect c = rw c.in-PurseDirect.is c.purse_in.ensures
+
+pub returns-in-PurseCashback : goal.returns-in-PurseCashback
+unfolding element_by
+returns-in-PurseCashback c =
+    rw (c.in-PurseCashback.is, sym c.cashback_in.ensures)
+    c.purse_in-in-PurseCashback.ensures
+
+pub returns-in-PurseDecrement : goal.returns-in-PurseDecrement
+unfolding element_by
+returns-in-PurseDecrement c = rw c.in-PurseDecrement.is c.purse_in-in-PurseDecrement.ensures
+
+pub returns-in-PurseReadOnly : goal.returns-in-PurseReadOnly
+unfolding element_by
+returns-in-PurseReadOnly c = rw c.in-PurseReadOnly.is (refl, refl)

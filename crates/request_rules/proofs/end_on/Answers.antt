@@ -1,0 +1,20 @@
+-- `rules::end_on` meets its contract: the store was lent to the rule of its attribute. Assumes nothing.
+use native.Mathlib.Omega.{arith}
+use mathlib.Core.Path.{refl, sym}
+use borrow.Author.Rules.{rules}
+use Rattle.byte_parts.proofs.Part.{put-part}
+use Rattle.request_rules.specs.Lens.{back, within}
+use Rattle.request_rules.specs.Rules.{end_by, on_store}
+use Rattle.request_rules.proofs.Lent.{store_lent}
+use Rattle.request_rules.proofs.end_on.Goals as goal
+
+pub returns-in-Defined : goal.returns-in-Defined
+returns-in-Defined c =
+    let a = c.args in
+    let k = c.end_by in
+    store_lent a.row a.stage.now (end_by a.row.attribute a.run.now) k.result k.new.0 c.place_of-at.result c.place_of-at.ensures (omega arith) k.auto.0
+    (rw c.in-Defined.is k.ensures)
+
+pub returns-in-Undefined : goal.returns-in-Undefined
+unfolding on_store within back end_by
+returns-in-Undefined c = rw c.in-Undefined.is (refl, sym (put-part _ _ _))

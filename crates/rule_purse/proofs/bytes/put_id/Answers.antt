@@ -1,0 +1,6 @@
+-- `bytes::put_id` meets its contract. Assumes nothing.
+use borrow.Author.Rules.{rules}
+use Rattle.rule_purse.proofs.bytes.put_id.Goals as goal
+
+pub returns : goal.returns
+returns c = c.take_over.ensures

@@ -1,0 +1,15 @@
+-- `fields::more` meets its contract: a sum of two fields fits 64 bits. Assumes nothing.
+use mathlib.Core.Path.{sym}
+use lib.IntN.{◌+ℤ◌}
+use borrow.Author.Rules.{rules}
+use Rattle.byte_parts.proofs.Laws.{plus_mag, op_fits, op_clean}
+use Rattle.rule_purse.proofs.fields.more.Goals as goal
+
+pub overflow_add-x : goal.overflow_add-x
+overflow_add-x c = op_fits ◌+ℤ◌ plus_mag c.value-x.result c.value-y.result c.value-x.ensures.1 c.value-y.ensures.1
+
+pub returns : goal.returns
+returns c =
+    let x = c.value-x in
+    let y = c.value-y in
+    rw (sym x.ensures.0, sym y.ensures.0) (rw (op_clean ◌+ℤ◌ plus_mag x.result y.result x.ensures.1 y.ensures.1) at c.ranged.ensures)

@@ -1,0 +1,76 @@
+-- What stands first is put, then the walk goes on behind it. Assumes nothing.
+use Prim.Native.Nat.{ℕ}
+use native.Mathlib.Omega.{arith}
+use mathlib.Core.Path.{refl, sym, ap, ◌∙◌}
+use mathlib.Core.List.{List, ◌++◌}
+use lib.ListN.{length}
+use Rattle.salvage_rule.specs.Salvage.{Between, fresh}
+use Rattle.salvage_line.specs.Image.{Image, imaged}
+use Rattle.salvage_print.specs.declared.Spot.{Spot}
+use Rattle.salvage_print.specs.declared.Spot.TheVariants.{Full}
+use Rattle.salvage_print.specs.Print.{spotted}
+use Rattle.salvage_print.proofs.Spots.{at_back}
+use Rattle.salvage_walk.specs.Walk.{image_at, report_at}
+use Rattle.salvage_text.proofs.Front.{wrote-behind, wrote_none, short_first, short_second, extent_behind}
+use borrow.Author.Rules.{rules}
+use Rattle.salvage_text.proofs.pass_behind.Goals as goal
+
+pub returns-in_default : goal.returns-in_default
+returns-in_default c =
+    let a = c.args in
+    let z : Between Image = fresh (imaged a.card a.arena.now) in
+    let d : List ℕ = image_at a.text.now z a.from in
+    let u : List ℕ = report_at a.text.now a.lines z a.from in
+    let g : List ℕ = a.head.now in
+    let h : List ℕ = a.words.now in (
+      short_first (length a.out.now) (length a.report.now) g d (h ++ u) (sym c.in_default.is ∙ c.put.ensures.value),
+      (
+        wrote_none a.write c.put.result a.out.now c.put.new.1.0 (g ++ d) g c.put.ensures.dst_after,
+        wrote_none a.write Full a.report.now a.report.now (h ++ u) h refl,
+      ),
+    )
+
+pub returns-in_default-put : goal.returns-in_default-put
+returns-in_default-put c =
+    let a = c.args in
+    let z : Between Image = fresh (imaged a.card a.arena.now) in
+    let d : List ℕ = image_at a.text.now z a.from in
+    let u : List ℕ = report_at a.text.now a.lines z a.from in
+    let g : List ℕ = a.head.now in
+    let h : List ℕ = a.words.now in (
+      short_second (length a.out.now) (length a.report.now) (g ++ d) h u (sym c.in_default-put.is ∙ c.put-2.ensures.value),
+      (
+        wrote_none a.write c.put.result a.out.now c.put.new.1.0 (g ++ d) g c.put.ensures.dst_after,
+        wrote_none a.write c.put-2.result a.report.now c.put-2.new.1.0 (h ++ u) h c.put-2.ensures.dst_after,
+      ),
+    )
+
+pub walk-requires : goal.walk-requires
+walk-requires c =
+    let a = c.args in
+    let x = at_back (length a.out.now) 0 (length a.head.now) c.in-At.image (sym c.in-At.is ∙ c.put.ensures.value) in
+    let y = at_back (length a.report.now) 0 (length a.words.now) c.in-At-put.said (sym c.in-At-put.is ∙ c.put-2.ensures.value) in
+    (c.requires.0, c.requires.1, omega (arith, x.0, x.1, c.put.auto.1.0), omega (arith, y.0, y.1, c.put-2.auto.1.0))
+
+pub returns : goal.returns
+returns c =
+    let a = c.args in
+    let z : Between Image = fresh (imaged a.card a.arena.now) in
+    let d : List ℕ = image_at a.text.now z a.from in
+    let u : List ℕ = report_at a.text.now a.lines z a.from in
+    let g : List ℕ = a.head.now in
+    let h : List ℕ = a.words.now in
+    let e = c.walk.ensures in
+    let m = c.image-1.given in
+    let n = c.said-1.given in
+    let x = sym m.1 ∙ c.put.ensures.value in
+    let y = sym n.1 ∙ c.put-2.ensures.value in (
+      extent_behind (length a.out.now) (length a.report.now) (length c.put.new.1.0) (length c.put-2.new.1.0) m.0.0 n.0.0 c.walk.result g d h u
+          c.put.auto.1.0 c.put-2.auto.1.0 x y e.0,
+      (
+        wrote-behind a.write c.walk.result a.out.now c.put.new.1.0 c.walk.new.1.1.1.1.1.0 g d m.0.0 x
+            (c.put.ensures.dst_after ∙ ap (λ (r : Spot). spotted r a.write a.out.now 0 g) m.1) e.1.0,
+        wrote-behind a.write c.walk.result a.report.now c.put-2.new.1.0 c.walk.new.1.1.1.1.1.1.1.0 h u n.0.0 y
+            (c.put-2.ensures.dst_after ∙ ap (λ (r : Spot). spotted r a.write a.report.now 0 h) n.1) e.1.1,
+      ),
+    )

@@ -1,0 +1,43 @@
+-- Where the pass that counts finds room, the one that writes does too. Assumes nothing.
+use Prim.Native.Nat.{ℕ}
+use mathlib.Core.List.{List}
+use lib.ListN.{length}
+use Rattle.salvage_text.specs.Text.{salvaged_text, reported_text}
+use Rattle.salvage_text.proofs.Front.{landed, landed_short, same_extent, same_fits}
+use borrow.Author.Rules.{rules}
+use Rattle.salvage_text.proofs.passes.Goals as goal
+
+pub returns-in-Short : goal.returns-in-Short
+returns-in-Short c =
+    let a = c.args in
+    let t = a.text.now in
+    let e = c.pass-counted.ensures in
+    let h = c.in-Short.is in (
+      e.0,
+      (
+        landed_short c.pass-counted.result a.out.now c.pass-counted.new.1.1.0 (salvaged_text t) h e.1.0,
+        landed_short c.pass-counted.result a.report.now c.pass-counted.new.1.1.1.0 (reported_text t) h e.1.1,
+      ),
+    )
+
+pub returns-in-Fits : goal.returns-in-Fits
+returns-in-Fits c =
+    let a = c.args in
+    let t = a.text.now in
+    let o : List ℕ = a.out.now in
+    let w : List ℕ = a.report.now in
+    let e = c.pass-counted.ensures in
+    let o' : List ℕ = c.pass-counted.new.1.1.0 in
+    let w' : List ℕ = c.pass-counted.new.1.1.1.0 in
+    let h = c.in-Fits.is in
+    let f = c.pass.ensures in
+    let m = length (salvaged_text t) in
+    let n = length (reported_text t) in
+    let z = same_extent c.pass.result o o' w w' m n e.1.0 e.1.1 f.0 in
+    let k = same_fits c.pass.result c.pass-counted.result o o' w w' m n _ _ e.1.0 e.1.1 f.0 e.0 h in (
+      z,
+      (
+        landed c.pass.result _ _ o o' c.pass.new.1.1.0 (salvaged_text t) k e.1.0 f.1.0,
+        landed c.pass.result _ _ w w' c.pass.new.1.1.1.0 (reported_text t) k e.1.1 f.1.1,
+      ),
+    )

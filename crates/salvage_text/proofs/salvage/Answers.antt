@@ -1,0 +1,18 @@
+-- Two passes, and what they say of the room. Assumes nothing.
+use mathlib.Core.Path.{ap, ◌∙◌}
+use Rattle.salvage_walk.specs.declared.Extent.{Extent}
+use Rattle.salvage_text.specs.Text.{salvage_answer, landed_by, salvaged_text, reported_text}
+use borrow.Author.Rules.{rules}
+use Rattle.salvage_text.proofs.salvage.Goals as goal
+
+pub returns : goal.returns
+returns c =
+    let a = c.args in
+    let t = a.text.now in
+    let e = c.passes.ensures in (
+      c.answer_of_lem.ensures ∙ ap salvage_answer e.0,
+      (
+        e.1.0 ∙ ap (λ (x : Extent). landed_by x a.out.now (salvaged_text t)) e.0,
+        e.1.1 ∙ ap (λ (x : Extent). landed_by x a.report.now (reported_text t)) e.0,
+      ),
+    )

@@ -1,0 +1,27 @@
+-- `codes::read_hex16` meets its contract: the tests are those of `hex16`. Assumes nothing.
+use borrow.Author.Rules.{rules}
+use native.Mathlib.Omega.{arith}
+use mathlib.Core.Path.{sym, ap, ◌∙◌}
+use borrow.Author.Tests.{not-true, not-false}
+use Rattle.byte_parts.proofs.Tests.{tests}
+use Rattle.text_numbers.specs.Codes.{hex16}
+use Rattle.text_numbers.specs.declared.codes.Code.TheVariants.{Is}
+use Rattle.text_numbers.proofs.CodeLaws.{hex16_four, codes_one}
+use Rattle.text_numbers.proofs.codes.read_hex16.Goals as goal
+
+pub returns-then-s-ne4 : goal.returns-then-s-ne4
+unfolding hex16
+returns-then-s-ne4 c = search tests
+
+pub returns-then-not-are_digits : goal.returns-then-not-are_digits
+unfolding hex16
+returns-then-not-are_digits c = search (tests, sym c.are_digits.ensures ∙ not-true _ c.if-not-are_digits.true)
+
+pub code_at-requires : goal.code_at-requires
+code_at-requires c = (sym c.are_digits.ensures ∙ not-false _ c.if-not-are_digits.false, omega arith)
+
+pub returns : goal.returns
+returns c =
+    let s = c.args.s.now in
+    let d = sym c.are_digits.ensures ∙ not-false _ c.if-not-are_digits.false in
+    ap Is (c.code_at.ensures ∙ codes_one s (omega arith)) ∙ sym (hex16_four s (omega arith) d)

@@ -1,0 +1,16 @@
+use Prim.Native.Nat.{◌-◌, ◌/◌, ◌≤◌}
+use native.Mathlib.Omega.{arith}
+use mathlib.Core.Path.{◌≡◌, refl, sym, ◌∙◌}
+use lib.ListN.{length, length-set}
+use Rattle.byte_parts.specs.Part.{put}
+use Rattle.byte_parts.proofs.Part.{put_zero}
+use Rattle.text_numbers.specs.Hex.{unhex}
+use Rattle.text_numbers.proofs.HexLaws.{field_pair, length-unhex, unhex_at}
+use Rattle.byte_parts.proofs.Put.{put_next}
+use Rattle.text_numbers.proofs.hex.put_bytes.Given as goal
+
+abbrev pub invariant-loop-i : goal.invariant-loop-i
+invariant-loop-i l = (l.i ≤ l.n) × (l.out ≡ put l.initial.out l.at l.i (unhex l.s)) × (length l.out ≡ length l.initial.out)
+
+abbrev pub decreases-loop-i : goal.decreases-loop-i
+decreases-loop-i l = l.n - l.i
