@@ -1,9 +1,9 @@
 -- Parts of a list, and where a byte first stands in one.
-use Rattle.std.specs.Prelude.{ℕ, ◌-◌, Bool, true, false, suc, zero, List, [], ◌∷◌, eqb, take, drop}
+use Rattle.std.specs.Prelude.{ℕ, Bool, true, false, suc, List, [], ◌∷◌, eqb, take, drop}
 
 -- the items from an index on, up to another
 unfoldable pub slice : ℕ → ℕ → List ℕ → List ℕ
-slice from to s = take (to - from) (drop from s)
+slice from to s = drop from (take to s)
 
 -- where a byte is found: here, or one behind where it is found in the rest
 unfoldable pub index_after : Bool → ℕ → ℕ

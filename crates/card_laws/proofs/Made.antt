@@ -85,7 +85,7 @@ unfolding steps_from
 steps_made {ns = ns} {used = used} {u = u} [] m h = let e : used ≡ u = cc in rw (append-nil ns) (subst (Made ns) e m)
 steps_made {ns = ns} {used = used} (n ∷ ms) m h =
     let w = went (step_of ns used n) (λ u. steps_from (ns ++ (n ∷ [])) u ms) h in
-    rw (append_snoc ns n ms) at (steps_made ms (step_made n m w.1) w.2)
+    rw (append_snoc ns n ms) at (steps_made {ns = ns ++ (n ∷ [])} {used = w.0} ms (step_made n m w.1) w.2)
 
 -- one record more after those that it goes through
 steps_more : (ns : List Node) (used : ℕ) (ms : List Node) (n : Node) {u v : ℕ} → steps_from ns used ms ≡ Goes u →

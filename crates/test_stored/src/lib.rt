@@ -2,8 +2,11 @@
 #![tactic(auto)]
 
 ghost use Rattle.std.specs.Prelude.{◌≡◌, ◌+◌, ◌*◌, ◌%◌, ◌^◌, ◌<◌, ◌≤◌, length, nat_lt};
+ghost use Rattle.std.specs.Str.{IsAscii};
 
 use byte_scan as scan;
+use std::io::{Error, Read, Result};
+use std::rt::Files;
 use text_numbers::codes::{Code, read_hex16};
 
 // More lines than the stored files have.
@@ -16,7 +19,8 @@ fn last_digit(n: u32) -> u8 {
 
 // The name of file number n: its last four digits, then `.in`.
 pub fn name(n: u32) -> [u8; 7]
-    ensures { 7 ≡ length result }
+    ensures len { 7 ≡ length result }
+    ensures ascii { IsAscii result }
 {
     [
         last_digit(n / 1000),
@@ -29,18 +33,38 @@ pub fn name(n: u32) -> [u8; 7]
     ]
 }
 
-// Reads file number n, as much as the buffer holds; nothing where it is missing.
-fn read_file(n: u32, buffer: &mut [u8]) -> usize
+// Opens file number n.
+pub fn open<R: Files>(rt: &R, n: u32) -> Result<R::File> {
+    let name = name(n);
+    std::fs::open(rt, str::from_utf8(&name).unwrap())
+}
+
+// Reads until the buffer is full, the file has ended or a read fails, and tells how many bytes it has read.
+fn read_full<F: Read>(file: &mut F, buffer: &mut [u8]) -> usize
     ensures { result ≤ length buffer.new }
 {
-    let name = name(n);
-    let file = os::open_read(&name);
-    if file < 0 {
-        return 0;
+    let mut done = 0;
+    while done < buffer.len() {
+        let n = file.read(&mut buffer[done..]).unwrap_or(0);
+        if n == 0 {
+            return done;
+        }
+        done += n;
     }
-    let got = io::read_full(file, buffer);
-    libc::close(file);
-    got
+    done
+}
+
+// Reads file number n, as much as the buffer holds; nothing where it is missing.
+fn read_file<R: Files>(rt: &R, n: u32, buffer: &mut [u8]) -> usize
+    ensures { result ≤ length buffer.new }
+{
+    match open(rt, n) {
+        Ok(file) => {
+            let mut from = file;
+            read_full(&mut from, buffer)
+        }
+        Err(_) => 0,
+    }
 }
 
 // The byte that two hex digits at an index spell, or 256.
@@ -135,14 +159,14 @@ fn line_from(file: u32, text: &[u8], size: usize, start: usize) -> Line
 }
 
 // The line after a line, in its text or in that of the next file, which is then read to the buffer.
-pub fn next_line(line: Line, text: &mut [u8]) -> Line
+pub fn next_line<R: Files>(rt: &R, line: Line, text: &mut [u8]) -> Line
     ensures { (result.start ≤ result.end) × (result.end ≤ length text.new) }
 {
     if line.end < line.size && line.size <= text.len() && line.end + 1 < line.size {
         return line_from(line.file, text, line.size, line.end + 1);
     }
-    let file = std::num::wrapping_add_u32(line.file, 1);
-    let size = read_file(file, text);
+    let file = line.file.wrapping_add(1);
+    let size = read_file(rt, file, text);
     line_from(file, text, size, 0)
 }
 
@@ -150,7 +174,7 @@ pub fn next_line(line: Line, text: &mut [u8]) -> Line
 pub fn one_more(n: u64) -> u64
     ensures { result ≡ (n + 1) % 2 ^ 64 }
 {
-    std::num::wrapping_add_u64(n, 1)
+    n.wrapping_add(1)
 }
 
 // A number of 16 bits, high byte first.
@@ -176,6 +200,26 @@ pub fn report(label: &[u8], n: u64) {
 }
 
 // Says on standard error that no line was read, and why: the first file is missing from the folder that the program runs in.
-pub fn report_none() {
-    os::fail(b"no stored answers in this folder: 0001.in");
+pub fn report_none<R: Files + Eprint + Alloc>(rt: &R) {
+    match open(rt, 1) {
+        Ok(_) => say_none(rt, "Success"),
+        Err(error) => say_failed(rt, error),
+    }
+}
+
+// Says that there are no stored answers, and the error of the call that failed.
+fn say_failed(rt: &(impl Eprint + Alloc), error: Error) {
+    match error.to_string(rt.alloc()) {
+        Ok(reason) => say_none(rt, reason.as_str()),
+        Err(_) => say_none(rt, ""),
+    }
+}
+
+// Says that there are no stored answers, and a reason, without its number.
+fn say_none(rt: &impl Eprint, reason: &str) {
+    let why = match reason.split_once(" (os error ") {
+        Some((why, _)) => why,
+        None => reason,
+    };
+    let _ = eprintln!(rt; "no stored answers in this folder: 0001.in: {why}");
 }

@@ -7,6 +7,7 @@ pub mod writing;
 ghost use Rattle.std.specs.Prelude.{◌≡◌, true, false, ◌+◌, ◌≤◌, ◌<◌, length};
 ghost use Rattle.text_pull.specs.Pull.{flow_start, is_interrupt, error_stage, came_stage, stage_of, read_of, Refilled, stage_open, goes_on, at_end, last_of, fed_of, is_line, is_end, Pulled, took_of, closed_of, write_fault, fault_of};
 
+use std::io::{Error, ErrorKind, Read, Result, Write};
 use text_feed::Place;
 
 // Stages: bytes may come, the text has ended, a read failed, a write failed, all is printed, a write took nothing, the buffer for a whole text
@@ -24,6 +25,11 @@ const DONE: u64 = 4;
 const UNTAKEN: u64 = 5;
 
 const FULL: u64 = 6;
+
+// Errors of the system: a signal interrupted the call; a call failed for a reason that has no number.
+const EINTR: i32 = 4;
+
+const EIO: i32 = 5;
 
 // A program between two calls: the turns left, of which a pull and a write use one each; the bytes kept of the line at hand; how many the
 // chunk has and how many of them are taken; whether the line at hand is whole (1, else 0); how many bytes are printed and wait to be
@@ -59,26 +65,61 @@ pub fn start() -> Flow
     }
 }
 
-// Reads from the descriptor: the only read.
-fn read(fd: i32, chunk: &mut [u8]) -> isize {
-    libc::read(fd, chunk)
+// A program's ends: what it reads from and what it writes to, and the number of the error of the call that failed last, 0 before any has.
+#[derive(Drop)]
+pub struct Ends<R, W> {
+    from: R,
+    to: W,
+    errno: i32,
 }
 
-// Writes to standard output: the only write.
-fn write(words: &[u8]) -> isize {
-    libc::write(libc::STDOUT_FILENO, words)
+impl<R, W> Ends<R, W> {
+    // Ends over which no call has failed.
+    pub fn new(from: R, to: W) -> Ends<R, W> {
+        Ends { from, to, errno: 0 }
+    }
+}
+
+// The number of an error, as the system counts them: EINTR (4) where a signal interrupted the call, and else another one; EIO (5) stands
+// for an error that is none of the system's.
+fn number_of(error: Error) -> i32 {
+    if error.kind() == ErrorKind::Interrupted {
+        return EINTR;
+    }
+    error.raw_os_error().unwrap_or(EIO)
+}
+
+// What a call answered: how many bytes it moved, or -1, and then its error is kept.
+fn answered(moved: Result<usize>, errno: &mut i32) -> isize {
+    match moved {
+        Ok(n) => isize::try_from(n).unwrap_or(isize::MAX),
+        Err(error) => {
+            *errno = number_of(error);
+            -1
+        }
+    }
+}
+
+// Reads from the reader: the only read.
+fn read<R: Read, W>(ends: &mut Ends<R, W>, chunk: &mut [u8]) -> isize {
+    answered(ends.from.read(chunk), &mut ends.errno)
+}
+
+// Writes to the writer: the only write.
+fn write<R, W: Write>(ends: &mut Ends<R, W>, words: &[u8]) -> isize {
+    answered(ends.to.write(words), &mut ends.errno)
 }
 
 // The error of the call that failed last.
-fn errno() -> i32 {
-    os::errno()
+fn errno<R, W>(ends: &Ends<R, W>) -> i32 {
+    ends.errno
 }
 
 // Whether an error says that a signal interrupted the call.
 fn is_interrupt(errno: i32) -> bool
     ensures { result ≡ is_interrupt errno }
 {
-    errno == libc::EINTR
+    errno == EINTR
 }
 
 // The stage after a read with an error: an interrupted one is tried again.
@@ -125,8 +166,8 @@ fn take_in(flow: Flow, got: isize, errno: i32, chunk: &[u8]) -> Flow
     after
 }
 
-// Reads from the descriptor, where all of the chunk is taken and the text has not ended.
-fn refill(fd: i32, flow: Flow, chunk: &mut [u8]) -> Flow
+// Reads, where all of the chunk is taken and the text has not ended.
+fn refill<R: Read, W>(ends: &mut Ends<R, W>, flow: Flow, chunk: &mut [u8]) -> Flow
     requires { (flow.read + length chunk.old < 18446744073709551616) × (flow.at ≤ flow.filled) × (flow.filled ≤ length chunk.old) × (flow.stage ≤ 1) × (flow.stage ≡ 1 → flow.filled ≤ flow.at) }
     ensures { Refilled flow chunk.old result chunk.new }
 {
@@ -136,8 +177,8 @@ fn refill(fd: i32, flow: Flow, chunk: &mut [u8]) -> Flow
     if 0 < flow.stage {
         return flow;
     }
-    let got = read(fd, chunk);
-    let errno = errno();
+    let got = read(ends, chunk);
+    let errno = errno(ends);
     take_in(flow, got, errno, chunk)
 }
 
@@ -193,13 +234,13 @@ fn fed(came: Flow, place: Place) -> Flow
 
 // Pulls: reads where the chunk is used up, and takes its bytes up to a LF. Then a whole line stands in front of `line` (`whole` is 1); or
 // the text has ended (stage 1); or the read failed (stage 2); or there is more to come.
-pub fn pull(fd: i32, flow: Flow, chunk: &mut [u8], line: &mut [u8]) -> Flow
+pub fn pull<R: Read, W>(ends: &mut Ends<R, W>, flow: Flow, chunk: &mut [u8], line: &mut [u8]) -> Flow
     requires le_turns { (1 ≤ flow.turns) × (flow.whole ≡ 0) × (flow.stage ≤ 1) × (flow.stage ≡ 1 → flow.filled ≤ flow.at) }
     requires at_le_filled { (flow.at ≤ flow.filled) × (flow.filled ≤ length chunk.old) × (flow.len ≤ length line.old) }
     requires chunk_bound { flow.read + length chunk.old < 18446744073709551616 }
     ensures { Pulled flow chunk.old line.old result chunk.new line.new }
 {
-    let came = refill(fd, flow, chunk);
+    let came = refill(ends, flow, chunk);
     let filled = came.filled;
     let place = text_feed::feed(
         Place {
@@ -304,39 +345,50 @@ fn fault_of(flow: Flow) -> Fault
     write_fault(flow.stage)
 }
 
+// Says words on standard error, and behind them why the call with this error failed.
+fn say(rt: &(impl Eprint + Alloc), words: &str, errno: i32) {
+    match Error::from_raw_os_error(errno).to_string(rt.alloc()) {
+        Ok(reason) => say_why(rt, words, reason.as_str()),
+        Err(_) => say_why(rt, words, ""),
+    }
+}
+
+// Says words on standard error, and behind them a reason, without its number.
+fn say_why(rt: &impl Eprint, words: &str, reason: &str) {
+    let why = match reason.split_once(" (os error ") {
+        Some((why, _)) => why,
+        None => reason,
+    };
+    let _ = eprintln!(rt; "{words}: {why}");
+}
+
 // Says on standard error that a read failed, and why.
-fn say_unread() {
-    os::fail(b"failed: the text could not be read");
+fn say_unread(rt: &(impl Eprint + Alloc), errno: i32) {
+    say(rt, "failed: the text could not be read", errno);
 }
 
 // Says on standard error that a write failed, and why.
-fn say_unwritten() {
-    os::fail(b"failed: the answers could not be written");
+fn say_unwritten(rt: &(impl Eprint + Alloc), errno: i32) {
+    say(rt, "failed: the answers could not be written", errno);
 }
 
 // Says on standard error that a write took nothing: no call failed, so there is no reason to give.
-fn say_untaken() {
-    io::write_all(
-        libc::STDERR_FILENO,
-        b"failed: the answers could not be written: a write took nothing\n",
-    );
+fn say_untaken(rt: &impl Eprint) {
+    let _ = rt.eprintln("failed: the answers could not be written: a write took nothing");
 }
 
 // Says on standard error that the turns are used up.
-fn say_unended() {
-    io::write_all(
-        libc::STDERR_FILENO,
-        b"failed: the turns are used up before the text has ended\n",
-    );
+fn say_unended(rt: &impl Eprint) {
+    let _ = rt.eprintln("failed: the turns are used up before the text has ended");
 }
 
 // Says on standard error what failed, in one line; where nothing did, nothing.
-pub fn report(flow: Flow) {
+pub fn report<R, W>(rt: &(impl Eprint + Alloc), ends: &Ends<R, W>, flow: Flow) {
     match fault_of(flow) {
         Fault::Nothing => {}
-        Fault::Unread => say_unread(),
-        Fault::Unwritten => say_unwritten(),
-        Fault::Untaken => say_untaken(),
-        Fault::Unended => say_unended(),
+        Fault::Unread => say_unread(rt, errno(ends)),
+        Fault::Unwritten => say_unwritten(rt, errno(ends)),
+        Fault::Untaken => say_untaken(rt),
+        Fault::Unended => say_unended(rt),
     }
 }

@@ -2,7 +2,8 @@
 ghost use Rattle.std.specs.Prelude.{◌≡◌, ◌+◌, ◌≤◌, ◌<◌, eqb, length};
 ghost use Rattle.text_pull.specs.Pull.{more_of, More, lacks_of, settled_of, Slurped};
 
-use crate::Flow;
+use crate::{Ends, Flow};
+use std::io::Read;
 
 // Takes in what a read behind the bytes held answered.
 fn take_more(flow: Flow, got: isize, errno: i32, part: &[u8]) -> Flow
@@ -19,12 +20,12 @@ fn take_more(flow: Flow, got: isize, errno: i32, part: &[u8]) -> Flow
 }
 
 // Reads behind the bytes held.
-fn more(fd: i32, flow: Flow, part: &mut [u8]) -> Flow
+fn more<R: Read, W>(ends: &mut Ends<R, W>, flow: Flow, part: &mut [u8]) -> Flow
     requires { (1 ≤ flow.turns) × (flow.read + length part.old < 18446744073709551616) × (flow.filled + length part.old < 18446744073709551616) }
     ensures { More (length part.old) flow result }
 {
-    let got = crate::read(fd, part);
-    let errno = crate::errno();
+    let got = crate::read(ends, part);
+    let errno = crate::errno(ends);
     take_more(flow, got, errno, part)
 }
 
@@ -55,14 +56,14 @@ fn settle(flow: Flow, room: usize) -> Flow
 
 // Reads a whole text into a lent buffer. Then the text has ended, and is shorter than the buffer (stage 1); or the buffer is too short (6);
 // or a read failed (2); or the reads are used up.
-pub fn slurp(fd: i32, buffer: &mut [u8]) -> Flow
+pub fn slurp<R: Read, W>(ends: &mut Ends<R, W>, buffer: &mut [u8]) -> Flow
     requires { length buffer.old < 9223372036854775808 }
     ensures { Slurped (length buffer.old) result }
 {
     let mut flow = crate::start();
     while lacks(flow, buffer.len()) {
         let from = flow.filled;
-        flow = more(fd, flow, &mut buffer[from..]);
+        flow = more(ends, flow, &mut buffer[from..]);
     }
     settle(flow, buffer.len())
 }

@@ -2,7 +2,8 @@
 ghost use Rattle.std.specs.Prelude.{◌≡◌, ◌+◌, ◌≤◌, ◌<◌, length};
 ghost use Rattle.text_pull.specs.Pull.{due_of, broken_stage, write_stage, counted_of, put_of, Put, is_broken, left_of, last_stage, gave_up, Wrote, Flushed};
 
-use crate::Flow;
+use crate::{Ends, Flow};
+use std::io::Write;
 
 // Whether what waits is to be written: the chunk is used up, or less than `most` of the room is left, or no more lines come.
 fn is_due(flow: Flow, room: usize, most: usize) -> bool
@@ -67,12 +68,12 @@ fn wrote(flow: Flow, got: isize, errno: i32, words: &[u8]) -> Flow
 }
 
 // Writes all that waits, by one call.
-fn put(flow: Flow, words: &[u8]) -> Flow
+fn put<R, W: Write>(ends: &mut Ends<R, W>, flow: Flow, words: &[u8]) -> Flow
     requires { (1 ≤ flow.turns) × (flow.made ≡ length words.now) × (flow.written + flow.made < 18446744073709551616) }
     ensures { Put flow result }
 {
-    let got = crate::write(words);
-    let errno = crate::errno();
+    let got = crate::write(ends, words);
+    let errno = crate::errno(ends);
     wrote(flow, got, errno, words)
 }
 
@@ -123,7 +124,7 @@ fn give_up(flow: Flow) -> Flow
 }
 
 // Writes all that waits: a call that took a part is followed by one for the rest, an interrupted one is made again.
-fn write_out(flow: Flow, out: &[u8]) -> Flow
+fn write_out<R, W: Write>(ends: &mut Ends<R, W>, flow: Flow, out: &[u8]) -> Flow
     requires { (flow.made ≤ length out.now) × (flow.written + flow.made < 18446744073709551616) }
     ensures { Wrote flow result }
 {
@@ -131,18 +132,18 @@ fn write_out(flow: Flow, out: &[u8]) -> Flow
     let mut after = flow;
     while is_left(after) {
         let from = end - after.made;
-        after = put(after, &out[from..end]);
+        after = put(ends, after, &out[from..end]);
     }
     give_up(after)
 }
 
 // Writes what was printed, where it is due. A program calls it in one place, which requires that this is what its machine says next.
-pub fn flush(flow: Flow, out: &[u8], most: usize) -> Flow
+pub fn flush<R, W: Write>(ends: &mut Ends<R, W>, flow: Flow, out: &[u8], most: usize) -> Flow
     requires { (flow.made ≤ length out.now) × (flow.written + flow.made < 18446744073709551616) }
     ensures { Flushed most (length out.now) flow result }
 {
     if is_due(flow, out.len(), most) {
-        return write_out(flow, out);
+        return write_out(ends, flow, out);
     }
     flow
 }

@@ -7,16 +7,6 @@ use lib.ListN.{get_or}
 use Rattle.block_list.proofs.Cases.{past, cut_three_lem, cut_two_lem, three, two}
 use Rattle.block_list.proofs.element.unpack.Goals as goal
 
--- where both bytes of a number are read, each is below 256
-bytes
-    : (c : goal.After-shared-slice-known4)
-    → let a = c.before.before.before.before.before.before.before.args in
-    (get_or a.list.now (a.at + 1) 0 < 256) × (get_or a.list.now (a.at + 2) 0 < 256)
-bytes c =
-    let byte = c.shared-slice-known4.given in
-    let at = c.before.before.before.before.before.before.before.args.at in
-    ((byte (at + 1)).fits, (byte (at + 2)).fits)
-
 pub returns-then-list-at : goal.returns-then-list-at
 returns-then-list-at c = sym (past _ _ (omega arith))
 
@@ -25,15 +15,6 @@ returns-then-left-lt3 c = sym (cut_three_lem _ _ (omega arith) (omega arith) (om
 
 pub overflow_cast-low : goal.overflow_cast-low
 overflow_cast-low c = omega (arith, c.shared_slice_known-then-head-lt128-1.given (c.args.at + 1))
-
-pub overflow_cast-high : goal.overflow_cast-high
-overflow_cast-high c = omega (arith, bytes c)
-
-pub overflow_mul-high : goal.overflow_mul-high
-overflow_mul-high c = omega (arith, bytes c)
-
-pub overflow_add-low-then-head-lt128 : goal.overflow_add-low-then-head-lt128
-overflow_add-low-then-head-lt128 c = omega (arith, bytes c)
 
 pub returns-then-left-lt2 : goal.returns-then-left-lt2
 returns-then-left-lt2 c = sym (cut_two_lem _ _ (omega arith) (omega arith) (omega arith))

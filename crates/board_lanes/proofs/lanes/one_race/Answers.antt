@@ -9,28 +9,6 @@ use Rattle.board_lanes.specs.Board.{block_at, is_empty, race_of, same_race, one_
 use Rattle.board_lanes.proofs.LaneLaws.{one_empty_lem, one_filled, one_end}
 use Rattle.board_lanes.proofs.lanes.one_race.Goals as goal
 
--- what a lane was found to be
-found
-    : (c : goal.After-is-empty invariant-loop decreases-loop) {t : Bool} → c.is-empty.result ≡ t
-    → let l = c.before.before.before in is_empty (block_at l.before.before.args.bytes.now l.loop.first) ≡ t
-found c e = sym (c.is-empty.ensures ∙ ap is_empty c.before.block.ensures) ∙ e
-
-pub returns-then-not-is_empty : goal.returns-then-not-is_empty
-returns-then-not-is_empty c =
-    let a = c.args in
-    let k = c.loop-first.first in
-    let race = c.race.ensures.0 ∙ ap race_of c.block-then-not-is_empty.ensures in
-    sym
-    (c.loop-first.invariant
-    ∙ one_filled a.bytes.now k (omega arith) (found c (not-true c.is_empty.result c.if-not-is_empty.true))
-    ∙ ap (λ x. same_race a.bytes.now x (8 - (k + 1)) (k + 1)) (sym race)
-    ∙ sym c.same_race.ensures)
-
-pub loop-first-preserved : goal.loop-first-preserved
-loop-first-preserved c =
-    let a = c.args in
-    c.loop-first.invariant ∙ one_empty_lem a.bytes.now c.loop-first.first (omega arith) (found c.before (not-false c.is_empty.result c.if-not-is_empty.false))
-
 pub returns : goal.returns
 returns c =
     let a = c.args in

@@ -9,23 +9,10 @@ use Rattle.board_lanes.proofs.LaneLaws.{crew_most, lane-empty, lane-filled}
 use Rattle.board_lanes.proofs.RecordLaws.{filled_record}
 use Rattle.board_lanes.proofs.records.put_record.Goals as goal
 
--- the crew has room
-most : (k : goal.After-crew-of) → length k.crew-of.result.now ≤ 12
-most k = omega (arith, ap length k.crew-of.ensures, crew_most k.before.before.before.before.before.before.before.before.before.args.b.now)
-
 pub returns-then-is_empty : goal.returns-then-is_empty
 returns-then-is_empty c =
     let a = c.args in
     rw (lane-empty a.b.now (sym c.is_empty.ensures ∙ c.if-is_empty.true)) c.zero.ensures
-
-pub copy-requires : goal.copy-requires
-copy-requires c = (omega (arith, most c.before), omega arith)
-
-pub overflow_sub-n : goal.overflow_sub-n
-overflow_sub-n c = most c.before
-
-pub zero-requires-2 : goal.zero-requires-2
-zero-requires-2 c = omega (arith, most c.before)
 
 pub returns : goal.returns
 returns c =

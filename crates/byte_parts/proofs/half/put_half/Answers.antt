@@ -3,7 +3,6 @@ use native.Mathlib.Omega.{arith}
 use native.Mathlib.Numerals.{add-one}
 use mathlib.Core.Path.{refl}
 use lib.ListN.{length-set}
-use borrow.Author.Rules.{rules}
 use Rattle.byte_parts.specs.Part.{put}
 use Rattle.byte_parts.specs.Half.{half_bytes}
 use Rattle.byte_parts.proofs.half.put_half.Goals as goal

@@ -1,10 +1,10 @@
 -- `spans::same` meets its contract: after i turns the first i bytes are equal. Assumes nothing.
-use Prim.Native.Nat.{ℕ, ◌-◌, ◌≤◌, ◌<◌}
+use Prim.Native.Nat.{ℕ, ◌<◌}
 use native.Mathlib.Omega.{arith}
 use native.Mathlib.Numerals.{add-one}
-use mathlib.Core.Path.{◌≡◌, refl, sym, ap, ◌∙◌}
+use mathlib.Core.Path.{refl, sym, ap, ◌∙◌}
 use mathlib.Core.List.{List}
-use lib.ListN.{length, take, get_or}
+use lib.ListN.{length, get_or}
 use lib.Seq.{take-suc, take_all}
 use Rattle.byte_parts.proofs.Part.{equal_same_lem, unequal_same}
 use Rattle.byte_parts.proofs.spans.same.Goals as goal

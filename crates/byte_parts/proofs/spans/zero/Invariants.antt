@@ -1,10 +1,7 @@
-use Prim.Native.Nat.{ℕ, ◌+◌, ◌-◌, ◌≤◌, ◌<◌}
-use native.Mathlib.Omega.{arith}
-use mathlib.Core.Path.{◌≡◌, refl, sym, ◌∙◌}
-use mathlib.Core.List.{List}
-use lib.ListN.{length, set, replicate, length-set, length-replicate, get_or-replicate}
+use Prim.Native.Nat.{◌-◌, ◌≤◌}
+use mathlib.Core.Path.{◌≡◌}
+use lib.ListN.{length, replicate}
 use Rattle.byte_parts.specs.Part.{put}
-use Rattle.byte_parts.proofs.Part.{put_zero, put_suc}
 use Rattle.byte_parts.proofs.spans.zero.Given as goal
 
 abbrev pub invariant-loop-i : goal.invariant-loop-i

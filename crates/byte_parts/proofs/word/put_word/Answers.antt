@@ -3,7 +3,6 @@ use native.Mathlib.Omega.{arith}
 use native.Mathlib.Numerals.{add-one, add-two, add-three}
 use mathlib.Core.Path.{refl}
 use lib.ListN.{length-set}
-use borrow.Author.Rules.{rules}
 use Rattle.byte_parts.specs.Part.{put}
 use Rattle.byte_parts.specs.Word.{word_bytes}
 use Rattle.byte_parts.proofs.word.put_word.Goals as goal

@@ -4,7 +4,6 @@ use mathlib.Core.Path.{◌≡◌, ◌∙◌}
 use lib.IntN.{pos, ◌-ℤ◌}
 use mir.Syntax.{w64}
 use mir.Val.{to_z}
-use borrow.Author.Rules.{rules}
 use Rattle.byte_parts.specs.Word.{signed_of}
 use Rattle.byte_parts.proofs.Laws.{clean, as_pos, signed_low, signed_high, signed_mag}
 use Rattle.byte_parts.proofs.word.signed.Goals as goal

@@ -1,13 +1,12 @@
 -- `word::signed32` meets its contract: below 2 ^ 31 the number itself, from there on one below the complement. Assumes nothing.
 use Prim.Native.Nat.{ℕ, zero, suc, ◌-◌, ◌<◌}
-use mathlib.Core.Path.{◌≡◌, refl, ap, ◌∙◌}
+use mathlib.Core.Path.{◌≡◌, refl}
 use native.Mathlib.Nat.{zero-add}
 use native.Mathlib.Omega.{arith}
-use borrow.Author.Rules.{rules}
 use borrow.Author.Tests.{lt-ltb, le-ltb}
-use lib.IntN.{ℤ, pos, negsuc, ◌-ℤ◌}
+use lib.IntN.{pos, negsuc, ◌-ℤ◌}
 use mir.Syntax.{w32}
-use mir.Val.{to_z, of_z}
+use mir.Val.{to_z}
 use mir.Facts.{to_z_pos, to_z-of_z}
 use Rattle.byte_parts.specs.Word.{signed_of}
 use Rattle.byte_parts.proofs.word.signed32.Goals as goal

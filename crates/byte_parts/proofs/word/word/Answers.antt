@@ -2,7 +2,6 @@
 use Prim.Native.Nat.{◌+◌}
 use native.Mathlib.Omega.{arith}
 use mathlib.Core.Path.{refl}
-use borrow.Author.Rules.{rules}
 use Rattle.byte_parts.specs.Word.{word_at}
 use Rattle.byte_parts.proofs.word.word.Goals as goal
 

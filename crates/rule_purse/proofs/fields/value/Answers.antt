@@ -10,7 +10,3 @@ use Rattle.rule_purse.proofs.fields.value.Goals as goal
 pub returns-in-Unlimited : goal.returns-in-Unlimited
 unfolding value_of
 returns-in-Unlimited c = rw (c.in-Unlimited.is, as_pos c.args.raw (omega arith)) (refl, omega arith)
-
-pub returns-in-Limited : goal.returns-in-Limited
-unfolding value_of
-returns-in-Limited c = rw (c.in-Limited.is, clean w64 c.signed.result c.signed.type-inv, c.signed.ensures) (refl, signed_mag _ (omega arith))
