@@ -7,8 +7,8 @@
 use Prim.Native.Nat.{ℕ}
 use mathlib.Core.List.{List, [], ◌∷◌}
 use seplogic.Ra.Ura.{Ura}
-use seplogic.Ra.TreeShare.PosShare
-use seplogic.Ra.TreeShare.{full_share}
+use base.Share
+use base.Fraction.{full_share}
 use mir.Syntax.{named, erased}
 use mir.Val.{Val, vptr}
 use base.Logic.{ent, wand, ex, id⊢}
@@ -45,13 +45,13 @@ module _ {M : Type 1} {𝓤 : Ura M} (𝓛 : Logic 𝓤) (κ : Lft) (q : Share) 
   open 𝓛 use {H, A}
 
   abbrev pub Held : Reader → Item 𝓤
-  Held r = ‵ (fat full_share (T'.mir erased) b 0 (T'.lowered r)) ⊛ ‵ ((R κ).own r (T'.lowered r ∷ [])) ⊛ ‵ (flft κ q)
+  Held r = ‵ (fat full_share (T'.mir erased) b 0 (T'.lowered r)) ⊛ ‵ ((R κ).own_val r (T'.lowered r ∷ [])) ⊛ ‵ (flft κ q)
 
   abbrev pub Kept : ℕ → GName → Item 𝓤
-  Kept ν γ = raw (wand 𝓤 (A.lft (ν ∷ []) (PosShare.left q)) (A.lft (ν ∷ []) full_share)) ⊛ ‵ (flent (ν ∷ κ) (Body (mem (R κ)) b 0 γ))
+  Kept ν γ = raw (wand 𝓤 (A.lft (ν ∷ []) (Share.left q)) (A.lft (ν ∷ []) full_share)) ⊛ ‵ (flent (ν ∷ κ) (Body (mem (R κ)) b 0 γ))
 
   abbrev pub Tokens : ℕ → Item 𝓤
-  Tokens ν = ‵ (flft (ν ∷ κ) (PosShare.left q)) ⊛ ‵ (flft κ (PosShare.right q)) ⊛ ‵ ftrue
+  Tokens ν = ‵ (flft (ν ∷ κ) (Share.left q)) ⊛ ‵ (flft κ (Share.right q)) ⊛ ‵ ftrue
 
   -- what is lent: the tokens, and what the callee's one parameter owns
   abbrev pub Lent : Reader → ℕ → GName → Item 𝓤
@@ -63,15 +63,15 @@ module _ {M : Type 1} {𝓤 : Ura M} (𝓛 : Logic 𝓤) (κ : Lft) (q : Share) 
     lends r =
         qed 𝓛 (Held r ∷ []) ∵ updating ! $ split3 ! $
         use1 𝓛 (‵ (cell_at full_share (R κ).mir (T'.lowered r ∷ []) b 0)) (𝓛.laws.at_raw full_share (T'.mir erased) b 0 (T'.lowered r)) $
-        fjoin ! $ fpack ! (List Val) (λ us. fsep (cell_at full_share (R κ).mir us b 0) ((R κ).own r us)) (T'.lowered r ∷ []) $
+        fjoin ! $ fpack ! (List Val) (λ us. fsep (cell_at full_share (R κ).mir us b 0) ((R κ).own_val r us)) (T'.lowered r ∷ []) $
         lft_new ! tt (λ ν. move ! (1 ∷ []) $
         use1 𝓛 (later (some (λ (γ : GName). ‵ ((MutRef (named 0) (ν ∷ κ) (R κ)).own_val (to b γ r) (vptr b 0 ∷ [])) ⊛ ‵ (flent (ν ∷ κ) (Body (mem (R κ)) b 0 γ)))))
         (lends_ref 𝓛 (R κ) (named 0) (ν ∷ κ) r b 0) $ await ! tt $ pick ! (λ γ. split ! $
         -- [the reference; the lender's part; ν's token; κ's token]
-        move ! (3 ∷ []) $ use1 𝓛 (‵ (flft κ (PosShare.left q)) ⊛ ‵ (flft κ (PosShare.right q))) (𝓛.lfts.lft_split κ q) $ split ! $
-        move ! (4 ∷ []) $ use1 𝓛 (‵ (flft (ν ∷ []) (PosShare.left q)) ⊛ raw (wand 𝓤 (A.lft (ν ∷ []) (PosShare.left q)) (A.lft (ν ∷ []) full_share)))
-        (𝓛.lfts.lft_carve ν (PosShare.left q)) $ split ! $
-        move ! (0 ∷ 2 ∷ []) $ use2 𝓛 (‵ (flft (ν ∷ κ) (PosShare.left q))) (𝓛.lfts.lft_meet (ν ∷ []) κ (PosShare.left q)) $
+        move ! (3 ∷ []) $ use1 𝓛 (‵ (flft κ (Share.left q)) ⊛ ‵ (flft κ (Share.right q))) (𝓛.lfts.lft_split κ q) $ split ! $
+        move ! (4 ∷ []) $ use1 𝓛 (‵ (flft (ν ∷ []) (Share.left q)) ⊛ raw (wand 𝓤 (A.lft (ν ∷ []) (Share.left q)) (A.lft (ν ∷ []) full_share)))
+        (𝓛.lfts.lft_carve ν (Share.left q)) $ split ! $
+        move ! (0 ∷ 2 ∷ []) $ use2 𝓛 (‵ (flft (ν ∷ κ) (Share.left q))) (𝓛.lfts.lft_meet (ν ∷ []) κ (Share.left q)) $
         -- [the token of ν ∷ κ; the way back; κ's token; the reference; the lender's part]
         at_once ! $ show ! (λ (ν' : ℕ). ex 𝓤 (λ (γ' : GName). mean 𝓛 (Lent r ν' γ'))) ν $ show ! (λ (γ' : GName). mean 𝓛 (Lent r ν γ')) γ $
         nothing ! $ move ! (3 ∷ 0 ∷ []) $ join ! $ move ! (1 ∷ 0 ∷ []) $ join ! $ nothing ! $ move ! (3 ∷ 0 ∷ []) $ fjoin ! $ move ! (1 ∷ 0 ∷ []) $ join ! $ frame ! $ done !))
@@ -80,7 +80,7 @@ module _ {M : Type 1} {𝓤 : Ura M} (𝓛 : Logic 𝓤) (κ : Lft) (q : Share) 
     unfolding part_of
     backs r' ν γ =
         qed 𝓛 (Tokens ν ∷ ‵ (fres γ ((R κ).coded.code r')) ∷ Kept ν γ ∷ []) ∵ updating ! $ split3 ! $
-        use1 𝓛 (‵ (flft (ν ∷ []) (PosShare.left q)) ⊛ ‵ (flft κ (PosShare.left q))) (𝓛.lfts.lft_unmeet (ν ∷ []) κ (PosShare.left q)) $ split ! $
+        use1 𝓛 (‵ (flft (ν ∷ []) (Share.left q)) ⊛ ‵ (flft κ (Share.left q))) (𝓛.lfts.lft_unmeet (ν ∷ []) κ (Share.left q)) $ split ! $
         move ! (1 ∷ 2 ∷ []) $ use2 𝓛 (‵ (flft κ q)) (𝓛.lfts.lft_join κ q) $
         -- [κ's token; ν's; true; the last value; what was kept]
         move ! (4 ∷ []) $ split ! $ move ! (3 ∷ 0 ∷ []) $ apply ! $ use1 𝓛 (‵ (flft (ν ∷ []) full_share)) (id⊢ 𝓤 _) $

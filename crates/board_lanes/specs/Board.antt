@@ -1,6 +1,6 @@
 -- The lane board, worked out from the 128 bytes of eight blocks, lane 1 first. A block has the lane in byte 0, the race's number in bytes 1
 -- and 2, low byte first, the crew's code in bytes 3 to 14, and zero in byte 15; a block of sixteen zeros is an empty lane.
-use Rattle.std.specs.Prelude.{ℕ, zero, suc, ◌+◌, ◌*◌, Bool, true, false, cond, not, ◌&&◌, List, [], ◌∷◌, leb, eqb, get_or, take}
+use Rattle.std.specs.Prelude.{ℕ, zero, suc, ◌+◌, ◌*◌, Bool, true, cond, not, ◌&&◌, List, [], ◌∷◌, leb, eqb, get_or, take}
 use Rattle.byte_parts.specs.Sizes.{block_size}
 use Rattle.byte_parts.specs.Part.{part}
 use Rattle.board_lanes.specs.declared.refusal.BoardRefusal.{BoardRefusal}

@@ -41,6 +41,7 @@ pub fn is_depth(depth: usize) -> bool
 }
 
 // Whether area 0000 ends elsewhere than at FFFE.
+#[tactic(auto, unfolding(crate::specs::Admit::root_misfit))]
 fn root_misfit(code: u16, end: u16) -> bool
     ensures { result ≡ root_misfit code end }
 {
@@ -48,6 +49,7 @@ fn root_misfit(code: u16, end: u16) -> bool
 }
 
 // Whether codes from `code` to `end` leave those from `first` to `last`.
+#[tactic(auto, unfolding(crate::specs::Admit::outside))]
 fn is_outside(code: u16, end: u16, first: u16, last: u16) -> bool
     ensures { result ≡ outside code end first last }
 {
@@ -55,6 +57,7 @@ fn is_outside(code: u16, end: u16, first: u16, last: u16) -> bool
 }
 
 // Whether an area's code or its end is past FFFE.
+#[tactic(auto, unfolding(crate::specs::Admit::out_of_range))]
 fn out_of_range(code: u16, end: u16) -> bool
     ensures { result ≡ out_of_range code end }
 {
@@ -181,6 +184,7 @@ fn same_kind(a: u16, b: u16) -> bool
 }
 
 // The store of a later service of a number: that of `first`, with its blocks, whatever count the new one names.
+#[tactic(auto, unfolding(crate::specs::Admit::joined_to))]
 fn joined_to(first: Node, code: u16, used: usize) -> Placed
     ensures { result ≡ joined_to first code used }
 {
@@ -197,6 +201,7 @@ fn joined_to(first: Node, code: u16, used: usize) -> Placed
 }
 
 // How many blocks of an arena of `arena_len` bytes can be used.
+#[tactic(auto, unfolding(crate::specs::Admit::usable))]
 pub fn usable_blocks(arena_len: usize) -> usize
     ensures { result ≡ usable arena_len }
 {
@@ -248,6 +253,7 @@ pub fn placed_under(
 }
 
 // Whether a store of `own` blocks is given to a service that names `blocks`: any is by a system that joins, and else one of that count.
+#[tactic(auto, unfolding(crate::specs::Admit::may_join))]
 fn may_join(join: bool, own: u16, blocks: u32) -> bool
     ensures { result ≡ may_join join own blocks }
 {

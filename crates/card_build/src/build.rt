@@ -43,6 +43,7 @@ fn is_full(count: usize) -> bool
 }
 
 // What is refused ahead of a service's own refusals, in an arena of `arena_len` bytes, or nothing.
+#[tactic(auto, unfolding(crate::specs::Grow::ahead_of_service))]
 fn ahead(sound: bool, arena_len: usize, used: usize, full: bool) -> Answer
     ensures { result ≡ ahead_of_service sound (is_short arena_len used) full }
 {

@@ -75,6 +75,7 @@ fn service_step(start: u16, blocks: u16, placed: Placed) -> Step
 }
 
 // Whether a node may come at `depth`: from 1 to 8, and no deeper than those before it leave open.
+#[tactic(auto, unfolding(crate::specs::Walk::depth_open))]
 fn is_open(depth: usize, deepest: usize) -> bool
     ensures { result ≡ depth_open depth deepest }
 {

@@ -1,6 +1,10 @@
 // Inspects a card by standard input, and says on standard error where it could not be read or the answers could not be written.
 #![tactic(auto)]
 
-fn main() {
-    text_pull::report(shell::inspect(0));
+use text_pull::Ends;
+
+fn main(rt: HostRuntime) {
+    let mut ends = Ends::new(rt.stdin(), rt.stdout());
+    let flow = shell::inspect(&mut ends);
+    text_pull::report(&rt, &ends, flow);
 }

@@ -1,3 +1,2 @@
 // Each promise of a library admits one answer, as proofs/ proves: no code.
 #![tactic(auto)]
-

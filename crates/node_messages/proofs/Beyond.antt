@@ -7,7 +7,6 @@ use mathlib.Core.List.{List, ◌++◌}
 use lib.ListN.{length, take, drop}
 use lib.Seq.{take_at, drop_at, take_all}
 use borrow.Author.Tests.{lt-ltb, le-ltb}
-use Rattle.byte_parts.specs.Part.{put}
 use Rattle.byte_parts.proofs.Part.{put-split}
 use Rattle.node_messages.specs.Message.{message_after}
 

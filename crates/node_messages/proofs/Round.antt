@@ -1,5 +1,5 @@
 -- What was written is read back, and what a reader takes is what the writer writes of it.
-use Prim.Native.Nat.{ℕ, zero, suc, ◌+◌, ◌-◌, ◌*◌, ◌≤◌, ◌<◌, ◌^◌, min}
+use Prim.Native.Nat.{ℕ, zero, suc, ◌+◌, ◌*◌, ◌≤◌}
 use native.Mathlib.Omega.{arith}
 use native.Mathlib.Decide.{dec_lt}
 use mathlib.Core.Path.{◌≡◌, refl, sym, ap, ◌∙◌}
@@ -7,7 +7,7 @@ use mathlib.Core.Bool.{Bool, true, false}
 use mathlib.Core.List.{List, [], ◌∷◌, ◌++◌, append-nil}
 use lib.Dec.{eqb}
 use lib.ListN.{length, get_or, take, drop, length-append, length-drop, length-take, take-append-drop, get_or-eq_default}
-use lib.Seq.{get_or_at, drop_at, get_or-take, get_or-drop, take_at, take_all, split_at, drop-append-add}
+use lib.Seq.{get_or_at, drop_at, get_or-take, get_or-drop, take_all, split_at, drop-append-add}
 use borrow.Author.Tests.{le-leb, eq-eqb}
 use Rattle.byte_parts.specs.Values.{flag_of, Bytes}
 use Rattle.byte_parts.specs.Part.{padded}

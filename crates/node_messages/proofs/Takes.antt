@@ -1,7 +1,7 @@
 -- What a reader takes: the facts that its test gives, and the value that it reads.
 use Prim.Native.Nat.{ℕ, ◌+◌, ◌*◌, ◌≤◌, ◌<◌}
 use native.Mathlib.Omega.{arith}
-use mathlib.Core.Path.{◌≡◌, refl, sym, ◌∙◌}
+use mathlib.Core.Path.{◌≡◌}
 use mathlib.Core.Bool.{Bool, true, false, and-eq-true_iff}
 use mathlib.Core.List.{List}
 use lib.Dec.{leb, eqb}
@@ -9,8 +9,6 @@ use lib.ListN.{length, get_or, drop, replicate}
 use borrow.Author.Tests.{leb-true, eqb-true, le-leb, lt-leb}
 use Rattle.answers.specs.declared.refusal.Refusal.TheVariants.{NotAMessage}
 use Rattle.byte_parts.specs.Part.{put}
-use Rattle.node_messages.specs.declared.code_list.CodeList.{CodeList}
-use Rattle.node_messages.specs.declared.information.BlockInformation.{BlockInformation}
 use Rattle.node_messages.specs.Numbers.{numbers_in}
 use Rattle.node_messages.specs.CodeList.{areas_in, services_in, is_counted, is_code_list, list_told, list_refused, read_code_list}
 use Rattle.node_messages.specs.Information.{node_count_in, is_information, information_told, information_refused, read_information}

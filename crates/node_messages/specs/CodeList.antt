@@ -1,5 +1,5 @@
 -- The code list: flag, area count, code and end of each area, service count, codes.
-use Rattle.std.specs.Prelude.{ℕ, ◌+◌, ◌-◌, ◌*◌, min, List, ◌∷◌, ◌++◌, Bool, true, false, cond, ◌&&◌, eqb, leb, length, get_or, take, drop, replicate}
+use Rattle.std.specs.Prelude.{ℕ, ◌+◌, ◌-◌, ◌*◌, min, List, ◌∷◌, ◌++◌, Bool, false, cond, ◌&&◌, eqb, leb, length, get_or, take, drop, replicate}
 use Rattle.byte_parts.specs.Values.{flag_of}
 use Rattle.byte_parts.specs.Part.{padded}
 use Rattle.answers.specs.declared.refusal.Refusal.{Refusal}

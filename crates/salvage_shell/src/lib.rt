@@ -8,21 +8,22 @@ ghost use Rattle.salvage_text.specs.declared.Salvaged.TheVariants.{Refused};
 ghost use Rattle.salvage_shell.specs.Ran.{most_salvaged, salvage_end, salvage_prints, salvage_tells, Salvages, SalvageRan};
 
 use salvage_text::Salvaged;
-use text_pull::Flow;
+use std::io::{Read, Write};
+use text_pull::{Ends, Flow};
+
+// The number of standard error.
+const STDERR: i32 = 2;
 
 // Writes what is told of a text to standard error, and answers whether all was taken. The text is lent for the contract to speak of.
 fn tell(text: &[u8], words: &[u8]) -> bool
     requires { words.now ≡ salvage_tells text.now }
 {
-    io::write_all(libc::STDERR_FILENO, words)
+    io::write_all(STDERR, words)
 }
 
 // Says that the report could not be written.
 fn fail() {
-    io::write_all(
-        libc::STDERR_FILENO,
-        b"failed: the report could not be written\n",
-    );
+    io::write_all(STDERR, b"failed: the report could not be written\n");
 }
 
 // Says words that were cut off once more.
@@ -52,29 +53,43 @@ fn refuse(text: &[u8])
     say(text, b"!\t48\n");
 }
 
-// Writes the image of a text that has ended to standard output.
-fn print(flow: Flow, text: &[u8], image: &[u8]) -> Flow
+// Writes the image of a text that has ended.
+fn print<R, W: Write>(ends: &mut Ends<R, W>, flow: Flow, text: &[u8], image: &[u8]) -> Flow
     requires flow_value { (is_line flow ≡ false) × (is_end flow ≡ true) × (flow.written ≡ 0) × (length image.now ≤ most_salvaged) }
     requires image_value { image.now ≡ salvage_prints text.now }
     ensures { Wrote (closed_of flow (length (salvage_prints text.now))) result }
 {
-    text_pull::writing::flush(text_pull::closed(flow, image.len()), image, 0)
+    text_pull::writing::flush(ends, text_pull::closed(flow, image.len()), image, 0)
 }
 
 // Writes the image, then the report.
-fn show(flow: Flow, text: &[u8], out: &[u8], image: usize, words: &[u8], report: usize) -> Flow
+fn show<R, W: Write>(
+    ends: &mut Ends<R, W>,
+    flow: Flow,
+    text: &[u8],
+    out: &[u8],
+    image: usize,
+    words: &[u8],
+    report: usize,
+) -> Flow
     requires flow_value { (is_line flow ≡ false) × (is_end flow ≡ true) × (flow.written ≡ 0) }
     requires image_in_bounds { (image ≤ length out.now) × (length out.now ≡ most_salvaged) × (report ≤ length words.now) }
     requires out_value { (take image out.now ≡ salvage_prints text.now) × (take report words.now ≡ salvage_tells text.now) }
     ensures { Wrote (closed_of flow (length (salvage_prints text.now))) result }
 {
-    let shown = print(flow, text, &out[0..image]);
+    let shown = print(ends, flow, text, &out[0..image]);
     say(text, &words[0..report]);
     shown
 }
 
 // Salvages a text that has ended, over lent buffers.
-fn take(flow: Flow, text: &[u8], out: &mut [u8], words: &mut [u8]) -> Flow
+fn take<R, W: Write>(
+    ends: &mut Ends<R, W>,
+    flow: Flow,
+    text: &[u8],
+    out: &mut [u8],
+    words: &mut [u8],
+) -> Flow
     requires flow_value { (is_line flow ≡ false) × (is_end flow ≡ true) × (flow.written ≡ 0) }
     requires text_len_bound { (length text.now ≤ most_salvaged) × (length out.old ≡ most_salvaged) × (length words.old ≡ most_salvaged) }
     ensures { Wrote (closed_of flow (length (salvage_prints text.now))) result }
@@ -84,23 +99,28 @@ fn take(flow: Flow, text: &[u8], out: &mut [u8], words: &mut [u8]) -> Flow
             refuse(text);
             text_pull::closed(flow, 0)
         }
-        Salvaged::Done { image, report } => show(flow, text, out, image, words, report),
+        Salvaged::Done { image, report } => show(ends, flow, text, out, image, words, report),
     }
 }
 
-// Salvages what the descriptor has, over lent buffers.
-fn run(fd: i32, text: &mut [u8], out: &mut [u8], words: &mut [u8]) -> Flow
+// Salvages what is read, over lent buffers.
+fn run<R: Read, W: Write>(
+    ends: &mut Ends<R, W>,
+    text: &mut [u8],
+    out: &mut [u8],
+    words: &mut [u8],
+) -> Flow
     requires { (length text.old ≡ most_salvaged + 1) × (length out.old ≡ most_salvaged) × (length words.old ≡ most_salvaged) }
     ensures { Salvages (take result.read text.new) result }
 {
-    let flow = text_pull::whole::slurp(fd, text);
+    let flow = text_pull::whole::slurp(ends, text);
     let n = text_pull::whole::held(flow);
     if text_pull::whole::is_short(flow) {
         refuse(&text[0..n]);
         return flow;
     }
     if text_pull::is_end(flow) {
-        return take(flow, &text[0..n], out, words);
+        return take(ends, flow, &text[0..n], out, words);
     }
     flow
 }
@@ -119,13 +139,13 @@ fn print_room() -> [u8; 1048576]
     [0; 1048576]
 }
 
-// Salvages what the descriptor has: the image to standard output, the report to standard error, or `!` and 48 there where the text, the
+// Salvages what is read: the image to where is written, the report to standard error, or `!` and 48 there where the text, the
 // image or the report is longer than 1,048,576 bytes.
-pub fn salvage(fd: i32) -> Flow
+pub fn salvage<R: Read, W: Write>(ends: &mut Ends<R, W>) -> Flow
     ensures { SalvageRan result }
 {
     let mut text = text_room();
     let mut image = print_room();
     let mut report = print_room();
-    run(fd, &mut text, &mut image, &mut report)
+    run(ends, &mut text, &mut image, &mut report)
 }

@@ -14,7 +14,8 @@ ghost use Rattle.shell.specs.Both.{both_machine, seen_stops};
 use byte_parts::sizes::MOST_PRINTED;
 use inspect_line::Inspect;
 use replay_state::Phase;
-use text_pull::Flow;
+use std::io::{Read, Write};
+use text_pull::{Ends, Flow};
 
 // An inspection, and where the reading is. A replay is an inspection that is asked nothing.
 #[derive(Clone, Copy)]
@@ -82,17 +83,17 @@ fn answer(
 }
 
 // Writes what was printed, where it is due: it is what a text of the length read prints next.
-fn flush(asks: bool, flow: Flow, out: &[u8]) -> Flow
+fn flush<R, W: Write>(ends: &mut Ends<R, W>, asks: bool, flow: Flow, out: &[u8]) -> Flow
     requires made_in_bounds { (flow.made ≤ length out.now) × (flow.written + flow.made < 18446744073709551616) }
     requires next { Next (says_of (both_machine asks) seen_at_start) flow (take flow.made out.now) }
     ensures { Flushed most_printed (length out.now) flow result }
 {
-    text_pull::writing::flush(flow, out, MOST_PRINTED)
+    text_pull::writing::flush(ends, flow, out, MOST_PRINTED)
 }
 
-// Answers what the descriptor has from the start on, over lent buffers, to standard output.
-fn run(
-    fd: i32,
+// Answers what is read from the start on, over lent buffers, to where is written.
+fn run<R: Read, W: Write>(
+    ends: &mut Ends<R, W>,
     asks: bool,
     inspect: Inspect,
     arena: &mut [u8],
@@ -111,15 +112,21 @@ fn run(
         flow: text_pull::start(),
     };
     while text_pull::goes_on(moved.flow) {
-        let flow = text_pull::pull(fd, moved.flow, chunk, line);
+        let flow = text_pull::pull(ends, moved.flow, chunk, line);
         moved = answer(asks, moved.inspect, flow, arena, work, bytes, line, out);
-        moved.flow = flush(asks, moved.flow, out);
+        moved.flow = flush(ends, asks, moved.flow, out);
     }
     moved.flow
 }
 
 // Lends what a text is read into, kept in and printed to.
-fn lend(fd: i32, asks: bool, arena: &mut [u8], work: &mut [u8], bytes: &mut [u8]) -> Flow
+fn lend<R: Read, W: Write>(
+    ends: &mut Ends<R, W>,
+    asks: bool,
+    arena: &mut [u8],
+    work: &mut [u8],
+    bytes: &mut [u8],
+) -> Flow
     requires arena_value { arena.old ≡ replicate lent_bytes 0 }
     requires work_len { (length work.old ≡ lent_bytes) × (most_spelled ≤ length bytes.old) }
     ensures { Ran (both_machine asks) seen_at_start result }
@@ -129,30 +136,30 @@ fn lend(fd: i32, asks: bool, arena: &mut [u8], work: &mut [u8], bytes: &mut [u8]
     let mut line = [0u8; 32769];
     let mut out = [0u8; 65536];
     run(
-        fd, asks, start, arena, work, bytes, &mut chunk, &mut line, &mut out,
+        ends, asks, start, arena, work, bytes, &mut chunk, &mut line, &mut out,
     )
 }
 
 // Lends what a card and its requests take, too.
-fn whole(fd: i32, asks: bool) -> Flow
+fn whole<R: Read, W: Write>(ends: &mut Ends<R, W>, asks: bool) -> Flow
     ensures { Ran (both_machine asks) seen_at_start result }
 {
     let mut arena = [0u8; 65536];
     let mut work = [0u8; 65536];
     let mut bytes = [0u8; 16384];
-    lend(fd, asks, &mut arena, &mut work, &mut bytes)
+    lend(ends, asks, &mut arena, &mut work, &mut bytes)
 }
 
-// Replays what the descriptor has, to standard output, and answers where the reading is then.
-pub fn replay(fd: i32) -> Flow
+// Replays what is read, to where is written, and answers where the reading is then.
+pub fn replay<R: Read, W: Write>(ends: &mut Ends<R, W>) -> Flow
     ensures { Ran replay_machine held_at_start result }
 {
-    whole(fd, false)
+    whole(ends, false)
 }
 
-// Inspects what the descriptor has, to standard output, and answers where the reading is then.
-pub fn inspect(fd: i32) -> Flow
+// Inspects what is read, to where is written, and answers where the reading is then.
+pub fn inspect<R: Read, W: Write>(ends: &mut Ends<R, W>) -> Flow
     ensures { Ran inspect_machine seen_at_start result }
 {
-    whole(fd, true)
+    whole(ends, true)
 }

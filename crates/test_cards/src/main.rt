@@ -4,6 +4,7 @@
 
 use add::Grown;
 use card_build::card::{Card, System};
+use std::rt::Files;
 
 mod add;
 mod ask;
@@ -125,13 +126,13 @@ fn start() -> Run {
 }
 
 // Counts every line of every file; no line at all is wrong.
-fn lines(arena: &mut [u8]) -> Tally {
+fn lines<R: Files + Eprint + Alloc>(rt: &R, arena: &mut [u8]) -> Tally {
     let mut run = start();
     let mut text = io::large_buffer();
     let mut line = test_stored::before_all();
     let mut read = 0u32;
     while read < test_stored::MOST_LINES {
-        line = test_stored::next_line(line, &mut text);
+        line = test_stored::next_line(rt, line, &mut text);
         if line.size == 0 {
             break;
         }
@@ -142,15 +143,15 @@ fn lines(arena: &mut [u8]) -> Tally {
     }
     let mut t = run.tally;
     if read == 0 {
-        test_stored::report_none();
+        test_stored::report_none(rt);
         t.wrong = 1;
     }
     t
 }
 
-fn main() {
+fn main(rt: HostRuntime) {
     let mut arena = [0u8; 70000];
-    let t = lines(&mut arena);
+    let t = lines(&rt, &mut arena);
     test_stored::report(b"cards", t.cards);
     test_stored::report(b"additions", t.additions);
     test_stored::report(b"questions", t.questions);

@@ -2,6 +2,8 @@
 // and prints how many lines of each kind agree and how many lines do not.
 #![tactic(auto)]
 
+use std::rt::Files;
+
 mod code;
 mod element;
 mod rule;
@@ -71,7 +73,7 @@ fn one_line(t: Tally, line: &[u8]) -> Tally {
 }
 
 // Counts every line of every file; no line at all is wrong.
-fn lines() -> Tally {
+fn lines<R: Files + Eprint + Alloc>(rt: &R) -> Tally {
     let mut t = Tally {
         attributes: 0,
         packs: 0,
@@ -85,7 +87,7 @@ fn lines() -> Tally {
     let mut line = test_stored::before_all();
     let mut read = 0u32;
     while read < test_stored::MOST_LINES {
-        line = test_stored::next_line(line, &mut text);
+        line = test_stored::next_line(rt, line, &mut text);
         if line.size == 0 {
             break;
         }
@@ -95,14 +97,14 @@ fn lines() -> Tally {
         read += 1;
     }
     if read == 0 {
-        test_stored::report_none();
+        test_stored::report_none(rt);
         t.wrong = 1;
     }
     t
 }
 
-fn main() {
-    let t = lines();
+fn main(rt: HostRuntime) {
+    let t = lines(&rt);
     test_stored::report(b"attributes", t.attributes);
     test_stored::report(b"packs", t.packs);
     test_stored::report(b"bitmaps", t.bitmaps);

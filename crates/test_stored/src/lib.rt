@@ -2,6 +2,7 @@
 #![tactic(auto)]
 
 ghost use Rattle.std.specs.Prelude.{◌≡◌, ◌+◌, ◌*◌, ◌%◌, ◌^◌, ◌<◌, ◌≤◌, length, nat_lt};
+ghost use Rattle.std.specs.Char.{IsAsciiDigit};
 ghost use Rattle.std.specs.Str.{IsAscii};
 
 use byte_scan as scan;
@@ -13,7 +14,9 @@ use text_numbers::codes::{Code, read_hex16};
 pub const MOST_LINES: u32 = 1_000_000_000;
 
 // The digit of a number's last decimal place.
-fn last_digit(n: u32) -> u8 {
+fn last_digit(n: u32) -> u8
+    ensures { IsAsciiDigit result }
+{
     b'0' + (n % 10) as u8
 }
 

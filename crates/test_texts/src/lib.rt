@@ -2,34 +2,44 @@
 // says so.
 #![tactic(auto)]
 
+use std::io::Read;
+use std::rt::Files;
+use text_pull::Ends;
+
+// Answers what a file has to standard output, by whether questions are asked.
+fn answer<F: Read, P: Print>(file: &mut F, rt: &P, asks: bool) {
+    let mut ends = Ends::new(file, std::io::writer(rt));
+    if asks {
+        shell::inspect(&mut ends);
+    } else {
+        shell::replay(&mut ends);
+    }
+}
 
 // Answers file number n, or says false where it is missing.
-fn one(n: u32, asks: bool) -> bool {
-    let name = test_stored::name(n);
-    let file = os::open_read(&name);
-    if file < 0 {
-        return false;
+fn one<R: Files + Print>(rt: &R, n: u32, asks: bool) -> bool {
+    match test_stored::open(rt, n) {
+        Ok(file) => {
+            let mut from = file;
+            let name = test_stored::name(n);
+            io::write_all(1, b"== ");
+            io::write_all(1, &name[0..4]);
+            io::write_all(1, b"\n");
+            answer(&mut from, rt, asks);
+            true
+        }
+        Err(_) => false,
     }
-    io::write_all(1, b"== ");
-    io::write_all(1, &name[0..4]);
-    io::write_all(1, b"\n");
-    if asks {
-        shell::inspect(file);
-    } else {
-        shell::replay(file);
-    }
-    libc::close(file);
-    true
 }
 
 // Answers each file, by whether questions are asked.
-pub fn all(asks: bool) {
-    if !one(1, asks) {
-        test_stored::report_none();
+pub fn all<R: Files + Print + Eprint + Alloc>(rt: &R, asks: bool) {
+    if !one(rt, 1, asks) {
+        test_stored::report_none(rt);
         return;
     }
     let mut n = 2u32;
-    while n < 10000 && one(n, asks) {
+    while n < 10000 && one(rt, n, asks) {
         n += 1;
     }
 }

@@ -1,6 +1,6 @@
 // Replays each file 0001.in, 0002.in, .. of its folder, until one is missing, under a heading; where there is none it says so.
 #![tactic(auto)]
 
-fn main() {
-    test_texts::all(false);
+fn main(rt: HostRuntime) {
+    test_texts::all(&rt, false);
 }

@@ -1,7 +1,6 @@
 -- Examples of fields, as antt computes them. Assumes nothing.
-use Prim.Native.Nat.{ℕ}
 use mathlib.Core.Path.{◌≡◌, refl}
-use mathlib.Core.List.{List, [], ◌∷◌}
+use mathlib.Core.List.{[], ◌∷◌}
 use Rattle.text_numbers.specs.Hex.{capital, to_hex, hex_text}
 use Rattle.text_print.specs.Print.{closed, high_first, four_digits}
 

@@ -234,7 +234,12 @@ fn fed(came: Flow, place: Place) -> Flow
 
 // Pulls: reads where the chunk is used up, and takes its bytes up to a LF. Then a whole line stands in front of `line` (`whole` is 1); or
 // the text has ended (stage 1); or the read failed (stage 2); or there is more to come.
-pub fn pull<R: Read, W>(ends: &mut Ends<R, W>, flow: Flow, chunk: &mut [u8], line: &mut [u8]) -> Flow
+pub fn pull<R: Read, W>(
+    ends: &mut Ends<R, W>,
+    flow: Flow,
+    chunk: &mut [u8],
+    line: &mut [u8],
+) -> Flow
     requires le_turns { (1 ≤ flow.turns) × (flow.whole ≡ 0) × (flow.stage ≤ 1) × (flow.stage ≡ 1 → flow.filled ≤ flow.at) }
     requires at_le_filled { (flow.at ≤ flow.filled) × (flow.filled ≤ length chunk.old) × (flow.len ≤ length line.old) }
     requires chunk_bound { flow.read + length chunk.old < 18446744073709551616 }

@@ -1,10 +1,9 @@
 -- What is put by way of the array is what stands in the source.
-use Prim.Native.Nat.{ℕ, ◌+◌, ◌≤◌}
+use Prim.Native.Nat.{ℕ, ◌≤◌}
 use native.Mathlib.Omega.{arith}
-use mathlib.Core.Path.{◌≡◌, refl, sym, ◌∙◌}
+use mathlib.Core.Path.{◌≡◌, refl, ◌∙◌}
 use mathlib.Core.List.{List, [], ◌++◌, append-nil}
-use lib.ListN.{length, take, drop, length-drop}
-use borrow.Author.Rules.{rules}
+use lib.ListN.{length, take, length-drop}
 use Rattle.byte_parts.specs.Part.{put, part}
 use Rattle.byte_parts.proofs.Part.{length-put, part-put, put-take}
 use Rattle.byte_block.proofs.copy_block.Goals as goal

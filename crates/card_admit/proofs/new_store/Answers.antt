@@ -21,6 +21,12 @@ module _ (used arena_len blocks : ℕ) where
   unfolding new_store
   room h = search tests
 
+pub overflow_cast-result : goal.overflow_cast-result
+overflow_cast-result c = omega (arith, usable-most c.args.arena_len)
+
+pub overflow_cast-result-2 : goal.overflow_cast-result-2
+overflow_cast-result-2 c = omega (arith, usable-most c.args.arena_len)
+
 pub returns-then-usable-used : goal.returns-then-usable-used
 returns-then-usable-used c = short _ _ _ (omega arith)
 
@@ -29,9 +35,3 @@ returns-then-usable-used-2 c = short _ _ _ (omega arith)
 
 pub returns : goal.returns
 returns c = room _ _ _ (omega arith)
-
-pub overflow_cast-result : goal.overflow_cast-result
-overflow_cast-result c = omega (arith, usable-most c.args.arena-len)
-
-pub overflow_cast-result-2 : goal.overflow_cast-result-2
-overflow_cast-result-2 c = omega (arith, usable-most c.args.arena-len)

@@ -1,6 +1,5 @@
 -- The places are written in front of zeros, and counted.
 use native.Mathlib.Omega.{arith}
-use borrow.Author.Rules.{rules}
 use Rattle.error_places.proofs.Bitmap.{bitmap}
 use Rattle.error_places.proofs.bitmap_positions.Goals as goal
 

@@ -1,7 +1,6 @@
 -- Both runs of places have room: at most eight places, then at most seven.
 use Prim.Native.Nat.{◌%◌}
 use native.Mathlib.Omega.{arith}
-use borrow.Author.Rules.{rules}
 use lib.Count.{ones-le}
 use Rattle.error_places.proofs.Bitmap.{both_runs}
 use Rattle.error_places.proofs.put_places.Goals as goal
@@ -15,7 +14,7 @@ places_from-requires c = omega (arith, ones-le 8 c.args.value (omega arith))
 pub put_second-requires : goal.put_second-requires
 put_second-requires c =
     let v = c.args.value in
-    omega (arith, ones-le 8 v (omega arith), ones-le 7 (v % 128) (omega arith), c.places_from.auto.0)
+    omega (arith, ones-le 8 v (omega arith), ones-le 7 (v % 128) (omega arith), c.places_from.auto.places)
 
 pub returns : goal.returns
 returns c =

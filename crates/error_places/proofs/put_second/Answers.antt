@@ -1,5 +1,4 @@
 -- The lower seven bits have places from 9 on.
-use borrow.Author.Rules.{rules}
 use Rattle.error_places.proofs.put_second.Goals as goal
 
 pub returns : goal.returns

@@ -7,14 +7,10 @@ use Rattle.line_fields.specs.Fields.{number_at}
 use Rattle.inspect_ask.specs.Question.{arena_line}
 use Rattle.inspect_ask.proofs.arena_line.Goals as goal
 
--- what was read
-field : (c : goal.After-number-at) {r : Number} → c.number_at.result ≡ r → number_at (split 9 c.before.before.args.line.now) 1 65536 ≡ r
-field c e = sym c.number_at.ensures ∙ e
-
 pub returns-in_default : goal.returns-in_default
 unfolding arena_line
-returns-in_default c = rw (field c.before c.in_default.is)
+returns-in_default c = rw (sym c.number_at.ensures ∙ c.in_default.is)
 
 pub returns : goal.returns
 unfolding arena_line
-returns c = rw (field c.before c.in-Is.is)
+returns c = rw (sym c.number_at.ensures ∙ c.in-Is.is)

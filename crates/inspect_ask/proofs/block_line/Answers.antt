@@ -10,27 +10,16 @@ use Rattle.line_fields.specs.Fields.{code_at, number_at}
 use Rattle.inspect_ask.specs.Question.{block_question}
 use Rattle.inspect_ask.proofs.block_line.Goals as goal
 
--- the line's fields
-abbrev parts : goal.After-code-at → List (List ℕ)
-parts c = split 9 c.before.before.args.line.now
-
--- what was read of each
-code : (c : goal.After-code-at) {r : Code} → c.code-at.result ≡ r → code_at (parts c) 1 ≡ r
-code c e = sym c.code-at.ensures ∙ e
-
-number : (c : goal.After-number-at) {r : Number} → c.number_at.result ≡ r → number_at (parts c.before.before.before.before) 2 4294967295 ≡ r
-number c e = sym c.number_at.ensures ∙ e
-
 pub returns-in_default : goal.returns-in_default
 unfolding block_question
-returns-in_default c = rw (code c.before c.in_default.is)
+returns-in_default c = rw (sym c.code_at.ensures ∙ c.in_default.is)
 
 pub returns-in_default-number_at : goal.returns-in_default-number_at
 unfolding block_question
 returns-in_default-number_at c =
-    rw (code c c.in-Is.is, number c c.in_default-number_at.is)
+    rw (sym c.code_at.ensures ∙ c.in-Is.is, sym c.number_at.ensures ∙ c.in_default-number_at.is)
 
 pub returns : goal.returns
 unfolding block_question
 returns c =
-    rw (code c c.in-Is.is, number c c.in-Is-number_at.is)
+    rw (sym c.code_at.ensures ∙ c.in-Is.is, sym c.number_at.ensures ∙ c.in-Is-number_at.is)

@@ -7,14 +7,10 @@ use Rattle.line_fields.specs.Fields.{code_at}
 use Rattle.inspect_ask.specs.Question.{code_line}
 use Rattle.inspect_ask.proofs.code_line.Goals as goal
 
--- what was read
-field : (c : goal.After-code-at) {r : Code} → c.code-at.result ≡ r → code_at (split 9 c.before.before.args.line.now) 1 ≡ r
-field c e = sym c.code-at.ensures ∙ e
-
 pub returns-in_default : goal.returns-in_default
 unfolding code_line
-returns-in_default c = rw (field c.before c.in_default.is)
+returns-in_default c = rw (sym c.code_at.ensures ∙ c.in_default.is)
 
 pub returns : goal.returns
 unfolding code_line
-returns c = rw (field c.before c.in-Is.is, c.asked_of_lem.ensures)
+returns c = rw (sym c.code_at.ensures ∙ c.in-Is.is, c.asked_of.ensures)

@@ -2,7 +2,6 @@
 use mathlib.Core.Path.{refl}
 use mathlib.Core.List.{append-nil}
 use native.Mathlib.Omega.{arith}
-use borrow.Author.Rules.{rules}
 use Rattle.line_build.proofs.Digits.{digits, whole}
 use Rattle.line_build.proofs.set_hex.Goals as goal
 
@@ -11,7 +10,6 @@ put_bytes-requires c =
     let d = digits _ c.requires in
     (d.field, omega arith)
 
-pub returns : goal.returns
-returns c =
-    let e = c.set_block.ensures in
-    (e.0, rw (append-nil c.put_bytes.new.1.0, c.put_bytes.ensures.out_after, whole _ _ refl c.requires) at e.1)
+pub returns-clause-arena_after : goal.returns-clause-arena_after
+returns-clause-arena_after c =
+    rw (append-nil c.put_bytes.new.out, c.put_bytes.ensures.out_after, whole _ _ refl c.requires) at c.set_block.ensures.arena_after

@@ -1,6 +1,5 @@
 -- `line_fields::bound_at` meets its contract: the field is read as a bound. Assumes nothing.
 use mathlib.Core.Path.{ap, ◌∙◌}
-use borrow.Author.Rules.{rules}
 use Rattle.text_numbers.specs.Decimal.{signed}
 use Rattle.line_fields.proofs.bound_at.Goals as goal
 

@@ -1,6 +1,5 @@
 -- `line_fields::code_at` meets its contract: the field is read as a code. Assumes nothing.
 use mathlib.Core.Path.{ap, ◌∙◌}
-use borrow.Author.Rules.{rules}
 use Rattle.text_numbers.specs.Codes.{hex16}
 use Rattle.line_fields.proofs.code_at.Goals as goal
 

@@ -1,6 +1,5 @@
 -- `line_fields::has_codes` meets its contract: the field is codes. Assumes nothing.
 use mathlib.Core.Path.{ap, ◌∙◌}
-use borrow.Author.Rules.{rules}
 use Rattle.text_numbers.specs.Codes.{codes_field}
 use Rattle.line_fields.proofs.has_codes.Goals as goal
 

@@ -1,6 +1,5 @@
 -- `line_fields::has_hex` meets its contract: the field is hex. Assumes nothing.
 use mathlib.Core.Path.{ap, ◌∙◌}
-use borrow.Author.Rules.{rules}
 use Rattle.text_numbers.specs.Hex.{hex_field}
 use Rattle.line_fields.proofs.has_hex.Goals as goal
 

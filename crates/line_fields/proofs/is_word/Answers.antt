@@ -2,7 +2,6 @@
 use mathlib.Core.Path.{ap, ◌∙◌}
 use mathlib.Core.List.{List}
 use Prim.Native.Nat.{ℕ}
-use borrow.Author.Rules.{rules}
 use Rattle.byte_parts.specs.Part.{same_bytes}
 use Rattle.line_fields.proofs.is_word.Goals as goal
 

@@ -1,6 +1,5 @@
 -- `line_fields::number_at` meets its contract: the field is read as a decimal. Assumes nothing.
 use mathlib.Core.Path.{ap, ◌∙◌}
-use borrow.Author.Rules.{rules}
 use Rattle.text_numbers.specs.Decimal.{decimal}
 use Rattle.line_fields.proofs.number_at.Goals as goal
 

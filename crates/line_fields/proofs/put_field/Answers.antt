@@ -1,5 +1,4 @@
 -- `line_fields::put_field` meets its contract: the bytes of a field are those that it spells. Assumes nothing.
-use borrow.Author.Rules.{rules}
 use native.Mathlib.Omega.{arith}
 use Rattle.text_numbers.proofs.HexLaws.{length-unhex}
 use Rattle.line_fields.specs.Fields.{field_in}
@@ -14,7 +13,8 @@ put_bytes-requires c =
 pub returns : goal.returns
 returns c =
     let a = c.args in
-    spelled _ (field_in a.line.now a.k) a.bytes.now a.at c.field_at.ensures c.put_bytes.ensures.value c.put_bytes.ensures.out_after
+    let h = spelled _ (field_in a.line.now a.k) a.bytes.now a.at c.field_at.ensures c.put_bytes.ensures.value c.put_bytes.ensures.out_after in
+    record { value = h.0; bytes_after = h.1 }
 
 pub field_at-requires : goal.field_at-requires
 field_at-requires c = c.requires.2

@@ -1,5 +1,4 @@
 -- `line_fields::read_codes` meets its contract: the codes are those of the field. Assumes nothing.
-use borrow.Author.Rules.{rules}
 use native.Mathlib.Omega.{arith}
 use Rattle.line_fields.proofs.read_codes.Goals as goal
 
@@ -10,7 +9,7 @@ pub returns : goal.returns
 returns c =
     let e = c.field_at.ensures in
     let many = rw e at c.read_codes.ensures.value in
-    ((many, omega (arith, many)), rw e at c.read_codes.ensures.out_after)
+    record { value = (many, omega (arith, many)); codes_after = rw e at c.read_codes.ensures.out_after }
 
 pub field_at-requires : goal.field_at-requires
 field_at-requires c = c.requires.1

@@ -7,8 +7,8 @@ use Rattle.line_request.proofs.is_write.Goals as goal
 
 pub returns-then-not-is_shaped : goal.returns-then-not-is_shaped
 unfolding is_write
-returns-then-not-is_shaped c = search (sym c.is_shaped.ensures ∙ not-true _ c.if-not-is_shaped.true)
+returns-then-not-is_shaped c = search (sym c.if-not-is_shaped.ensures)
 
 pub returns : goal.returns
 unfolding is_write
-returns c = c.has_hex.ensures ∙ search (sym c.is_shaped.ensures ∙ not-false _ c.if-not-is_shaped.false)
+returns c = c.has_hex.ensures ∙ search (sym c.if-not-is_shaped.ensures)

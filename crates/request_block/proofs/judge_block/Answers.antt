@@ -1,6 +1,5 @@
 -- A block that is found is there.
 use mathlib.Core.Path.{sym}
-use borrow.Author.Rules.{rules}
 use Rattle.request_block.proofs.Blocks.{found_there_lem, found_refused}
 use Rattle.request_block.proofs.judge_block.Goals as goal
 

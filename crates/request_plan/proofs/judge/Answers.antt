@@ -5,12 +5,12 @@ use Rattle.request_plan.proofs.Plans.{not_built, no_bounds, to_lent}
 use Rattle.request_plan.proofs.judge.Goals as goal
 
 pub returns-then-not-sound : goal.returns-then-not-sound
-returns-then-not-sound c = not_built _ _ _ _ (not-true c.args.sound c.if-not-sound.true)
+returns-then-not-sound c = not_built _ _ _ _ c.if-not-sound.true
 
 pub returns-in-Refused : goal.returns-in-Refused
 returns-in-Refused c =
-    no_bounds _ _ _ _ (not-false c.args.sound c.if-not-sound.false) c.bounds_judged.ensures c.in-Refused.is
+    no_bounds _ _ _ _ c.if-not-sound.false c.bounds_judged.ensures c.in-Refused.is
 
 pub returns : goal.returns
 returns c =
-    to_lent _ _ _ _ (not-false c.args.sound c.if-not-sound.false) c.bounds_judged.ensures c.in_default.is c.lent_judged_lem.ensures
+    to_lent _ _ _ _ c.if-not-sound.false c.bounds_judged.ensures c.in_default.is c.lent_judged.ensures

@@ -2,7 +2,6 @@
 use native.Mathlib.Nat.{sub-zero}
 use lib.ListN.{length}
 use lib.Seq.{take-length}
-use borrow.Author.Rules.{rules}
 use Rattle.rule_cyclic.proofs.begins.Goals as goal
 
 pub returns : goal.returns

@@ -1,6 +1,5 @@
 -- A shift makes room, a copy fills it. Assumes nothing.
 use native.Mathlib.Omega.{arith}
-use borrow.Author.Rules.{rules}
 use Rattle.rule_cyclic.proofs.Ring.{put-ahead}
 use Rattle.rule_cyclic.proofs.push.Goals as goal
 

@@ -1,10 +1,8 @@
 -- `shift` meets its contract: the bytes from i on have moved. Assumes nothing.
-use Prim.Native.Nat.{◌-◌, ◌≤◌}
 use native.Mathlib.Omega.{arith}
 use native.Mathlib.Nat.{sub_self}
 use mathlib.Core.Path.{◌≡◌, refl, sym}
-use lib.ListN.{length, drop, length-set}
-use Rattle.byte_parts.specs.Part.{put}
+use lib.ListN.{length, length-set}
 use Rattle.byte_parts.proofs.Part.{put_zero}
 use Rattle.rule_cyclic.proofs.Ring.{shift_turn}
 use Rattle.rule_cyclic.proofs.shift.Goals as goal

@@ -1,11 +1,7 @@
 use Prim.Native.Nat.{◌-◌, ◌≤◌}
-use native.Mathlib.Omega.{arith}
-use native.Mathlib.Nat.{sub_self}
-use mathlib.Core.Path.{◌≡◌, refl, sym}
-use lib.ListN.{length, drop, length-set}
+use mathlib.Core.Path.{◌≡◌}
+use lib.ListN.{length, drop}
 use Rattle.byte_parts.specs.Part.{put}
-use Rattle.byte_parts.proofs.Part.{put_zero}
-use Rattle.rule_cyclic.proofs.Ring.{shift_turn}
 use Rattle.rule_cyclic.proofs.shift.Given as goal
 
 abbrev pub invariant-loop-i : goal.invariant-loop-i

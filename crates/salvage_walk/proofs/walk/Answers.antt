@@ -133,8 +133,7 @@ loop-at-preserved c =
     let k = c.keep in
     let m = c.tell in
     let x = c.kept-1.given in
-    let y = c.noted-1.given in
-    (
+    let y = c.noted-1.given in (
       (Line-of c).on k.result m.result k.new.1.1.1.0 m.new.1.1.1.0 x.0.0 y.0.0 x.1 k.ensures.0 k.ensures.1 y.1 m.ensures.0 m.ensures.1,
       c.salvage_line-verdict.auto.1.1.0 ∙ c.loop-at.invariant.1,
     )

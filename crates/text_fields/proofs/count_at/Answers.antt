@@ -1,5 +1,4 @@
 -- `count_at` meets its contract: by where the text ends. Assumes nothing.
-use borrow.Author.Rules.{rules}
 use Rattle.text_fields.proofs.EndLaws.{count_one, count_two, count_three, count_four, count_five, count_six}
 use Rattle.text_fields.proofs.count_at.Goals as goal
 

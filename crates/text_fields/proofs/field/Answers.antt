@@ -1,7 +1,5 @@
 -- `field` meets its contract: the field at a place goes to its end. Assumes nothing.
 use mathlib.Core.Path.{sym, ◌∙◌}
-use borrow.Author.Rules.{rules}
-use native.Mathlib.Omega.{arith}
 use Rattle.text_fields.proofs.EndLaws.{end_here}
 use Rattle.text_fields.proofs.field.Goals as goal
 

@@ -1,17 +1,8 @@
 -- `field_at` meets its contract: between two ends stands a field. Assumes nothing.
-use Prim.Native.Nat.{◌≤◌}
 use mathlib.Core.Path.{◌∙◌}
-use lib.ListN.{length}
-use borrow.Author.Rules.{rules}
 use native.Mathlib.Omega.{arith}
 use Rattle.text_fields.proofs.EndLaws.{ends-within, first_field, second_field, third_field, fourth_field, fifth_field, sixth_field}
 use Rattle.text_fields.proofs.field_at.Goals as goal
-
--- the ends lie within the text
-within
-    : (c : goal.Start) → let x = c.args.ends in let n = length c.args.s.now in
-    (x.first ≤ n) × ((x.second ≤ n) × ((x.third ≤ n) × ((x.fourth ≤ n) × ((x.fifth ≤ n) × (x.sixth ≤ n)))))
-within c = ends-within c.args.separator c.args.s.now c.args.ends c.requires
 
 pub returns-then-k-eq2 : goal.returns-then-k-eq2
 returns-then-k-eq2 c =
@@ -38,34 +29,34 @@ returns-then-k-eq0 c =
     rw c.if-k-eq0.true (c.part-then-k-eq0.ensures ∙ first_field c.args.separator c.args.s.now c.args.ends c.requires)
 
 pub overflow_add-ends : goal.overflow_add-ends
-overflow_add-ends c = omega (arith, within c.before)
+overflow_add-ends c = omega (arith, ends-within c.args.separator c.args.s.now c.args.ends c.requires)
 
 pub part-requires : goal.part-requires
-part-requires c = omega (arith, within c.before)
+part-requires c = omega (arith, ends-within c.args.separator c.args.s.now c.args.ends c.requires)
 
 pub overflow_add-ends-then-k-eq3 : goal.overflow_add-ends-then-k-eq3
-overflow_add-ends-then-k-eq3 c = omega (arith, within c.before)
+overflow_add-ends-then-k-eq3 c = omega (arith, ends-within c.args.separator c.args.s.now c.args.ends c.requires)
 
 pub part-requires-then-k-eq3 : goal.part-requires-then-k-eq3
-part-requires-then-k-eq3 c = omega (arith, within c.before)
+part-requires-then-k-eq3 c = omega (arith, ends-within c.args.separator c.args.s.now c.args.ends c.requires)
 
 pub overflow_add-ends-then-k-eq4 : goal.overflow_add-ends-then-k-eq4
-overflow_add-ends-then-k-eq4 c = omega (arith, within c.before)
+overflow_add-ends-then-k-eq4 c = omega (arith, ends-within c.args.separator c.args.s.now c.args.ends c.requires)
 
 pub part-requires-then-k-eq4 : goal.part-requires-then-k-eq4
-part-requires-then-k-eq4 c = omega (arith, within c.before)
+part-requires-then-k-eq4 c = omega (arith, ends-within c.args.separator c.args.s.now c.args.ends c.requires)
 
 pub overflow_add-ends-then-k-eq5 : goal.overflow_add-ends-then-k-eq5
-overflow_add-ends-then-k-eq5 c = omega (arith, within c.before)
+overflow_add-ends-then-k-eq5 c = omega (arith, ends-within c.args.separator c.args.s.now c.args.ends c.requires)
 
 pub part-requires-then-k-eq5 : goal.part-requires-then-k-eq5
-part-requires-then-k-eq5 c = omega (arith, within c.before)
+part-requires-then-k-eq5 c = omega (arith, ends-within c.args.separator c.args.s.now c.args.ends c.requires)
 
 pub overflow_add-ends-then-k-eq1 : goal.overflow_add-ends-then-k-eq1
-overflow_add-ends-then-k-eq1 c = omega (arith, within c.before)
+overflow_add-ends-then-k-eq1 c = omega (arith, ends-within c.args.separator c.args.s.now c.args.ends c.requires)
 
 pub part-requires-then-k-eq1 : goal.part-requires-then-k-eq1
-part-requires-then-k-eq1 c = omega (arith, within c.before)
+part-requires-then-k-eq1 c = omega (arith, ends-within c.args.separator c.args.s.now c.args.ends c.requires)
 
 pub part-requires-then-k-eq0 : goal.part-requires-then-k-eq0
-part-requires-then-k-eq0 c = omega (arith, within c.before)
+part-requires-then-k-eq0 c = omega (arith, ends-within c.args.separator c.args.s.now c.args.ends c.requires)

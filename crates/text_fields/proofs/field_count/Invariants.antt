@@ -1,10 +1,7 @@
 use Prim.Native.Nat.{◌+◌, ◌-◌, ◌≤◌}
 use mathlib.Core.Path.{◌≡◌}
-use mathlib.Core.Logic.{⊎_elim}
 use lib.ListN.{length, drop}
-use native.Mathlib.Omega.{arith}
 use Rattle.text_fields.specs.Field.{split}
-use Rattle.text_fields.proofs.FieldLaws.{count_here, count_next, count-end}
 use Rattle.text_fields.proofs.field_count.Given as goal
 
 abbrev pub invariant-loop-i : goal.invariant-loop-i

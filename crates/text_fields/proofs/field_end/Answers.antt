@@ -1,6 +1,5 @@
 -- `field_end` meets its contract: a search, where the place is within the text. Assumes nothing.
 use mathlib.Core.Path.{sym, ◌∙◌}
-use borrow.Author.Rules.{rules}
 use native.Mathlib.Omega.{arith}
 use Rattle.text_fields.proofs.EndLaws.{end-found, end-past}
 use Rattle.text_fields.proofs.field_end.Goals as goal

@@ -1,11 +1,7 @@
 -- `field_start` meets its contract: field k of the whole is field k - i of what starts after i fields. Assumes nothing.
-use Prim.Native.Nat.{suc, ◌+◌, ◌-◌, ◌≤◌}
+use Prim.Native.Nat.{suc, ◌+◌, ◌-◌}
 use mathlib.Core.Path.{◌≡◌, ◌∙◌}
-use mathlib.Core.List.{[]}
-use lib.ListN.{get_or, drop}
-use borrow.Author.Rules.{rules}
 use native.Mathlib.Omega.{arith}
-use Rattle.text_fields.specs.Field.{split}
 use Rattle.text_fields.proofs.EndLaws.{end-next}
 use Rattle.text_fields.proofs.field_start.Goals as goal
 

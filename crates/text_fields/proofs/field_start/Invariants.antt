@@ -1,11 +1,8 @@
-use Prim.Native.Nat.{suc, ◌+◌, ◌-◌, ◌≤◌}
-use mathlib.Core.Path.{◌≡◌, ◌∙◌}
+use Prim.Native.Nat.{◌-◌, ◌≤◌}
+use mathlib.Core.Path.{◌≡◌}
 use mathlib.Core.List.{[]}
 use lib.ListN.{get_or, drop}
-use borrow.Author.Rules.{rules}
-use native.Mathlib.Omega.{arith}
 use Rattle.text_fields.specs.Field.{split}
-use Rattle.text_fields.proofs.EndLaws.{end-next}
 use Rattle.text_fields.proofs.field_start.Given as goal
 
 abbrev pub invariant-loop-i : goal.invariant-loop-i

@@ -1,5 +1,4 @@
 -- `find_ends` meets its contract: each search starts behind the end before. Assumes nothing.
-use borrow.Author.Rules.{rules}
 use Rattle.text_fields.specs.Field.{ends_of}
 use Rattle.text_fields.proofs.find_ends.Goals as goal
 

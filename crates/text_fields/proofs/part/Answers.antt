@@ -1,7 +1,6 @@
 -- `part` meets its contract: where there is nothing, an empty part. Assumes nothing.
 use Prim.Native.Nat.{◌-◌}
 use mathlib.Core.Path.{◌≡◌, refl}
-use borrow.Author.Rules.{rules}
 use native.Mathlib.Omega.{arith}
 use Rattle.text_fields.proofs.part.Goals as goal
 

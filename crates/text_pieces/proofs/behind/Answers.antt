@@ -1,6 +1,5 @@
 -- Past the LF where the line ends before the text does. Assumes nothing.
 use borrow.Author.Tests.{lt-ltb, le-ltb}
-use borrow.Author.Rules.{rules}
 use Rattle.text_pieces.proofs.behind.Goals as goal
 
 pub returns-then-end-len : goal.returns-then-end-len

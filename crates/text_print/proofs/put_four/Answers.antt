@@ -1,5 +1,4 @@
 -- `text_print::put_four` meets its contract: two bytes are four digits. Assumes nothing.
-use borrow.Author.Rules.{rules}
 use native.Mathlib.Omega.{arith}
 use Rattle.text_print.proofs.Digits.{four, four_long}
 use Rattle.text_print.proofs.put_four.Goals as goal
@@ -11,4 +10,7 @@ put_hex_field-requires c =
 pub returns : goal.returns
 returns c =
     let n = c.args.n in
-    (rw (← four n) record { place = c.put_hex_field.ensures.value; bytes = c.put_hex_field.ensures.out_after }, omega (arith, rw (four n, four_long n) at c.put_hex_field.ensures.value))
+    record {
+      written = rw (← four n) record { place = c.put_hex_field.ensures.value; bytes = c.put_hex_field.ensures.out_after };
+      upper_bound = omega (arith, rw (four n, four_long n) at c.put_hex_field.ensures.value);
+    }

@@ -1,13 +1,10 @@
 -- `text_print::put_joined` meets its contract: the digits of the numbers so far. Assumes nothing.
-use borrow.Author.Rules.{rules}
 use native.Mathlib.Omega.{arith}
-use Prim.Native.Nat.{◌+◌, ◌-◌, ◌*◌, ◌≤◌}
 use mathlib.Core.Path.{◌≡◌, refl}
 use mathlib.Core.List.{[], ◌∷◌}
 use lib.ListN.{length, take, get_or}
 use lib.Seq.{take-length}
 use Rattle.text_numbers.specs.Hex.{to_hex}
-use Rattle.text_stream.specs.Stream.{Written}
 use Rattle.text_stream.proofs.Prints.{written_none, written-more}
 use Rattle.text_print.specs.Print.{high_first}
 use Rattle.text_print.proofs.Digits.{none_yet, one_more}
@@ -36,4 +33,4 @@ returns c =
     let a = c.args in
     let e : c.loop-i.i ≡ length a.numbers.now = omega arith in
     let t : take c.loop-i.i a.numbers.now ≡ a.numbers.now = rw e (take-length a.numbers.now) in
-    (rw t at c.loop-i.invariant.3, omega (arith, e, c.loop-i.invariant.1))
+    record { written = rw t at c.loop-i.invariant.3; upper_bound = omega (arith, e, c.loop-i.invariant.1) }

@@ -1,15 +1,9 @@
-use borrow.Author.Rules.{rules}
-use native.Mathlib.Omega.{arith}
 use Prim.Native.Nat.{◌+◌, ◌-◌, ◌*◌, ◌≤◌}
-use mathlib.Core.Path.{◌≡◌, refl}
-use mathlib.Core.List.{[], ◌∷◌}
-use lib.ListN.{length, take, get_or}
-use lib.Seq.{take-length}
+use mathlib.Core.Path.{◌≡◌}
+use lib.ListN.{length, take}
 use Rattle.text_numbers.specs.Hex.{to_hex}
 use Rattle.text_stream.specs.Stream.{Written}
-use Rattle.text_stream.proofs.Prints.{written_none, written-more}
 use Rattle.text_print.specs.Print.{high_first}
-use Rattle.text_print.proofs.Digits.{none_yet, one_more}
 use Rattle.text_print.proofs.put_joined.Given as goal
 
 abbrev pub invariant-loop-i : goal.invariant-loop-i

@@ -1,5 +1,4 @@
 -- `text_print::put_word` meets its contract: the word, and the byte after it. Assumes nothing.
-use borrow.Author.Rules.{rules}
 use native.Mathlib.Omega.{arith}
 use mathlib.Core.Path.{refl}
 use Rattle.text_stream.proofs.Prints.{written_byte}
@@ -8,4 +7,4 @@ use Rattle.text_print.proofs.put_word.Goals as goal
 pub returns : goal.returns
 returns c =
     let a = c.args in
-    (written_byte a.word.now a.end record { place = refl; bytes = c.copy.ensures }, omega arith)
+    record { written = written_byte a.word.now a.end record { place = refl; bytes = c.copy.ensures }; upper_bound = omega arith }

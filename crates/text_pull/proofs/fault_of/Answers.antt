@@ -1,6 +1,5 @@
 -- `text_pull::fault_of` meets its contract, test by test. Assumes nothing.
 use native.Mathlib.Omega.{arith}
-use borrow.Author.Rules.{rules}
 use borrow.Author.Tests.{eq-eqb, ne_eqb, lt-ltb, le-ltb}
 use Rattle.text_pull.specs.Pull.{fault_of}
 use Rattle.text_pull.proofs.fault_of.Goals as goal

@@ -1,5 +1,4 @@
 -- `text_pull::fed` meets its contract: the line is whole as `last` says. Assumes nothing.
-use borrow.Author.Rules.{rules}
 use Rattle.text_pull.specs.Pull.{fed_of}
 use Rattle.text_pull.proofs.fed.Goals as goal
 

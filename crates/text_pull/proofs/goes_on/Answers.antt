@@ -1,6 +1,5 @@
 -- `text_pull::goes_on` meets its contract, by whether turns are left. Assumes nothing.
 use native.Mathlib.Omega.{arith}
-use borrow.Author.Rules.{rules}
 use borrow.Author.Tests.{lt-ltb, le-ltb}
 use Rattle.text_pull.specs.Pull.{goes_on}
 use Rattle.text_pull.proofs.goes_on.Goals as goal

@@ -1,6 +1,5 @@
 -- `text_pull::last` meets its contract, by whether the text has ended. Assumes nothing.
 use native.Mathlib.Omega.{arith}
-use borrow.Author.Rules.{rules}
 use borrow.Author.Tests.{eq-eqb, ne_eqb}
 use Rattle.text_pull.specs.Pull.{last_of}
 use Rattle.text_pull.proofs.last.Goals as goal

@@ -1,7 +1,6 @@
 -- `text_pull::stage_of` meets its contract, by whether there was an error. Assumes nothing.
 use mathlib.Core.Path.{◌∙◌}
 use mir.Facts.{to_z-of_z}
-use borrow.Author.Rules.{rules}
 use Rattle.text_pull.proofs.Stages.{stage-failed, stage-none}
 use Rattle.text_pull.proofs.stage_of.Goals as goal
 

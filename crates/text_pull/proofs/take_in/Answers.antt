@@ -1,6 +1,5 @@
 -- `text_pull::take_in` meets its contract: what was counted came. Assumes nothing.
 use mir.Facts.{to_z-of_z}
-use borrow.Author.Rules.{rules}
 use Rattle.text_pull.specs.Pull.{read_of}
 use Rattle.text_pull.proofs.take_in.Goals as goal
 

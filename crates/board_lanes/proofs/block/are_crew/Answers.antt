@@ -1,9 +1,6 @@
 -- `block::are_crew` meets its contract: the rest says what the whole says. Assumes nothing.
-use Prim.Native.Nat.{◌-◌}
-use mathlib.Core.Path.{◌≡◌, refl, sym, ◌∙◌}
-use lib.ListN.{length, drop}
+use mathlib.Core.Path.{refl, sym, ◌∙◌}
 use native.Mathlib.Omega.{arith}
-use Rattle.board_lanes.specs.Board.{are_crew}
 use Rattle.board_lanes.proofs.BlockLaws.{crew_here, crew_low, crew_high, crew_end}
 use Rattle.board_lanes.proofs.block.are_crew.Goals as goal
 

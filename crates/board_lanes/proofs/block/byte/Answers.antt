@@ -1,5 +1,4 @@
 -- `block::byte` meets its contract: a byte is below 256. Assumes nothing.
-use borrow.Author.Rules.{rules}
 use native.Mathlib.Omega.{arith}
 use mathlib.Core.Path.{refl, sym}
 use lib.ListN.{get_or-eq_default}

@@ -1,7 +1,7 @@
 -- `block::crew_length` meets its contract: what the first n bytes say, the whole says. Assumes nothing.
-use Prim.Native.Nat.{◌+◌, ◌-◌, ◌≤◌}
-use mathlib.Core.Path.{◌≡◌, refl, sym, ap, ◌∙◌}
-use lib.ListN.{length, take}
+use Prim.Native.Nat.{◌+◌, ◌-◌}
+use mathlib.Core.Path.{◌≡◌, sym, ap, ◌∙◌}
+use lib.ListN.{take}
 use lib.Seq.{take-length}
 use native.Mathlib.Omega.{arith}
 use Rattle.board_lanes.specs.Board.{crew_length}

@@ -1,5 +1,4 @@
 -- `block::crew_of` meets its contract: the bytes up to the trailing spaces. Assumes nothing.
-use borrow.Author.Rules.{rules}
 use native.Mathlib.Nat.{sub-zero}
 use Rattle.board_lanes.proofs.block.crew_of.Goals as goal
 

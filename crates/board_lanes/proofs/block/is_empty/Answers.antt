@@ -1,9 +1,6 @@
 -- `block::is_empty` meets its contract: the rest says what the whole says. Assumes nothing.
-use Prim.Native.Nat.{◌-◌}
-use mathlib.Core.Path.{◌≡◌, refl, sym, ◌∙◌}
-use lib.ListN.{length, drop}
+use mathlib.Core.Path.{refl, sym, ◌∙◌}
 use native.Mathlib.Omega.{arith}
-use Rattle.board_lanes.specs.Board.{is_empty}
 use Rattle.board_lanes.proofs.BlockLaws.{empty_here, empty_not, empty-end}
 use Rattle.board_lanes.proofs.block.is_empty.Goals as goal
 

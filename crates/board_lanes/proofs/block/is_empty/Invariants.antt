@@ -1,9 +1,7 @@
 use Prim.Native.Nat.{◌-◌}
-use mathlib.Core.Path.{◌≡◌, refl, sym, ◌∙◌}
+use mathlib.Core.Path.{◌≡◌}
 use lib.ListN.{length, drop}
-use native.Mathlib.Omega.{arith}
 use Rattle.board_lanes.specs.Board.{is_empty}
-use Rattle.board_lanes.proofs.BlockLaws.{empty_here, empty_not, empty-end}
 use Rattle.board_lanes.proofs.block.is_empty.Given as goal
 
 abbrev pub invariant-loop-i : goal.invariant-loop-i

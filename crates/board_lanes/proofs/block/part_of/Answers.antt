@@ -1,7 +1,6 @@
 -- `block::part_of` meets its contract: past the end, near it, or well before it. Assumes nothing.
-use borrow.Author.Rules.{rules}
 use native.Mathlib.Omega.{arith}
-use mathlib.Core.Path.{◌≡◌, sym, refl}
+use mathlib.Core.Path.{◌≡◌, sym}
 use Prim.Native.Nat.{◌+◌, ◌-◌}
 use Rattle.byte_parts.specs.Part.{part}
 use Rattle.board_lanes.proofs.BlockLaws.{part-past, part-rest}

@@ -1,6 +1,4 @@
 -- `lanes::and_then` meets its contract, by the first. Assumes nothing.
-use borrow.Author.Rules.{rules}
-use mathlib.Core.Path.{◌≡◌, refl, sym}
 use Rattle.board_lanes.proofs.lanes.and_then.Goals as goal
 
 pub returns-in-Refused : goal.returns-in-Refused

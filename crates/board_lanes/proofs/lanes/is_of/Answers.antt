@@ -1,7 +1,5 @@
 -- `lanes::is_of` meets its contract: empty, or filled. Assumes nothing.
-use borrow.Author.Rules.{rules}
-use mathlib.Core.Path.{◌≡◌, sym, ap, ◌∙◌}
-use lib.Dec.{eqb}
+use mathlib.Core.Path.{sym, ◌∙◌}
 use Rattle.board_lanes.specs.Board.{of_race}
 use Rattle.board_lanes.proofs.lanes.is_of.Goals as goal
 

@@ -1,6 +1,5 @@
 -- `lanes::judge` meets its contract: the lanes, then the races. Assumes nothing.
-use borrow.Author.Rules.{rules}
-use mathlib.Core.Path.{◌≡◌, ap, ◌∙◌}
+use mathlib.Core.Path.{ap, ◌∙◌}
 use Rattle.board_lanes.specs.declared.lanes.Judged.{Judged}
 use Rattle.board_lanes.specs.Board.{and_then, lanes_judged, board_judged}
 use Rattle.board_lanes.proofs.lanes.judge.Goals as goal

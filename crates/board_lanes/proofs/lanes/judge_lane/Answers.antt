@@ -1,8 +1,6 @@
 -- `lanes::judge_lane` meets its contract: empty, or filled. Assumes nothing.
-use borrow.Author.Rules.{rules}
-use mathlib.Core.Path.{◌≡◌, sym, ◌∙◌}
-use mathlib.Core.Bool.{Bool}
-use Rattle.board_lanes.specs.Board.{is_empty, lane_judged}
+use mathlib.Core.Path.{sym, ◌∙◌}
+use Rattle.board_lanes.specs.Board.{lane_judged}
 use Rattle.board_lanes.proofs.lanes.judge_lane.Goals as goal
 
 pub returns-then-is_empty : goal.returns-then-is_empty

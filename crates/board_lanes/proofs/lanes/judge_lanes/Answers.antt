@@ -1,8 +1,7 @@
 -- `lanes::judge_lanes` meets its contract: what was judged so far, then the lanes that are left. Assumes nothing.
-use borrow.Author.Rules.{rules}
-use Prim.Native.Nat.{◌+◌, ◌-◌, ◌≤◌}
+use Prim.Native.Nat.{◌+◌, ◌-◌}
 use native.Mathlib.Omega.{arith}
-use mathlib.Core.Path.{◌≡◌, refl, sym, ap, ◌∙◌}
+use mathlib.Core.Path.{refl, sym, ap, ◌∙◌}
 use Rattle.board_lanes.specs.declared.lanes.Judged.{Judged}
 use Rattle.board_lanes.specs.Board.{block_at, lane_judged, and_then, lanes_judged}
 use Rattle.board_lanes.proofs.LaneLaws.{then-then, then_sound, lanes_here, lanes_end}

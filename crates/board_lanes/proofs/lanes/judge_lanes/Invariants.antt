@@ -1,10 +1,6 @@
-use borrow.Author.Rules.{rules}
-use Prim.Native.Nat.{◌+◌, ◌-◌, ◌≤◌}
-use native.Mathlib.Omega.{arith}
-use mathlib.Core.Path.{◌≡◌, refl, sym, ap, ◌∙◌}
-use Rattle.board_lanes.specs.declared.lanes.Judged.{Judged}
-use Rattle.board_lanes.specs.Board.{block_at, lane_judged, and_then, lanes_judged}
-use Rattle.board_lanes.proofs.LaneLaws.{then-then, then_sound, lanes_here, lanes_end}
+use Prim.Native.Nat.{◌-◌, ◌≤◌}
+use mathlib.Core.Path.{◌≡◌}
+use Rattle.board_lanes.specs.Board.{and_then, lanes_judged}
 use Rattle.board_lanes.proofs.lanes.judge_lanes.Given as goal
 
 abbrev pub invariant-loop-k : goal.invariant-loop-k

@@ -1,6 +1,5 @@
 -- `lanes::judge_races` meets its contract: one race, or more. Assumes nothing.
-use borrow.Author.Rules.{rules}
-use mathlib.Core.Path.{◌≡◌, sym, ◌∙◌}
+use mathlib.Core.Path.{sym, ◌∙◌}
 use Rattle.board_lanes.specs.Board.{races_judged}
 use Rattle.board_lanes.proofs.lanes.judge_races.Goals as goal
 

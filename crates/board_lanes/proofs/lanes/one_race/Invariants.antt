@@ -1,11 +1,6 @@
-use borrow.Author.Rules.{rules}
-use borrow.Author.Tests.{not-true, not-false}
-use Prim.Native.Nat.{◌+◌, ◌-◌}
-use native.Mathlib.Omega.{arith}
-use mathlib.Core.Path.{◌≡◌, refl, sym, ap, ◌∙◌}
-use mathlib.Core.Bool.{Bool}
-use Rattle.board_lanes.specs.Board.{block_at, is_empty, race_of, same_race, one_race}
-use Rattle.board_lanes.proofs.LaneLaws.{one_empty_lem, one_filled, one_end}
+use Prim.Native.Nat.{◌-◌}
+use mathlib.Core.Path.{◌≡◌}
+use Rattle.board_lanes.specs.Board.{one_race}
 use Rattle.board_lanes.proofs.lanes.one_race.Given as goal
 
 abbrev pub invariant-loop-first : goal.invariant-loop-first

@@ -1,7 +1,6 @@
 -- `records::put_head` meets its contract: four bytes are stored. Assumes nothing.
-use borrow.Author.Rules.{rules}
 use native.Mathlib.Omega.{arith}
-use mathlib.Core.Path.{◌≡◌, ap, ◌∙◌}
+use mathlib.Core.Path.{ap, ◌∙◌}
 use Prim.Native.Nat.{◌/◌, ◌%◌}
 use lib.ListN.{length, length-set}
 use Rattle.board_lanes.proofs.LaneLaws.{crew_most}

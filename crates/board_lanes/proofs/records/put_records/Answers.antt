@@ -1,11 +1,7 @@
 -- `records::put_records` meets its contract: the records of the lanes so far. Assumes nothing.
-use borrow.Author.Rules.{rules}
-use Prim.Native.Nat.{◌+◌, ◌-◌, ◌*◌, ◌≤◌}
 use native.Mathlib.Omega.{arith}
 use mathlib.Core.Path.{◌≡◌, refl, sym}
 use mathlib.Core.List.{[]}
-use lib.ListN.{length}
-use Rattle.byte_parts.specs.Part.{put}
 use Rattle.byte_parts.proofs.Part.{put_zero}
 use Rattle.board_lanes.specs.Board.{lanes_from}
 use Rattle.board_lanes.specs.Records.{lanes_records}

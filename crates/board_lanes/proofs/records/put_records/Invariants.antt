@@ -1,14 +1,9 @@
-use borrow.Author.Rules.{rules}
-use Prim.Native.Nat.{◌+◌, ◌-◌, ◌*◌, ◌≤◌}
-use native.Mathlib.Omega.{arith}
-use mathlib.Core.Path.{◌≡◌, refl, sym}
-use mathlib.Core.List.{[]}
+use Prim.Native.Nat.{◌-◌, ◌*◌, ◌≤◌}
+use mathlib.Core.Path.{◌≡◌}
 use lib.ListN.{length}
 use Rattle.byte_parts.specs.Part.{put}
-use Rattle.byte_parts.proofs.Part.{put_zero}
 use Rattle.board_lanes.specs.Board.{lanes_from}
 use Rattle.board_lanes.specs.Records.{lanes_records}
-use Rattle.board_lanes.proofs.RecordLaws.{records-put}
 use Rattle.board_lanes.proofs.records.put_records.Given as goal
 
 abbrev pub invariant-loop-i : goal.invariant-loop-i

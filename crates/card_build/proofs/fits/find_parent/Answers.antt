@@ -1,14 +1,10 @@
 -- The parent by all nodes is the one by the nodes left, after those passed.
-use mathlib.Core.Path.{refl, ◌∙◌}
-use mathlib.Core.Logic.{⊎_elim}
-use Prim.Native.Nat.{◌-◌}
-use native.Mathlib.Omega.{arith}
-use lib.ListN.{take}
-use borrow.Author.Rules.{rules}
-use Rattle.card_nodes.specs.Find.{parent_of, parent_from}
-use Rattle.card_nodes.proofs.Scan.{Left, done}
+use Rattle.std.proofs.Common.{refl, ◌∙◌, ◌<◌, arith}
+use Rattle.card_nodes.specs.Find.{parent_from}
+use Rattle.card_nodes.proofs.Scan.{done}
 use Rattle.card_nodes.proofs.Turns.{decides, leaves}
 use Rattle.card_build.proofs.fits.find_parent.Goals as goal
+use Rattle.card_build.proofs.fits.find_parent.Goals.{then-node-depth, else-node-depth}
 
 pub loop-i-init : goal.loop-i-init
 loop-i-init c = record { within = omega arith; all = omega arith; same = refl }
@@ -16,10 +12,11 @@ loop-i-init c = record { within = omega arith; all = omega arith; same = refl }
 pub loop-i-preserved : goal.loop-i-preserved
 loop-i-preserved c =
     let left = c.loop-i.invariant in
-    ⊎_elim
-    (λ w. decides _ _ _ left (omega arith) w.0.taken (w.2 ∙ w.1.ensures))
-    (λ w. leaves _ _ _ left (omega arith) w.0.left w.1)
-    c.if-node-depth.branch
+    let lt : c.loop-i.i < c.taken-n.result = omega arith in
+    elim c.if-node-depth.branch [
+      | then-node-depth w ↦ decides _ _ _ left lt w.if-node-depth.true (w.found-is ∙ w.open_at-found.ensures)
+      | else-node-depth w ↦ leaves _ _ _ left lt w.if-node-depth.false w.found-is
+    ]
 
 pub returns : goal.returns
 unfolding parent_from

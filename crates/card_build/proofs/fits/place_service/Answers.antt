@@ -1,33 +1,31 @@
 -- The code tests in the definition's order, and reads the parent that the definition finds.
-use mathlib.Core.Path.{ap, ◌∙◌}
-use Prim.Native.Nat.{◌<◌}
-use native.Mathlib.Omega.{arith}
-use borrow.Author.Rules.{rules}
+use Rattle.std.proofs.Common.{ap, ◌∙◌, ◌<◌, arith, rules}
 use Rattle.card_nodes.proofs.Records.{Records}
 use Rattle.card_admit.specs.Admit.{agreed}
 use Rattle.card_build.proofs.Judged.{parent-index, service_orphan, placed}
 use Rattle.card_build.proofs.fits.place_service.Goals as goal
-
--- the records that it is given
-records : (c : goal.Start) → Records c.args.t1 c.args.count
-records c = record { all = search rules }
+use Rattle.card_build.proofs.fits.place_service.Goals.{In-At}
 
 -- the parent is one of the records
-inside : (c : goal.In-At-2) → c.in-At.p < 64
-inside c = parent-index (records c.before) _ c.parent_at.ensures c.in-At.is
+inside : (c : In-At) → c.in-At.p < 64
+inside c =
+    let r : Records c.args.nodes c.args.count = record { all = search rules } in
+    parent-index r _ c.parent_at.ensures c.in-At.is
 
 pub returns-in_default : goal.returns-in_default
 returns-in_default c =
-    service_orphan (records c.before) _ c.parent_at.ensures c.in_default.is _ _ _ _ _
+    let r : Records c.args.nodes c.args.count = record { all = search rules } in
+    service_orphan r _ c.parent_at.ensures c.in_default.is _ _ _ _ _
+
+pub offset_bounds-nodes-p : goal.offset_bounds-nodes-p
+offset_bounds-nodes-p c = omega (arith, inside c)
+
+pub bounds-nodes-p : goal.bounds-nodes-p
+bounds-nodes-p c = inside c
 
 pub returns : goal.returns
 returns c =
     let a = c.args in
+    let r : Records a.nodes a.count = record { all = search rules } in
     c.given_under.ensures
-    ∙ ap (agreed a.join a.blocks) (placed (records c.before) _ c.parent_at.ensures c.in-At.is _ _ _ _ _ c.first_of-first.ensures)
-
-pub offset_bounds-nodes-p : goal.offset_bounds-nodes-p
-offset_bounds-nodes-p c = omega (arith, inside c.before)
-
-pub bounds-nodes-p : goal.bounds-nodes-p
-bounds-nodes-p c = inside c.before
+    ∙ ap (agreed a.join a.blocks) (placed r _ c.parent_at.ensures c.in-At.is _ _ _ _ _ c.first_of-first.ensures)

@@ -16,16 +16,19 @@ returns-then-areas-eq0 c ns e = no_area ns _ (omega arith)
 
 pub returns-then-not-is_found : goal.returns-then-not-is_found
 returns-then-not-is_found c ns e =
-    first_other_lem ns _ (omega arith) (sym (c.is_found.ensures ∙ ap is_found (c.area_at.ensures ∙ tags_area ns e _)) ∙ not-true _ c.if-not-is_found.true)
+    first_other_lem ns _ (omega arith) (sym (c.is_found.ensures ∙ ap is_found (c.area_at.ensures ∙ tags_area ns e _)) ∙ c.if-not-is_found.true)
 
 pub loop-i-init : goal.loop-i-init
 loop-i-init c ns e =
-    first-area ns _ (omega arith) (sym (c.is_found.ensures ∙ ap is_found (c.area_at.ensures ∙ tags_area ns e _)) ∙ not-false _ c.if-not-is_found.false)
+    first-area ns _ (omega arith) (sym (c.is_found.ensures ∙ ap is_found (c.area_at.ensures ∙ tags_area ns e _)) ∙ c.if-not-is_found.false)
 
 pub returns-then-not-area_or_system : goal.returns-then-not-area_or_system
 returns-then-not-area_or_system c ns e =
-    later_other ns (c.loop-i.invariant ns e) (omega arith) (sym (c.area_or_system.ensures ns e) ∙ not-true _ c.if-not-area_or_system.true)
+    later_other ns (c.loop-i.invariant ns e) (omega arith) (sym (c.area_or_system.ensures ns e) ∙ c.if-not-area_or_system.true)
 
 pub loop-i-preserved : goal.loop-i-preserved
 loop-i-preserved c ns e =
-    later_area ns (c.loop-i.invariant ns e) (omega arith) (sym (c.area_or_system.ensures ns e) ∙ not-false _ c.if-not-area_or_system.false)
+    later_area ns (c.loop-i.invariant ns e) (omega arith) (sym (c.area_or_system.ensures ns e) ∙ c.if-not-area_or_system.false)
+
+pub returns : goal.returns
+returns c ns e = areas-done ns (c.loop-i.invariant ns e) (omega arith)

@@ -12,16 +12,6 @@ use Rattle.card_questions.specs.Tags.{tag_of}
 use Rattle.card_questions.proofs.TagLaws.{tags_service, tags_area}
 use Rattle.card_questions.proofs.keys.list_node.Goals as goal
 
--- a service of the code is found, or none
-service : (c : goal.After-is-found) (ns : List Node) → c.before.before.before.before.before.args.tags.now ≡ map tag_of ns → {b : Bool} → c.is_found.result ≡ b →
-    is_found (service_of ns c.before.before.before.before.before.args.code) ≡ b
-service c ns t e = sym (c.is_found.ensures ∙ ap is_found (c.before.service-at.ensures ∙ tags_service ns t _)) ∙ e
-
--- an area of the code is found, or none
-area : (c : goal.After-is-found2) (ns : List Node) → c.before.before.before.before.before.before.before.before.args.tags.now ≡ map tag_of ns → {b : Bool} → c.is-found2.result ≡ b →
-    is_found (area_of ns c.before.before.before.before.before.before.before.before.args.code) ≡ b
-area c ns t e = sym (c.is-found2.ensures ∙ ap is_found (c.before.area-at.ensures ∙ tags_area ns t _)) ∙ e
-
 pub returns-then-code-eq65535 : goal.returns-then-code-eq65535
 unfolding list_node_of
 returns-then-code-eq65535 c ns e = search tests
@@ -31,14 +21,14 @@ unfolding list_node_of
 returns-then-is_found c ns e =
     c.listed.ensures
     ∙ ap (λ (k : Bool). cond k Keyed KeyFree) c.requires_key-keyed.ensures
-    ∙ search (tests, service c.before ns e c.if-is_found.true)
+    ∙ search (tests, sym (c.is_found.ensures ∙ ap is_found (c.service_at.ensures ∙ tags_service ns e _)) ∙ c.if-is_found.true)
 
 pub returns-then-is_found-2 : goal.returns-then-is_found-2
 unfolding list_node_of
 returns-then-is_found-2 c ns e =
-    c.listed-then-is_found-2.ensures ∙ search (tests, service c.before ns e c.if-is_found.false, area c.before ns e c.if-is_found-2.true)
+    c.listed-then-is_found-2.ensures ∙ search (tests, sym (c.is_found.ensures ∙ ap is_found (c.service_at.ensures ∙ tags_service ns e _)) ∙ c.if-is_found.false, sym (c.is_found-2.ensures ∙ ap is_found (c.area_at.ensures ∙ tags_area ns e _)) ∙ c.if-is_found-2.true)
 
 pub returns : goal.returns
 unfolding list_node_of
 returns c ns e =
-    search (tests, service c.before ns e c.if-is_found.false, area c.before ns e c.if-is_found-2.false)
+    search (tests, sym (c.is_found.ensures ∙ ap is_found (c.service_at.ensures ∙ tags_service ns e _)) ∙ c.if-is_found.false, sym (c.is_found-2.ensures ∙ ap is_found (c.area_at.ensures ∙ tags_area ns e _)) ∙ c.if-is_found-2.false)

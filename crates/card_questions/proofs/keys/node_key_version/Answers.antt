@@ -7,8 +7,8 @@ use Rattle.card_questions.proofs.keys.node_key_version.Goals as goal
 
 pub returns-then-not-is_sound : goal.returns-then-not-is_sound
 unfolding version_answer
-returns-then-not-is_sound c = rw (sym c.is_sound.ensures ∙ not-true _ c.if-not-is_sound.true)
+returns-then-not-is_sound c = rw (sym c.is_sound.ensures ∙ c.if-not-is_sound.true)
 
 pub returns : goal.returns
 unfolding version_answer
-returns c = rw (sym c.is_sound.ensures ∙ not-false _ c.if-not-is_sound.false, c.key_version.ensures)
+returns c = rw (sym c.is_sound.ensures ∙ c.if-not-is_sound.false, c.key_version.ensures)

@@ -1,7 +1,7 @@
 -- Whether the list is well formed is whether what is left of it is, after the entries that were read.
 use mathlib.Core.Path.{◌≡◌, sym, ◌∙◌}
 use mathlib.Core.Logic.{⊎_elim}
-use Prim.Native.Nat.{◌-◌}
+use Prim.Native.Nat.{◌-◌, ◌<◌}
 use native.Mathlib.Omega.{arith}
 use lib.ListN.{length}
 use borrow.Author.Rules.{rules}
@@ -10,15 +10,17 @@ use Rattle.card_questions.specs.Tags.{OfTags}
 use Rattle.card_questions.specs.Keys.{service_list_of}
 use Rattle.card_questions.proofs.Lists.{InList, rest_of, none_read, last-read, unknown, disorder, keyed_read, free-read}
 use Rattle.card_questions.proofs.keys.services_tagged.Goals as goal
+use Rattle.card_questions.proofs.keys.services_tagged.Goals.{in-Keyed+else-seen_free, in-KeyFree}
 
 pub loop-i-preserved : goal.loop-i-preserved
 loop-i-preserved c ns t =
     let l = c.loop-i in
     let e = sym (c.list_node.ensures ns t) in
-    ⊎_elim
-    (λ w. keyed_read ns l.has-keyed l.seen-free (l.invariant ns t) (omega arith) _ _ (e ∙ w.1.given.1) w.2.left w.3 w.4)
-    (λ w. free-read ns l.has-keyed l.seen-free (l.invariant ns t) (omega arith) _ _ (e ∙ w.1.given.1) w.2 w.3)
-    c.match-list_node.branch
+    let lt : l.i < length c.args.services.now = omega arith in
+    elim c.match-list_node.branch [
+      | in-Keyed+else-seen_free w ↦ keyed_read ns l.has_keyed l.seen_free (l.invariant ns t) lt _ _ (e ∙ w.in-Keyed.is) w.if-seen_free.false w.has_keyed-is w.seen_free-is
+      | in-KeyFree w ↦ free-read ns l.has_keyed l.seen_free (l.invariant ns t) lt _ _ (e ∙ w.in-KeyFree.is) w.has_keyed-is w.seen_free-is
+    ]
 
 pub loop-i-init : goal.loop-i-init
 loop-i-init c ns t = none_read ns _
@@ -26,12 +28,12 @@ loop-i-init c ns t = none_read ns _
 pub returns-then-seen_free : goal.returns-then-seen_free
 returns-then-seen_free c ns t =
     let l = c.loop-i in
-    disorder ns l.has-keyed l.seen-free (l.invariant ns t) (omega arith) (sym (c.list_node.ensures ns t) ∙ c.in-Keyed.is) c.if-seen_free.true
+    disorder ns l.has_keyed l.seen_free (l.invariant ns t) (omega arith) (sym (c.list_node.ensures ns t) ∙ c.in-Keyed.is) c.if-seen_free.true
 
 pub returns-in-Unknown : goal.returns-in-Unknown
 returns-in-Unknown c ns t =
     let l = c.loop-i in
-    unknown ns l.has-keyed l.seen-free (l.invariant ns t) (omega arith) (sym (c.list_node.ensures ns t) ∙ c.in-Unknown.is)
+    unknown ns l.has_keyed l.seen_free (l.invariant ns t) (omega arith) (sym (c.list_node.ensures ns t) ∙ c.in-Unknown.is)
 
 pub returns : goal.returns
-returns c ns t = last-read ns c.loop-i.has-keyed c.loop-i.seen-free ∙ done (c.loop-i.invariant ns t) (omega arith)
+returns c ns t = last-read ns c.loop-i.has_keyed c.loop-i.seen_free ∙ done (c.loop-i.invariant ns t) (omega arith)

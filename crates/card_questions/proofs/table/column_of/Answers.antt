@@ -12,18 +12,18 @@ use Rattle.card_questions.proofs.table.column_of.Goals as goal
 
 pub loop-i-init : goal.loop-i-init
 loop-i-init c =
-    let all : length c.args.t1 ≡ 64 = search rules in
-    none_filled (omega (arith, all, length-map c.args.t1 (cell_of c.args.column)))
+    let all : length c.args.nodes ≡ 64 = search rules in
+    none_filled (omega (arith, all, length-map c.args.nodes (cell_of c.args.column)))
 
 pub loop-i-preserved : goal.loop-i-preserved
 loop-i-preserved c =
     let a = c.args in
-    let all : length a.t1 ≡ 64 = search rules in
-    one_filled c.loop-i.invariant (omega (arith, all, length-map a.t1 (cell_of a.column)))
-    (c.cell.ensures ∙ sym (column_read a.column a.t1 c.loop-i.i _ (omega (arith, all))))
+    let all : length a.nodes ≡ 64 = search rules in
+    one_filled c.loop-i.invariant (omega (arith, all, length-map a.nodes (cell_of a.column)))
+    (c.cell.ensures ∙ sym (column_read a.column a.nodes c.loop-i.i _ (omega (arith, all))))
 
 pub returns : goal.returns
 returns c =
     let a = c.args in
-    let all : length a.t1 ≡ 64 = search rules in
-    all-filled c.loop-i.invariant (omega (arith, all, length-map a.t1 (cell_of a.column)))
+    let all : length a.nodes ≡ 64 = search rules in
+    all-filled c.loop-i.invariant (omega (arith, all, length-map a.nodes (cell_of a.column)))

@@ -7,8 +7,8 @@ use Rattle.card_questions.proofs.totals.block_count_for_node.Goals as goal
 
 pub returns-then-not-is_sound : goal.returns-then-not-is_sound
 unfolding total_answer
-returns-then-not-is_sound c = rw (sym c.is_sound.ensures ∙ not-true _ c.if-not-is_sound.true)
+returns-then-not-is_sound c = rw (sym c.is_sound.ensures ∙ c.if-not-is_sound.true)
 
 pub returns : goal.returns
 unfolding total_answer
-returns c = rw (sym c.is_sound.ensures ∙ not-false _ c.if-not-is_sound.false, c.block_total.ensures)
+returns c = rw (sym c.is_sound.ensures ∙ c.if-not-is_sound.false, c.block_total.ensures)

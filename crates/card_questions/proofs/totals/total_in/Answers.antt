@@ -7,16 +7,14 @@ use borrow.Author.Rules.{rules}
 use Rattle.card_questions.proofs.TagLaws.{tag_inside}
 use Rattle.card_questions.proofs.Found.{service-total, area-total, no_total}
 use Rattle.card_questions.proofs.totals.total_in.Goals as goal
+use Rattle.card_questions.proofs.totals.total_in.Goals.{In-At}
 
 -- the service is one of the nodes
-inside : (c : goal.In-At-2) → c.in-At.i < length c.args.blocks.now
+inside : (c : In-At) → c.in-At.i < length c.args.blocks.now
 inside c =
     let p = c.requires in
     let h = tag_inside _ _ c.service_at.ensures c.in-At.is in
     omega (arith, h, p.1, p.3)
-
-pub overflow_cast-blocks : goal.overflow_cast-blocks
-overflow_cast-blocks c = omega (arith, c.shared_slice_known-in-At-1.given c.in-At.i)
 
 pub returns-in-At : goal.returns-in-At
 returns-in-At c ns t d s b =
@@ -35,10 +33,10 @@ total_at-sum-requires c =
 pub returns : goal.returns
 returns c ns t d s b =
     let l = c.total_at-sum.ensures in
-    area-total ns _ t c.service_at.ensures c.in_default.is c.area_at.ensures c.in-At-area_at.is d s b l.0 l.1.0 c.capped-2.ensures
+    area-total ns _ t c.service_at.ensures c.in_default.is c.area_at.ensures c.in-At-area_at.is d s b l.next_value l.blocks_value c.capped-2.ensures
 
 pub offset_bounds-blocks-i : goal.offset_bounds-blocks-i
-offset_bounds-blocks-i c = omega (arith, inside c.before)
+offset_bounds-blocks-i c = omega (arith, inside c)
 
 pub bounds-blocks-i : goal.bounds-blocks-i
-bounds-blocks-i c = inside c.before
+bounds-blocks-i c = inside (goal.at.bounds-blocks-i c).In-At

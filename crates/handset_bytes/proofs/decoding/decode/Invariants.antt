@@ -2,7 +2,6 @@ use mathlib.Core.Path.{sym, ◌∙◌}
 use Prim.Native.Nat.{◌-◌}
 use native.Mathlib.Omega.{arith}
 use borrow.Author.Rules.{rules}
-use borrow.Author.Tests.{not-true, not-false}
 use Rattle.handset_bytes.proofs.Heads.{headed}
 use Rattle.handset_bytes.proofs.DecodeTurns.{Reading, begun, unheaded, bad, turn, read_all}
 use Rattle.handset_bytes.proofs.decoding.decode.Given as goal

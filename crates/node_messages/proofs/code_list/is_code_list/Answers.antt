@@ -1,6 +1,4 @@
 -- The flag is tested first.
-use native.Mathlib.Omega.{arith}
-use borrow.Author.Rules.{rules}
 use Rattle.node_messages.proofs.Takes.{flag_above, flag-within}
 use Rattle.node_messages.proofs.code_list.is_code_list.Goals as goal
 

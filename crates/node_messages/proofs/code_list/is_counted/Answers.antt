@@ -1,6 +1,4 @@
 -- The tests in the definition's order.
-use native.Mathlib.Omega.{arith}
-use borrow.Author.Rules.{rules}
 use Rattle.node_messages.proofs.Takes.{too_many, by_length}
 use Rattle.node_messages.proofs.code_list.is_counted.Goals as goal
 

@@ -1,6 +1,4 @@
 -- The byte behind the areas.
-use native.Mathlib.Omega.{arith}
-use borrow.Author.Rules.{rules}
 use Rattle.node_messages.proofs.code_list.services_at.Goals as goal
 
 pub returns : goal.returns

@@ -1,6 +1,4 @@
 -- The lesser of the services and of what the areas leave.
-use native.Mathlib.Omega.{arith}
-use borrow.Author.Rules.{rules}
 use Rattle.node_messages.proofs.code_list.services_left.Goals as goal
 
 pub returns : goal.returns

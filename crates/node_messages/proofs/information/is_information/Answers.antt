@@ -1,6 +1,4 @@
 -- The tests in the definition's order.
-use native.Mathlib.Omega.{arith}
-use borrow.Author.Rules.{rules}
 use Rattle.node_messages.proofs.Takes.{nodes_above, nodes-within}
 use Rattle.node_messages.proofs.information.is_information.Goals as goal
 

@@ -1,8 +1,7 @@
 -- A byte of the slice, or none.
-use mathlib.Core.Path.{◌≡◌, refl, sym}
+use mathlib.Core.Path.{refl, sym}
 use native.Mathlib.Omega.{arith}
 use lib.ListN.{get_or-eq_default}
-use borrow.Author.Rules.{rules}
 use Rattle.node_messages.proofs.numbers.byte_at.Goals as goal
 
 pub returns-then-i-s : goal.returns-then-i-s

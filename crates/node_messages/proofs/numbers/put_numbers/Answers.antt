@@ -1,9 +1,8 @@
 -- After i turns i numbers are put.
-use Prim.Native.Nat.{◌+◌, ◌-◌, ◌*◌, ◌≤◌}
+use Prim.Native.Nat.{◌+◌, ◌*◌}
 use native.Mathlib.Omega.{arith}
 use mathlib.Core.Path.{◌≡◌, refl, sym, ◌∙◌}
 use lib.ListN.{length}
-use borrow.Author.Rules.{rules}
 use Rattle.byte_parts.specs.Part.{put}
 use Rattle.byte_parts.proofs.Part.{put_zero, length-put}
 use Rattle.node_messages.specs.Numbers.{numbers_bytes}
@@ -17,7 +16,7 @@ pub loop-i-preserved : goal.loop-i-preserved
 loop-i-preserved c =
     let a = c.args in
     let e = rw c.loop-i.invariant.1 at c.put_half.ensures in
-    let p : c.put_half.new.0 ≡ put a.out.now a.at (2 * (c.loop-i.i + 1)) (numbers_bytes a.numbers.now) =
+    let p : c.put_half.new.s ≡ put a.out.now a.at (2 * (c.loop-i.i + 1)) (numbers_bytes a.numbers.now) =
     e ∙ put-number a.out.now a.at a.numbers.now c.loop-i.i (omega arith) in
     (omega arith, p, rw p (length-put a.out.now a.at (2 * (c.loop-i.i + 1)) (numbers_bytes a.numbers.now)))
 

@@ -1,11 +1,8 @@
 -- After i turns i numbers are read.
-use Prim.Native.Nat.{◌-◌, ◌≤◌}
 use native.Mathlib.Omega.{arith}
 use native.Mathlib.Nat.{zero-add}
 use mathlib.Core.Path.{◌≡◌, refl, sym, ◌∙◌}
-use lib.ListN.{length, drop, length-set}
-use borrow.Author.Rules.{rules}
-use Rattle.byte_parts.specs.Part.{put}
+use lib.ListN.{drop, length-set}
 use Rattle.byte_parts.proofs.Part.{put_zero}
 use Rattle.byte_parts.proofs.Put.{put_next}
 use Rattle.node_messages.specs.Numbers.{numbers_in}

@@ -1,14 +1,8 @@
 use Prim.Native.Nat.{◌-◌, ◌≤◌}
-use native.Mathlib.Omega.{arith}
-use native.Mathlib.Nat.{zero-add}
-use mathlib.Core.Path.{◌≡◌, refl, sym, ◌∙◌}
-use lib.ListN.{length, drop, length-set}
-use borrow.Author.Rules.{rules}
+use mathlib.Core.Path.{◌≡◌}
+use lib.ListN.{length, drop}
 use Rattle.byte_parts.specs.Part.{put}
-use Rattle.byte_parts.proofs.Part.{put_zero}
-use Rattle.byte_parts.proofs.Put.{put_next}
 use Rattle.node_messages.specs.Numbers.{numbers_in}
-use Rattle.node_messages.proofs.NumberLaws.{length_in, in_from_lem}
 use Rattle.node_messages.proofs.numbers.read_numbers.Given as goal
 
 abbrev pub invariant-loop-i : goal.invariant-loop-i

@@ -10,9 +10,9 @@ returns-in_default c = let a = c.args in no_attribute a.row a.write a.«open» a
 pub returns-then-not-found : goal.returns-then-not-found
 returns-then-not-found c =
     let a = c.args in
-    no_service a.row a.write a.«open» a.number a.mode c.in-Defined.is (not-true a.row.found c.if-not-found.true)
+    no_service a.row a.write a.«open» a.number a.mode c.in-Defined.is c.if-not-found.true
 
 pub returns : goal.returns
 returns c =
     let a = c.args in
-    of_service a.row a.write a.«open» a.number a.mode c.in-Defined.is (not-false a.row.found c.if-not-found.false) c.service_check.ensures
+    of_service a.row a.write a.«open» a.number a.mode c.in-Defined.is c.if-not-found.false c.service_check.ensures

@@ -8,4 +8,4 @@ pub returns-then-count-e : goal.returns-then-count-e
 returns-then-count-e c = search (le-leb, lt-leb)
 
 pub returns : goal.returns
-returns c = c.row_check_lem.ensures ∙ search (le-leb, lt-leb)
+returns c = c.row_check.ensures ∙ search (le-leb, lt-leb)

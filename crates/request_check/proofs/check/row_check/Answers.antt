@@ -6,8 +6,8 @@ use Rattle.request_check.proofs.Cases.{no_mode, of_mode}
 use Rattle.request_check.proofs.check.row_check.Goals as goal
 
 pub returns-then-not-mode_allowed : goal.returns-then-not-mode_allowed
-returns-then-not-mode_allowed c = no_mode _ _ _ _ _ (sym c.mode_allowed.ensures ∙ not-true c.mode_allowed.result c.if-not-mode_allowed.true)
+returns-then-not-mode_allowed c = no_mode _ _ _ _ _ (sym c.mode_allowed.ensures ∙ c.if-not-mode_allowed.true)
 
 pub returns : goal.returns
 returns c =
-    of_mode _ _ _ _ _ (sym c.mode_allowed.ensures ∙ not-false c.mode_allowed.result c.if-not-mode_allowed.false) c.defined_check.ensures
+    of_mode _ _ _ _ _ (sym c.mode_allowed.ensures ∙ c.if-not-mode_allowed.false) c.defined_check.ensures

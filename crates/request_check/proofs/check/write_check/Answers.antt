@@ -7,15 +7,13 @@ use Rattle.service_code.specs.Code.{allows_write}
 use Rattle.request_check.proofs.Cases.{no_write, no_return, may_write}
 use Rattle.request_check.proofs.check.write_check.Goals as goal
 
--- the service may be written
-writable : (c : goal.Else-not-allows_write) → allows_write c.args.attribute ≡ true
-writable c = sym c.allows_write.ensures ∙ not-false c.allows_write.result c.if-not-allows_write.false
-
 pub returns-then-not-allows_write : goal.returns-then-not-allows_write
-returns-then-not-allows_write c = no_write _ _ (sym c.allows_write.ensures ∙ not-true c.allows_write.result c.if-not-allows_write.true)
+returns-then-not-allows_write c = no_write _ _ (sym c.allows_write.ensures ∙ c.if-not-allows_write.true)
 
 pub returns-then-no_cashback : goal.returns-then-no_cashback
-returns-then-no_cashback c = no_return _ _ (writable c.before) (sym c.no_cashback.ensures ∙ c.if-no_cashback.true)
+returns-then-no_cashback c =
+    no_return _ _ (sym c.allows_write.ensures ∙ c.if-not-allows_write.false) (sym c.no_cashback.ensures ∙ c.if-no_cashback.true)
 
 pub returns : goal.returns
-returns c = may_write _ _ (writable c.before) (sym c.no_cashback.ensures ∙ c.if-no_cashback.false)
+returns c =
+    may_write _ _ (sym c.allows_write.ensures ∙ c.if-not-allows_write.false) (sym c.no_cashback.ensures ∙ c.if-no_cashback.false)

@@ -12,8 +12,6 @@ use Rattle.request_check.specs.Row.{no_row, row_of}
 use Rattle.request_check.proofs.Rows.{filled, fill, filled_once, filled_anew, found_row_lem, no_service, table_full}
 use Rattle.request_check.proofs.table.table_of.Given as goal
 
-)
-
 abbrev pub invariant-loop-i : goal.invariant-loop-i
 invariant-loop-i l =
     (l.i ≤ l.n) × (l.n ≡ min (length l.codes) 16) × (l.taken ≡ min l.count 64) × (l.rows ≡ filled (row_of (take l.count l.nodes)) no_row 16 l.codes l.i)

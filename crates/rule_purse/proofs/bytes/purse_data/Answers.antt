@@ -1,6 +1,5 @@
 -- `bytes::purse_data` meets its contract. Assumes nothing.
 use mathlib.Core.Path.{refl}
-use borrow.Author.Rules.{rules}
 use Rattle.rule_purse.specs.Bytes.{purse_data_of}
 use Rattle.rule_purse.proofs.bytes.purse_data.Goals as goal
 

@@ -1,5 +1,4 @@
 -- `bytes::put_id` meets its contract. Assumes nothing.
-use borrow.Author.Rules.{rules}
 use Rattle.rule_purse.proofs.bytes.put_id.Goals as goal
 
 pub returns : goal.returns

@@ -1,5 +1,4 @@
 -- `bytes::take_over` meets its contract. Assumes nothing.
-use borrow.Author.Rules.{rules}
 use Rattle.rule_purse.proofs.bytes.take_over.Goals as goal
 
 pub returns : goal.returns

@@ -1,5 +1,4 @@
 -- `fields::cashback` meets its contract: each way out is a case of the rule. Assumes nothing.
-use borrow.Author.Rules.{rules}
 use Rattle.rule_purse.proofs.Rule.{cashback_same, cashback_exceeds, cashback_other}
 use Rattle.rule_purse.proofs.fields.cashback.Goals as goal
 

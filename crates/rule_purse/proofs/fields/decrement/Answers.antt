@@ -1,5 +1,4 @@
 -- `fields::decrement` meets its contract: each way out is a case of the rule. Assumes nothing.
-use borrow.Author.Rules.{rules}
 use Rattle.rule_purse.proofs.Rule.{decrement_same, decrement_other}
 use Rattle.rule_purse.proofs.fields.decrement.Goals as goal
 

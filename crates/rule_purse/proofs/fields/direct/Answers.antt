@@ -1,6 +1,5 @@
 -- `fields::direct` meets its contract: a purse that rises fails, any other is tested on. Assumes nothing.
 use mathlib.Core.Path.{sym, ◌∙◌}
-use borrow.Author.Rules.{rules}
 use Rattle.rule_purse.proofs.Rule.{purse_raised}
 use Rattle.rule_purse.proofs.fields.direct.Goals as goal
 

@@ -1,7 +1,6 @@
 -- `fields::less` meets its contract: a difference of two fields fits 64 bits. Assumes nothing.
 use mathlib.Core.Path.{sym}
 use lib.IntN.{◌-ℤ◌}
-use borrow.Author.Rules.{rules}
 use Rattle.byte_parts.proofs.Laws.{minus_mag, op_fits, op_clean}
 use Rattle.rule_purse.proofs.fields.less.Goals as goal
 

@@ -1,5 +1,4 @@
 -- `fields::not_raised` meets its contract: each way out is a case of the rule. Assumes nothing.
-use borrow.Author.Rules.{rules}
 use Rattle.rule_purse.proofs.Rule.{cashback_raised, sum_large, direct_whole, direct_outside}
 use Rattle.rule_purse.proofs.fields.not_raised.Goals as goal
 

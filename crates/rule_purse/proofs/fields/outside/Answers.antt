@@ -1,6 +1,5 @@
 -- `fields::outside` meets its contract. Assumes nothing.
 use mathlib.Core.Path.{refl}
-use borrow.Author.Rules.{rules}
 use Rattle.rule_purse.specs.Purse.{outside_of}
 use Rattle.rule_purse.proofs.fields.outside.Goals as goal
 

@@ -1,6 +1,5 @@
 -- `fields::over` meets its contract: a sum of two fields fits 64 bits. Assumes nothing.
 use lib.IntN.{◌+ℤ◌}
-use borrow.Author.Rules.{rules}
 use Rattle.byte_parts.proofs.Laws.{plus_mag, op_fits, op_clean}
 use Rattle.rule_purse.proofs.fields.over.Goals as goal
 

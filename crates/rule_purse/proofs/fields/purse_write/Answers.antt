@@ -1,5 +1,4 @@
 -- `fields::purse_write` meets its contract: each operation is a function of its own. Assumes nothing.
-use borrow.Author.Rules.{rules}
 use Rattle.rule_purse.proofs.fields.purse_write.Goals as goal
 
 pub returns-in-Direct : goal.returns-in-Direct

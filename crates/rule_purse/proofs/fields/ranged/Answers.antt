@@ -1,7 +1,6 @@
 -- `fields::ranged` meets its contract. Assumes nothing.
 use mathlib.Core.Path.{sym, ◌∙◌}
 use mir.Syntax.{w64}
-use borrow.Author.Rules.{rules}
 use Rattle.byte_parts.proofs.Laws.{clean}
 use Rattle.rule_purse.specs.Purse.{sum_of}
 use Rattle.rule_purse.proofs.fields.ranged.Goals as goal

@@ -1,6 +1,5 @@
 -- `fields::stored_of` meets its contract: each arm is a case of the definition. Assumes nothing.
 use mathlib.Core.Path.{refl}
-use borrow.Author.Rules.{rules}
 use Rattle.rule_purse.specs.Purse.{stored_of}
 use Rattle.rule_purse.proofs.fields.stored_of.Goals as goal
 

@@ -1,5 +1,4 @@
 -- `codes::byte_at` meets its contract: two digits are below 256. Assumes nothing.
-use borrow.Author.Rules.{rules}
 use native.Mathlib.Omega.{arith}
 use Prim.Native.Nat.{◌+◌}
 use Rattle.text_numbers.proofs.DigitLaws.{digit_at}

@@ -1,5 +1,4 @@
 -- `codes::code_at` meets its contract: four digits are two bytes, the high one first. Assumes nothing.
-use borrow.Author.Rules.{rules}
 use native.Mathlib.Omega.{arith}
 use Prim.Native.Nat.{◌+◌, ◌*◌}
 use mathlib.Core.Path.{◌≡◌, sym}

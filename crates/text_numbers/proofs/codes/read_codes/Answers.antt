@@ -1,11 +1,8 @@
 -- `codes::read_codes` meets its contract: after i turns i codes are put. Assumes nothing.
-use Prim.Native.Nat.{◌-◌, ◌/◌, ◌≤◌}
 use native.Mathlib.Omega.{arith}
 use native.Mathlib.Nat.{zero-add}
-use borrow.Author.Rules.{rules}
-use mathlib.Core.Path.{◌≡◌, refl, sym}
-use lib.ListN.{length, length-set}
-use Rattle.byte_parts.specs.Part.{put}
+use mathlib.Core.Path.{refl, sym}
+use lib.ListN.{length-set}
 use Rattle.byte_parts.proofs.Part.{put_zero}
 use Rattle.byte_parts.proofs.Put.{put_next}
 use Rattle.text_numbers.specs.Codes.{codes_of}
@@ -14,10 +11,6 @@ use Rattle.text_numbers.proofs.codes.read_codes.Goals as goal
 
 pub loop-i-init : goal.loop-i-init
 loop-i-init c = (omega arith, omega arith, sym (put_zero _ _ _), refl)
-
-pub returns-then-s-i : goal.returns-then-s-i
-returns-then-s-i c =
-    (omega (arith, length-codes c.args.s.now), c.loop-i.invariant.2)
 
 pub code_at-requires : goal.code_at-requires
 code_at-requires c =
@@ -32,6 +25,8 @@ loop-i-preserved c =
     let e = rw (zero-add i) at (put_next a.out.now 0 (codes_of s) i c.code_at.result (omega arith) c.code_at.ensures) in
     (omega arith, omega arith, rw c.loop-i.invariant.2 e, simp length-set (omega arith))
 
-pub returns : goal.returns
-returns c =
-    (omega (arith, length-codes c.args.s.now), c.loop-i.invariant.2)
+pub returns-then-s-i-clause-value : goal.returns-then-s-i-clause-value
+returns-then-s-i-clause-value c = omega (arith, length-codes c.args.s.now)
+
+pub returns-clause-value : goal.returns-clause-value
+returns-clause-value c = omega (arith, length-codes c.args.s.now)

@@ -1,14 +1,8 @@
 use Prim.Native.Nat.{◌-◌, ◌/◌, ◌≤◌}
-use native.Mathlib.Omega.{arith}
-use native.Mathlib.Nat.{zero-add}
-use borrow.Author.Rules.{rules}
-use mathlib.Core.Path.{◌≡◌, refl, sym}
-use lib.ListN.{length, length-set}
+use mathlib.Core.Path.{◌≡◌}
+use lib.ListN.{length}
 use Rattle.byte_parts.specs.Part.{put}
-use Rattle.byte_parts.proofs.Part.{put_zero}
-use Rattle.byte_parts.proofs.Put.{put_next}
 use Rattle.text_numbers.specs.Codes.{codes_of}
-use Rattle.text_numbers.proofs.CodeLaws.{length-codes, codes-digits}
 use Rattle.text_numbers.proofs.codes.read_codes.Given as goal
 
 abbrev pub invariant-loop-i : goal.invariant-loop-i

@@ -1,8 +1,6 @@
 -- `codes::read_hex16` meets its contract: the tests are those of `hex16`. Assumes nothing.
-use borrow.Author.Rules.{rules}
 use native.Mathlib.Omega.{arith}
 use mathlib.Core.Path.{sym, ap, ◌∙◌}
-use borrow.Author.Tests.{not-true, not-false}
 use Rattle.byte_parts.proofs.Tests.{tests}
 use Rattle.text_numbers.specs.Codes.{hex16}
 use Rattle.text_numbers.specs.declared.codes.Code.TheVariants.{Is}
@@ -15,13 +13,9 @@ returns-then-s-ne4 c = search tests
 
 pub returns-then-not-are_digits : goal.returns-then-not-are_digits
 unfolding hex16
-returns-then-not-are_digits c = search (tests, sym c.are_digits.ensures ∙ not-true _ c.if-not-are_digits.true)
-
-pub code_at-requires : goal.code_at-requires
-code_at-requires c = (sym c.are_digits.ensures ∙ not-false _ c.if-not-are_digits.false, omega arith)
+returns-then-not-are_digits c = search (tests, sym c.if-not-are_digits.ensures)
 
 pub returns : goal.returns
 returns c =
     let s = c.args.s.now in
-    let d = sym c.are_digits.ensures ∙ not-false _ c.if-not-are_digits.false in
-    ap Is (c.code_at.ensures ∙ codes_one s (omega arith)) ∙ sym (hex16_four s (omega arith) d)
+    ap Is (c.code_at.ensures ∙ codes_one s (omega arith)) ∙ sym (hex16_four s (omega arith) (sym c.if-not-are_digits.ensures))

@@ -1,5 +1,4 @@
 -- `decimals::is_plain` meets its contract: the tests are those of `plain`. Assumes nothing.
-use borrow.Author.Rules.{rules}
 use mathlib.Core.Path.{◌∙◌}
 use Rattle.text_numbers.specs.Decimal.{plain}
 use Rattle.byte_parts.proofs.Tests.{tests}

@@ -1,5 +1,4 @@
 -- `decimals::negative_of` meets its contract: each arm says which variant it is in. Assumes nothing.
-use borrow.Author.Rules.{rules}
 use mathlib.Core.Path.{sym, ap, ◌∙◌}
 use mir.Syntax.{w32}
 use mir.Facts.{to_z-of_z}
@@ -13,17 +12,12 @@ unfolding negative
 returns-in_default c = sym (ap negative c.in_default.is)
 
 pub returns-then-k-lt1 : goal.returns-then-k-lt1
-returns-then-k-lt1 c =
-    let k = c.n-1.given in
-    sym (ap negative k.1 ∙ negative_zero k.0.0 c.if-k-lt1.true)
+returns-then-k-lt1 c = sym (ap negative c.in-Is.is ∙ negative_zero c.in-Is.k c.if-k-lt1.true)
 
 pub returns-then-k-gt2147483648 : goal.returns-then-k-gt2147483648
-returns-then-k-gt2147483648 c =
-    let k = c.n-1.given in
-    sym (ap negative k.1 ∙ negative-bad k.0.0 c.if-k-gt2147483648.true)
+returns-then-k-gt2147483648 c = sym (ap negative c.in-Is.is ∙ negative-bad c.in-Is.k c.if-k-gt2147483648.true)
 
 pub returns : goal.returns
 returns c =
-    let k = c.n-1.given in
-    ap Is (to_z-of_z {w = w32} record { sfits = c.minus.type-inv } ∙ c.minus.ensures)
-    ∙ sym (ap negative k.1 ∙ negative_is k.0.0 c.if-k-lt1.false c.if-k-gt2147483648.false)
+    ap Is (to_z-of_z {w = w32} record { sfits = c.minus.type_inv } ∙ c.minus.ensures)
+    ∙ sym (ap negative c.in-Is.is ∙ negative_is c.in-Is.k c.if-k-lt1.false c.if-k-gt2147483648.false)

@@ -1,5 +1,4 @@
 -- `decimals::plus` meets its contract. Assumes nothing.
-use borrow.Author.Rules.{rules}
 use mir.Syntax.{w32}
 use mir.Facts.{to_z_pos}
 use Rattle.text_numbers.proofs.decimals.plus.Goals as goal

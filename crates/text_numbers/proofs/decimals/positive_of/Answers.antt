@@ -1,5 +1,4 @@
 -- `decimals::positive_of` meets its contract: each arm says which variant it is in. Assumes nothing.
-use borrow.Author.Rules.{rules}
 use mathlib.Core.Path.{sym, ap, ◌∙◌}
 use mir.Syntax.{w32}
 use mir.Facts.{to_z-of_z}
@@ -13,12 +12,9 @@ unfolding positive
 returns-in_default c = sym (ap positive c.in_default.is)
 
 pub returns-then-k-ge2147483648 : goal.returns-then-k-ge2147483648
-returns-then-k-ge2147483648 c =
-    let k = c.n-1.given in
-    sym (ap positive k.1 ∙ positive-bad k.0.0 c.if-k-ge2147483648.true)
+returns-then-k-ge2147483648 c = sym (ap positive c.in-Is.is ∙ positive-bad c.in-Is.k c.if-k-ge2147483648.true)
 
 pub returns : goal.returns
 returns c =
-    let k = c.n-1.given in
-    ap Is (to_z-of_z {w = w32} record { sfits = c.plus.type-inv } ∙ c.plus.ensures)
-    ∙ sym (ap positive k.1 ∙ positive_is k.0.0 c.if-k-ge2147483648.false)
+    ap Is (to_z-of_z {w = w32} record { sfits = c.plus.type_inv } ∙ c.plus.ensures)
+    ∙ sym (ap positive c.in-Is.is ∙ positive_is c.in-Is.k c.if-k-ge2147483648.false)

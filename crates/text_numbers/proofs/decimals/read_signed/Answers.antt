@@ -1,6 +1,5 @@
 -- `decimals::read_signed` meets its contract: the tests are those of `signed`. Assumes nothing.
 use Prim.Native.Nat.{◌-◌}
-use borrow.Author.Rules.{rules}
 use native.Mathlib.Omega.{arith}
 use mathlib.Core.Path.{sym, ap, ◌∙◌}
 use lib.ListN.{length, drop, length-drop}

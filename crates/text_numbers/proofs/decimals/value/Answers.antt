@@ -1,9 +1,8 @@
 -- `decimals::value` meets its contract: what is left, after n, spells what the whole spells. Assumes nothing.
-use Prim.Native.Nat.{◌+◌, ◌*◌, ◌-◌, ◌≤◌, ◌<◌}
-use borrow.Author.Rules.{rules}
+use Prim.Native.Nat.{◌+◌, ◌*◌, ◌<◌}
 use native.Mathlib.Omega.{arith}
-use mathlib.Core.Path.{◌≡◌, refl, sym, ◌∙◌}
-use lib.ListN.{length, drop, get_or}
+use mathlib.Core.Path.{refl, sym, ◌∙◌}
+use lib.ListN.{drop, get_or}
 use Rattle.text_numbers.specs.Digit.{digit_of, spelt}
 use Rattle.text_numbers.proofs.DigitLaws.{spelt_here, spelt-end}
 use Rattle.text_numbers.proofs.DecimalLaws.{up_to_is_lem, up_to-bad, spelt_least}

@@ -1,11 +1,6 @@
 -- `digits::are_digits` meets its contract: those before and the rest say what the whole says. Assumes nothing.
-use Prim.Native.Nat.{◌-◌}
-use mathlib.Core.Path.{◌≡◌, refl, sym, ◌∙◌}
-use mathlib.Core.Bool.{◌&&◌}
-use lib.ListN.{length, drop}
-use borrow.Author.Rules.{rules}
+use mathlib.Core.Path.{refl, sym, ◌∙◌}
 use native.Mathlib.Omega.{arith}
-use Rattle.text_numbers.specs.Digit.{digits}
 use Rattle.text_numbers.proofs.DigitLaws.{digits_with, digits-end, and-true}
 use Rattle.text_numbers.proofs.digits.are_digits.Goals as goal
 

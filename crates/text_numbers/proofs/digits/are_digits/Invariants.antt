@@ -1,11 +1,8 @@
 use Prim.Native.Nat.{◌-◌}
-use mathlib.Core.Path.{◌≡◌, refl, sym, ◌∙◌}
+use mathlib.Core.Path.{◌≡◌}
 use mathlib.Core.Bool.{◌&&◌}
 use lib.ListN.{length, drop}
-use borrow.Author.Rules.{rules}
-use native.Mathlib.Omega.{arith}
 use Rattle.text_numbers.specs.Digit.{digits}
-use Rattle.text_numbers.proofs.DigitLaws.{digits_with, digits-end, and-true}
 use Rattle.text_numbers.proofs.digits.are_digits.Given as goal
 
 abbrev pub invariant-loop-i : goal.invariant-loop-i

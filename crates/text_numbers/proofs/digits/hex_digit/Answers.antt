@@ -1,6 +1,4 @@
 -- `digits::hex_digit` meets its contract. Assumes nothing.
-use borrow.Author.Rules.{rules}
-use native.Mathlib.Omega.{arith}
 use Rattle.text_numbers.proofs.DigitLaws.{digit_known}
 use Rattle.text_numbers.proofs.digits.hex_digit.Goals as goal
 

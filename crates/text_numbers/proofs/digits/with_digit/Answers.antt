@@ -1,7 +1,5 @@
 -- `digits::with_digit` meets its contract, by whether x is a digit. Assumes nothing.
-use borrow.Author.Rules.{rules}
 use borrow.Author.Tests.{le-ltb, lt-ltb}
-use native.Mathlib.Omega.{arith}
 use Rattle.text_numbers.proofs.digits.with_digit.Goals as goal
 
 pub returns-then-base-digit : goal.returns-then-base-digit

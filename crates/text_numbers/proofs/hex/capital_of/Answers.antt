@@ -1,5 +1,4 @@
 -- `hex::capital_of` meets its contract. Assumes nothing.
-use borrow.Author.Rules.{rules}
 use Rattle.text_numbers.specs.Hex.{capital}
 use Rattle.byte_parts.proofs.Tests.{tests}
 use Rattle.text_numbers.proofs.hex.capital_of.Goals as goal

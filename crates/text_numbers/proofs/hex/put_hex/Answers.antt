@@ -1,9 +1,7 @@
 -- `hex::put_hex` meets its contract: after i turns the digits of i bytes are put. Assumes nothing.
-use Prim.Native.Nat.{◌+◌, ◌*◌, ◌-◌, ◌≤◌}
+use Prim.Native.Nat.{◌+◌, ◌*◌}
 use native.Mathlib.Omega.{arith}
 use mathlib.Core.Path.{◌≡◌, refl, sym, ◌∙◌}
-use lib.ListN.{length}
-use Rattle.byte_parts.specs.Part.{put}
 use Rattle.byte_parts.proofs.Part.{put_zero}
 use Rattle.text_numbers.specs.Hex.{to_hex}
 use Rattle.text_numbers.proofs.HexLaws.{length-to_hex, to_hex_at}
@@ -25,12 +23,7 @@ loop-i-preserved c =
     let k : (i + 1) * 2 ≡ i * 2 + 2 = omega arith in (
       omega arith,
       omega arith,
-      p.ensures.1
+      p.ensures.out_after
           ∙ rw (c.loop-i.invariant.1, c.loop-i.invariant.2, k) (put_pair_lem a.out.now a.at (to_hex s) (i * 2) _ _ (omega arith) h.0 h.1),
-      p.auto.1.0 ∙ c.loop-i.invariant.3,
+      p.auto.out ∙ c.loop-i.invariant.3,
     )
-
-pub returns : goal.returns
-returns c =
-    let e : c.loop-i.i ≡ length c.args.s.now = omega arith in
-    (rw e at c.loop-i.invariant.1, rw e at c.loop-i.invariant.2)

@@ -1,12 +1,8 @@
 use Prim.Native.Nat.{◌+◌, ◌*◌, ◌-◌, ◌≤◌}
-use native.Mathlib.Omega.{arith}
-use mathlib.Core.Path.{◌≡◌, refl, sym, ◌∙◌}
+use mathlib.Core.Path.{◌≡◌}
 use lib.ListN.{length}
 use Rattle.byte_parts.specs.Part.{put}
-use Rattle.byte_parts.proofs.Part.{put_zero}
 use Rattle.text_numbers.specs.Hex.{to_hex}
-use Rattle.text_numbers.proofs.HexLaws.{length-to_hex, to_hex_at}
-use Rattle.byte_parts.proofs.Put.{put_pair_lem}
 use Rattle.text_numbers.proofs.hex.put_hex.Given as goal
 
 abbrev pub invariant-loop-i : goal.invariant-loop-i

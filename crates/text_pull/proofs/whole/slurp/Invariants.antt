@@ -1,14 +1,10 @@
-use Prim.Native.Nat.{◌-◌, ◌<◌}
-use native.Mathlib.Omega.{arith}
-use mathlib.Core.Path.{◌≡◌, refl, sym, ◌∙◌}
-use lib.ListN.{length, take, drop, length-take, length-drop}
-use borrow.Author.Rules.{rules}
-use borrow.Rule.Slice.PartMut.{same_len_mid}
-use Rattle.text_pull.proofs.Slurps.{Slurping, slurp_start, slurp_more, lacking, slurped}
+use mathlib.Core.Path.{◌≡◌}
+use lib.ListN.{length}
+use Rattle.text_pull.proofs.Slurps.{Slurping}
 use Rattle.text_pull.proofs.whole.slurp.Given as goal
 
 abbrev pub invariant-loop-from : goal.invariant-loop-from
-invariant-loop-from l = Slurping (length buffer) flow × (length buffer ≡ length buffer₀)
+invariant-loop-from g l = Slurping (length l.buffer) l.flow × (length l.buffer ≡ length l.initial.buffer)
 
 abbrev pub decreases-loop-from : goal.decreases-loop-from
-decreases-loop-from l = flow.turns
+decreases-loop-from g l = l.flow.turns

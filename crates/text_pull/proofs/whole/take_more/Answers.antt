@@ -1,6 +1,5 @@
 -- `text_pull::whole::take_more` meets its contract: what was counted came. Assumes nothing.
 use mir.Facts.{to_z-of_z}
-use borrow.Author.Rules.{rules}
 use Rattle.text_pull.specs.Pull.{more_of}
 use Rattle.text_pull.proofs.whole.take_more.Goals as goal
 

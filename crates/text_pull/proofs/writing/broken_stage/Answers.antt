@@ -1,7 +1,6 @@
 -- `text_pull::writing::broken_stage` meets its contract, by whether the call was interrupted. Assumes nothing.
 use mathlib.Core.Path.{sym, ◌∙◌}
 use mir.Facts.{to_z-of_z}
-use borrow.Author.Rules.{rules}
 use Rattle.text_pull.specs.Pull.{broken_stage}
 use Rattle.text_pull.proofs.writing.broken_stage.Goals as goal
 

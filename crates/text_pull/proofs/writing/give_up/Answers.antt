@@ -1,6 +1,5 @@
 -- `text_pull::writing::give_up` meets its contract, by whether bytes wait. Assumes nothing.
 use native.Mathlib.Omega.{arith}
-use borrow.Author.Rules.{rules}
 use borrow.Author.Tests.{lt-ltb, le-ltb}
 use Rattle.text_pull.specs.Pull.{gave_up}
 use Rattle.text_pull.proofs.writing.give_up.Goals as goal

@@ -1,6 +1,5 @@
 -- `text_pull::writing::is_due` meets its contract, test by test. Assumes nothing.
 use native.Mathlib.Omega.{arith}
-use borrow.Author.Rules.{rules}
 use borrow.Author.Tests.{lt-ltb, le-ltb}
 use Rattle.text_pull.specs.Pull.{due_of}
 use Rattle.text_pull.proofs.writing.is_due.Goals as goal

@@ -1,7 +1,6 @@
 -- `text_pull::writing::is_left` meets its contract, test by test. Assumes nothing.
 use native.Mathlib.Omega.{arith}
 use mathlib.Core.Path.{sym, ◌∙◌}
-use borrow.Author.Rules.{rules}
 use borrow.Author.Tests.{lt-ltb, le-ltb}
 use Rattle.text_pull.specs.Pull.{left_of}
 use Rattle.text_pull.proofs.writing.is_left.Goals as goal

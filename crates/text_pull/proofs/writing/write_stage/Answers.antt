@@ -1,7 +1,6 @@
 -- `text_pull::writing::write_stage` meets its contract: the tests that led to a return pick the stage. Assumes nothing.
 use mathlib.Core.Path.{◌∙◌}
 use mir.Facts.{to_z-of_z}
-use borrow.Author.Rules.{rules}
 use Rattle.text_pull.proofs.Stages.{write_took, write-error, write-none}
 use Rattle.text_pull.proofs.writing.write_stage.Goals as goal
 
@@ -13,7 +12,7 @@ returns-then-got-gt0 c =
 pub returns-then-got-lt0 : goal.returns-then-got-lt0
 returns-then-got-lt0 c =
     let z = to_z-of_z c.ranges.got in
-    rw (to_z-of_z c.ranges.errno) at c.broken_stage_lem.ensures
+    rw (to_z-of_z c.ranges.errno) at c.broken_stage.ensures
     ∙ write-error c.args.stage c.args.got c.args.errno (rw z at c.if-got-gt0.false) (rw z at c.if-got-lt0.true)
 
 pub returns : goal.returns

@@ -1,6 +1,5 @@
 -- `text_pull::writing::wrote` meets its contract: what was counted is written. Assumes nothing.
 use mir.Facts.{to_z-of_z}
-use borrow.Author.Rules.{rules}
 use Rattle.text_pull.specs.Pull.{put_of}
 use Rattle.text_pull.proofs.writing.wrote.Goals as goal
 

@@ -1,9 +1,5 @@
 -- The code asks in the definition's order; an accepted service finds its blocks free, and its depth fits.
-use mathlib.Core.Path.{◌≡◌, refl, sym, ◌∙◌}
-use native.Mathlib.Omega.{arith}
-use lib.Dec.{leb}
-use lib.ListN.{length}
-use borrow.Author.Rules.{rules}
+use Rattle.std.proofs.Common.{◌≡◌, refl, sym, ◌∙◌, leb, length, arith}
 use Rattle.card_admit.specs.declared.Placed.{Placed}
 use Rattle.card_admit.specs.Admit.{placed_of, agreed}
 use Rattle.card_admit.proofs.Counts.{agreed-stored}
@@ -12,63 +8,83 @@ use Rattle.card_build.specs.Grow.{ahead_of_service}
 use Rattle.card_build.proofs.Accepted.{Fits, service-accepted}
 use Rattle.card_build.proofs.Answers.{grew, Clear, service-clear, service-ahead, service-refused, service-stored, arena-after, arena-kept}
 use Rattle.card_build.proofs.card.Card.add_service.Goals as goal
+use Rattle.card_build.proofs.card.Card.add_service.Goals.{After-ahead, After-place_service, In-Store}
 
 -- what is ahead, of the card and the arena
-told : (c : goal.After-ahead) →
+told : (c : After-ahead) →
     let a = c.args in
     c.ahead.result ≡ ahead_of_service (is_sound a.self) (is_short (length a.arena.now) a.self.used) (leb 64 a.self.count)
 told c = c.ahead.ensures ∙ rw (c.is_sound.ensures, c.is_full.ensures)
 
 -- once nothing is, the arena holds the blocks in use, and a record is free
-clear : (c : goal.After-place-service) →
-    let a = c.before.before.before.before.before.before.before.before.args in
-    Clear (length a.arena.now) a.self.used a.self.count
+clear : (c : After-place_service) → Clear (length c.args.arena.now) c.args.self.used c.args.self.count
 clear c =
-    let d = c.before.before in
-    let a = c.before.before.before.before.before.before.before.before.args in
-    service-clear a.self (length a.arena.now) a.depth a.code a.blocks a.version (told d.before.before) d.enum_told.given.1
+    let a = c.args in
+    let t = c.ahead.ensures ∙ rw (c.is_sound.ensures, c.is_full.ensures) in
+    service-clear a.self (length a.arena.now) a.depth a.code a.blocks a.version t c.in_default.is
 
 -- where the service was placed
-placed : (c : goal.After-place-service) {p : Placed} → c.place-service.result ≡ p →
-    let a = c.before.before.before.before.before.before.before.before.args in
+placed : (c : After-place_service) {p : Placed} → c.place_service.result ≡ p →
+    let a = c.args in
     agreed a.self.system.join a.blocks (placed_of (nodes_of a.self) a.self.used (length a.arena.now) a.depth a.code a.blocks) ≡ p
-placed c e = sym c.place-service.ensures ∙ e
+placed c e = sym c.place_service.ensures ∙ e
 
 -- its blocks are free, and the depth fits
-fits : (c : goal.In-Store-2) →
-    let a = c.args in
-    Fits a.depth a.self.used (length a.arena.now) c.in-Store.after
-fits c =
+fits : (c : In-Store) → Clear (length c.args.arena.now) c.args.self.used c.args.self.count →
+    Fits c.args.depth c.args.self.used (length c.args.arena.now) c.in-Store.after
+fits c clear =
     let a = c.args in
     let e =
     agreed-stored a.self.system.join a.blocks
-    (placed_of (nodes_of a.self) a.self.used (length a.arena.now) a.depth a.code a.blocks) (placed c c.in-Store.is) in
-    service-accepted _ _ _ _ _ _ e (clear c).long
+    (placed_of (nodes_of a.self) a.self.used (length a.arena.now) a.depth a.code a.blocks) (sym c.place_service.ensures ∙ c.in-Store.is) in
+    service-accepted _ _ _ _ _ _ e clear.long
 
-pub returns-in-Refused : goal.returns-in-Refused
-returns-in-Refused c =
-    let e = service-ahead _ _ _ _ _ _ (told c.before) c.in-Refused.is in
-    (c.refuse.ensures ∙ e, arena-kept _ _ e refl)
+pub returns-in-Refused-clause-value : goal.returns-in-Refused-clause-value
+returns-in-Refused-clause-value c =
+    c.refuse.ensures ∙ service-ahead _ _ _ _ _ _ (told (goal.at.returns-in-Refused-clause-value c).After-ahead) c.in-Refused.is
 
-pub returns-in-Refused-place_service : goal.returns-in-Refused-place_service
-returns-in-Refused-place_service c =
-    let e = service-refused _ _ _ _ _ _ (told c.before) c.in_default.is (placed c c.in-Refused-place_service.is) in
-    (c.refuse-in-Refused-place_service.ensures ∙ e, arena-kept _ _ e refl)
-
-pub returns-in-Store : goal.returns-in-Store
-returns-in-Store c =
-    let a = c.args in
-    let e = service-stored _ _ _ _ _ _ (told c.before) c.in_default.is (placed c c.in-Store.is) in
-    (grew a.self _ _ c.grow.ensures c.next_record.ensures ∙ e, c.zero_blocks.ensures ∙ arena-after _ _ e)
+pub returns-in-Refused-clause-arena_after : goal.returns-in-Refused-clause-arena_after
+returns-in-Refused-clause-arena_after c =
+    arena-kept _ _ (service-ahead _ _ _ _ _ _ (told (goal.at.returns-in-Refused-clause-arena_after c).After-ahead) c.in-Refused.is) refl
 
 pub zero_blocks-requires : goal.zero_blocks-requires
-zero_blocks-requires c = ((fits c.before).grows, (fits c.before).within)
+zero_blocks-requires c =
+    let at = goal.at.zero_blocks-requires c in
+    let f = fits at.In-Store (clear at.After-place_service) in
+    (f.grows, omega arith)
 
 pub overflow_cast-depth : goal.overflow_cast-depth
-overflow_cast-depth c = omega (arith, fits c.before)
+overflow_cast-depth c =
+    let at = goal.at.overflow_cast-depth c in
+    let f = fits at.In-Store (clear at.After-place_service) in
+    omega arith
 
 pub next_record-requires : goal.next_record-requires
-next_record-requires c = (clear c.before).free
+next_record-requires c = (clear (goal.at.next_record-requires c).After-place_service).free
 
 pub grow-requires : goal.grow-requires
-grow-requires c = (clear c.before).free
+grow-requires c = (clear (goal.at.grow-requires c).After-place_service).free
+
+pub returns-in-Refused-place_service-clause-value : goal.returns-in-Refused-place_service-clause-value
+returns-in-Refused-place_service-clause-value c =
+    let at = goal.at.returns-in-Refused-place_service-clause-value c in
+    c.refuse-in-Refused-place_service.ensures
+    ∙ service-refused _ _ _ _ _ _ (told at.After-ahead) c.in_default.is (placed at.After-place_service c.in-Refused-place_service.is)
+
+pub returns-in-Refused-place_service-clause-arena_after : goal.returns-in-Refused-place_service-clause-arena_after
+returns-in-Refused-place_service-clause-arena_after c =
+    let at = goal.at.returns-in-Refused-place_service-clause-arena_after c in
+    arena-kept _ _
+    (service-refused _ _ _ _ _ _ (told at.After-ahead) c.in_default.is (placed at.After-place_service c.in-Refused-place_service.is)) refl
+
+pub returns-in-Store-clause-value : goal.returns-in-Store-clause-value
+returns-in-Store-clause-value c =
+    let at = goal.at.returns-in-Store-clause-value c in
+    grew c.args.self _ _ c.grow.ensures c.next_record.ensures
+    ∙ service-stored _ _ _ _ _ _ (told at.After-ahead) c.in_default.is (placed at.After-place_service c.in-Store.is)
+
+pub returns-in-Store-clause-arena_after : goal.returns-in-Store-clause-arena_after
+returns-in-Store-clause-arena_after c =
+    let at = goal.at.returns-in-Store-clause-arena_after c in
+    c.zero_blocks.ensures
+    ∙ arena-after _ _ (service-stored _ _ _ _ _ _ (told at.After-ahead) c.in_default.is (placed at.After-place_service c.in-Store.is))

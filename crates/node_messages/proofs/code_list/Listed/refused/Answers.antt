@@ -1,9 +1,7 @@
 -- The empty list, and why.
 use mathlib.Core.Path.{ap}
-use borrow.Author.Rules.{rules}
 use Rattle.answers.specs.declared.refusal.Answer.TheVariants.{Refused}
 use Rattle.node_messages.specs.declared.code_list.CodeList.{CodeList}
-use Rattle.node_messages.specs.declared.code_list.Listed.{Listed}
 use Rattle.node_messages.proofs.code_list.Listed.refused.Goals as goal
 
 pub returns : goal.returns

@@ -1,8 +1,0 @@
--- The reply on the card that the bytes encode.
-use borrow.Author.Rules.{rules}
-use Rattle.handset.proofs.requests.uluvoli_write.Goals as goal
-
-pub returns : goal.returns
-returns c =
-    let e = c.write.ensures in
-    rw (← c.decode-own.ensures) (rw (← e.0) c.replied.ensures, (e.1.0, rw (← e.0) e.1.1))

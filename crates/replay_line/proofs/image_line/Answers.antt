@@ -1,0 +1,17 @@
+-- `replay_line::image_line` meets its contract: the line is accepted, or refused. Assumes nothing.
+use borrow.Author.Rules.{rules}
+use Rattle.line_build.specs.Image.{image_step}
+use Rattle.replay_line.proofs.Takes.{image-done, image-refused}
+use Rattle.replay_line.proofs.image_line.Goals as goal
+
+pub returns-in-Done : goal.returns-in-Done
+returns-in-Done c =
+    let a = c.args in
+    image-done a.replay (image_step a.first a.replay.card a.arena.now a.line.now)
+    c.image_line-added.ensures.value c.image_line-added.ensures.arena_after c.one_more-lines.ensures c.in-Done.is a.out.now a.at
+
+pub returns-in-Refused : goal.returns-in-Refused
+returns-in-Refused c =
+    let a = c.args in
+    image-refused a.replay (image_step a.first a.replay.card a.arena.now a.line.now)
+    c.image_line-added.ensures.value c.image_line-added.ensures.arena_after c.one_more-lines.ensures c.in-Refused.is c.put_refusal.ensures

@@ -1,0 +1,26 @@
+-- `replay_line::take` meets its contract, by what the line is taken for. Assumes nothing.
+use borrow.Author.Rules.{rules}
+use native.Mathlib.Omega.{arith}
+use Rattle.replay_line.specs.Replay.{held}
+use Rattle.replay_line.proofs.Takes.{image-taken, request-taken, board-taken, nothing_taken}
+use Rattle.replay_line.proofs.take.Goals as goal
+
+pub returns-in-Image : goal.returns-in-Image
+returns-in-Image c =
+    let a = c.args in
+    image-taken (held a.replay a.arena.now) a.line.now a.work.now a.bytes.now c.in-Image.is c.image_line.ensures
+
+pub returns-in-Request : goal.returns-in-Request
+returns-in-Request c =
+    let a = c.args in
+    request-taken (held a.replay a.arena.now) a.line.now a.work.now a.bytes.now c.in-Request.is c.request_line.ensures
+
+pub returns-in-Board : goal.returns-in-Board
+returns-in-Board c =
+    let a = c.args in
+    board-taken (held a.replay a.arena.now) a.line.now a.work.now a.bytes.now c.in-Board.is c.refresh_line.ensures
+
+pub returns-in-Nothing : goal.returns-in-Nothing
+returns-in-Nothing c =
+    let a = c.args in
+    nothing_taken (held a.replay a.arena.now) a.line.now a.work.now a.bytes.now a.out.now a.at c.in-Nothing.is

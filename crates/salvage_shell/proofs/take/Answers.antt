@@ -1,0 +1,39 @@
+-- `salvage_shell::take` meets its contract: image and report stand in their buffers, or the text is refused. Assumes nothing.
+use native.Mathlib.Omega.{arith}
+use mathlib.Core.Path.{sym, ◌∙◌}
+use borrow.Author.Rules.{rules}
+use Rattle.salvage_shell.specs.Ran.{salvage_prints}
+use Rattle.salvage_shell.proofs.Ends.{prints_none, take-refused, take_done}
+use Rattle.salvage_shell.proofs.Runs.{none-wrote}
+use Rattle.salvage_shell.proofs.take.Goals as goal
+
+pub refuse-requires : goal.refuse-requires
+refuse-requires c =
+    let a = c.args in
+    let p = c.requires.text_len_bound in
+    take-refused a.text.now a.out.now a.words.now p.0 p.1 p.2 _ (sym c.in-Refused.is ∙ c.salvage.ensures.value)
+
+pub show-requires : goal.show-requires
+show-requires c =
+    let a = c.args in
+    let p = c.requires.text_len_bound in
+    let e = c.salvage.ensures in
+    let k = c.salvage.auto.1 in
+    let o = c.salvage.new.1.0 in
+    let w = c.salvage.new.1.1.0 in
+    let d = take_done a.text.now a.out.now a.words.now p.0 p.1 p.2 _ _ o w (sym c.in-Done.is ∙ e.0) e.1.0 e.1.1 in (
+      c.requires.flow_value,
+      (
+        (omega (arith, d.first, k.0), omega (arith, p.1, k.0), omega (arith, d.second, k.1.0)),
+        (d.image, d.report),
+      ),
+    )
+
+pub returns-in-Refused : goal.returns-in-Refused
+returns-in-Refused c =
+    let a = c.args in
+    let p = c.requires.text_len_bound in
+    let t = a.text.now in
+    let q = sym c.in-Refused.is ∙ c.salvage.ensures.value in
+    let e = take-refused t a.out.now a.words.now p.0 p.1 p.2 _ q in
+    none-wrote a.flow c.closed.result (salvage_prints t) (prints_none t e) c.closed.ensures

@@ -1,0 +1,10 @@
+-- `shell::whole` meets its contract: the arena that it lends is zero. Assumes nothing.
+use mathlib.Core.Path.{refl}
+use borrow.Author.Rules.{rules}
+use Rattle.shell.proofs.whole.Goals as goal
+
+pub lend-requires : goal.lend-requires
+lend-requires c = (refl, search rules)
+
+pub returns : goal.returns
+returns c = c.lend.ensures
