@@ -13,8 +13,8 @@ use Rattle.node_messages.specs.Information.{is_information, read_information}
 use Rattle.inspect_fields.specs.Attribute.{attribute_fields}
 use Rattle.inspect_fields.specs.Fields.{refusal_told, read_list_fields, read_info_fields}
 
--- `1 random read-write key` and `free`, `1 random read_only_lem free`, `1 cyclic read-write key`, `1 cyclic read_only_lem free`, `1 purse direct key`,
--- `cashback`, `decrement` and `read_only_lem free`; and `1 - - -`, where the attribute is undefined.
+-- `1 random read-write key` and `free`, `1 random read-only free`, `1 cyclic read-write key`, `1 cyclic read-only free`, `1 purse direct key`,
+-- `cashback`, `decrement` and `read-only free`; and `1 - - -`, where the attribute is undefined.
 pub attribute_rows
     : (attribute_fields 0x0048 ≡ 49 ∷ 9 ∷ 114 ∷ 97 ∷ 110 ∷ 100 ∷ 111 ∷ 109 ∷ 9 ∷ 114 ∷ 101 ∷ 97 ∷ 100 ∷ 45 ∷ 119 ∷ 114 ∷ 105 ∷ 116 ∷ 101 ∷ 9 ∷ 107 ∷ 101 ∷ 121 ∷ 10 ∷ [])
     × (attribute_fields 0x0049 ≡ 49 ∷ 9 ∷ 114 ∷ 97 ∷ 110 ∷ 100 ∷ 111 ∷ 109 ∷ 9 ∷ 114 ∷ 101 ∷ 97 ∷ 100 ∷ 45 ∷ 119 ∷ 114 ∷ 105 ∷ 116 ∷ 101 ∷ 9 ∷ 102 ∷ 114 ∷ 101 ∷ 101 ∷ 10 ∷ [])

@@ -17,7 +17,7 @@ kind_text Random = r ∷ a ∷ n ∷ d ∷ o ∷ m ∷ []
 kind_text Cyclic = c ∷ y ∷ c ∷ l ∷ i ∷ c ∷ []
 kind_text Purse = p ∷ u ∷ r ∷ s ∷ e ∷ []
 
--- `read-write`, `read_only_lem`; of purses `direct`, `cashback`, `decrement`, `read_only_lem`
+-- `read-write`, `read-only`; of purses `direct`, `cashback`, `decrement`, `read-only`
 abbrev pub read_write : List ℕ
 read_write = r ∷ e ∷ a ∷ d ∷ dash ∷ w ∷ r ∷ i ∷ t ∷ e ∷ []
 

@@ -7,7 +7,7 @@ pub put_word-requires : goal.put_word-requires
 put_word-requires c =
     rw c.field.ensures (omega (arith, c.requires.0, c.requires.1))
 
-pub returns : goal.returns
-returns c =
+pub returns-clause-written : goal.returns-clause-written
+returns-clause-written c =
     let e = c.field.ensures in
-    (rw e at c.put_word.ensures.written, omega (arith, rw e at c.put_word.ensures.upper_bound, c.requires.0))
+    (rw e at c.put_word.ensures.written)

@@ -23,15 +23,17 @@ question_line-requires c =
 pub returns-in-Replayed : goal.returns-in-Replayed
 unfolding line_seen line_said work_seen bytes_seen
 returns-in-Replayed c =
-    rw (found c.before c.in-Replayed.is) c.replayed_line.ensures
+    rw (found c.before c.in-Replayed.is) (record { arena_after = c.replayed_line.ensures.arena_after; written = c.replayed_line.ensures.written; work_after = c.replayed_line.ensures.work_after; bytes_after = c.replayed_line.ensures.bytes_after })
 
 pub returns-in-Asked : goal.returns-in-Asked
 unfolding line_seen line_said work_seen bytes_seen
 returns-in-Asked c =
-    rw (found c.before c.in-Asked.is) (c.question_line.ensures.arena_value, (c.question_line.ensures.written, (refl, refl)))
+    rw (found c.before c.in-Asked.is)
+    (let w = (c.question_line.ensures.arena_value, (c.question_line.ensures.written, (refl, refl))) in record { arena_after = w.0; written = w.1; work_after = w.2; bytes_after = w.3 })
 
 pub returns-in-Nothing : goal.returns-in-Nothing
 unfolding line_seen line_said work_seen bytes_seen
 returns-in-Nothing c =
     let a = c.args in
-    rw (found c c.in-Nothing.is) (refl, ((written_none a.out.now a.at, omega arith), (refl, refl)))
+    rw (found c c.in-Nothing.is)
+    (let w = (refl, ((written_none a.out.now a.at, omega arith), (refl, refl))) in record { arena_after = w.0; written = w.1; work_after = w.2; bytes_after = w.3 })

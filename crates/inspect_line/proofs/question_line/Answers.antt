@@ -6,7 +6,10 @@ use Rattle.inspect_line.proofs.question_line.Goals as goal
 pub returns : goal.returns
 returns c =
     let a = c.args in
-    let e = c.one_more-lines.ensures in (
-      question_seen_lem a.inspect a.question a.arena.now e c.numbered_to.ensures c.Room-after.ensures c.lent_after.ensures,
-      rw e at c.put_question-last.ensures,
-    )
+    let e = c.one_more-lines.ensures in
+    let w =
+        (
+          question_seen_lem a.inspect a.question a.arena.now e c.numbered_to.ensures c.Room-after.ensures c.lent_after.ensures,
+          rw e at c.put_question-last.ensures,
+        ) in
+    record { arena_value = w.0; written = w.1 }

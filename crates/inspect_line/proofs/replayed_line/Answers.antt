@@ -8,4 +8,6 @@ pub returns : goal.returns
 returns c =
     let a = c.args in
     let h = held_by a.kind (held a.inspect.replay a.arena.now) a.line.now in
-    (replayed_seen_lem a.inspect {h = h} c.take-taken.ensures.arena_after c.one_more-lines.ensures c.numbered_to.ensures, c.take-taken.ensures.written)
+    let w =
+        (replayed_seen_lem a.inspect {h = h} c.take-taken.ensures.arena_after c.one_more-lines.ensures c.numbered_to.ensures, c.take-taken.ensures.written) in
+    record { arena_after = w.0; written = w.1; work_after = w.2; bytes_after = w.3 }

@@ -19,7 +19,7 @@ returns-then-is_board c =
     rw (
       so c.is_image.ensures c.if-is_image.false,
       so c.is_request.ensures c.if-is_request.false,
-      so c.is_board_lem.ensures c.if-is_board.true,
+      so c.is_board.ensures c.if-is_board.true,
     )
 
 pub returns : goal.returns
@@ -28,6 +28,6 @@ returns c =
     rw (
       so c.is_image.ensures c.if-is_image.false,
       so c.is_request.ensures c.if-is_request.false,
-      so c.is_board_lem.ensures c.if-is_board.false,
+      so c.is_board.ensures c.if-is_board.false,
       c.question_of.ensures,
     )

@@ -12,12 +12,13 @@ pub put_caused-requires : goal.put_caused-requires
 put_caused-requires c = simp length-set (omega arith)
 
 pub shape_of-out : goal.shape_of-out
-shape_of-out c = omega (arith, simp length-set at c.put_caused.auto.1.0)
+shape_of-out c = omega (arith, simp length-set at c.put_caused.auto.out)
 
 pub returns : goal.returns
 returns c =
     let a = c.args in
-    let w = written_byte (answer_fields a.ordinal a.reply a.read.now) 9 c.put_fields-five.ensures.written in (
-      written-more (closed 9 (answer_fields a.ordinal a.reply a.read.now)) (closed 10 (cause_text (cause_in a.reply))) w c.put_caused.ensures.written,
-      omega (arith, c.put_fields-five.ensures.upper_bound, c.put_caused.ensures.upper_bound),
-    )
+    let w = written_byte (answer_fields a.ordinal a.reply a.read.now) 9 c.put_fields-five.ensures.written in
+    record {
+      written = written-more (closed 9 (answer_fields a.ordinal a.reply a.read.now)) (closed 10 (cause_text (cause_in a.reply))) w c.put_caused.ensures.written;
+      upper_bound = omega (arith, c.put_fields-five.ensures.upper_bound, c.put_caused.ensures.upper_bound);
+    }

@@ -6,8 +6,10 @@ use Rattle.line_answer.proofs.put_cause.Goals as goal
 
 pub returns-then-cause-eq0 : goal.returns-then-cause-eq0
 returns-then-cause-eq0 c =
-    rw (no_cause _ c.if-cause-eq0.true) c.put_mark.ensures
+    rw (no_cause _ c.if-cause-eq0.true)
+    (record { written = c.put_mark.ensures.written; upper_bound = c.put_mark.ensures.upper_bound })
 
 pub returns : goal.returns
 returns c =
-    rw (digit _ c.if-cause-eq0.false c.requires.0) c.put_mark-2.ensures
+    rw (digit _ c.if-cause-eq0.false c.requires.0)
+    (record { written = c.put_mark-2.ensures.written; upper_bound = c.put_mark-2.ensures.upper_bound })

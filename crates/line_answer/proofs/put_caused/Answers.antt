@@ -12,4 +12,5 @@ put_cause-requires c = (rw c.cause.ensures (omega (arith, most_cause c.args.repl
 pub returns : goal.returns
 returns c =
     let e : c.cause.result ≡ cause_in c.args.reply = c.cause.ensures in
-    rw (← e) c.put_cause.ensures
+    rw (← e)
+    (record { written = c.put_cause.ensures.written; upper_bound = c.put_cause.ensures.upper_bound })

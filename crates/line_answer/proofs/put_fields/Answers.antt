@@ -6,14 +6,10 @@ use Rattle.request_plan.specs.declared.Response.{Response}
 use Rattle.request_plan.specs.Request.{response_of}
 use Rattle.line_answer.proofs.put_fields.Goals as goal
 
--- what the request was found to be told
-told : (k : goal.After-response) {r : Response} → k.response.result ≡ r → response_of k.args.reply ≡ r
-told k e = sym k.response.ensures ∙ e
-
 pub returns-in-Refusal : goal.returns-in-Refusal
 returns-in-Refusal c =
-    rw (told c.before c.in-Refusal.is) (c.put_refusal.ensures.written, omega (arith, c.put_refusal.ensures.upper_bound))
+    rw (sym c.response.ensures ∙ c.in-Refusal.is) (record { written = c.put_refusal.ensures.written; upper_bound = omega (arith, c.put_refusal.ensures.upper_bound) })
 
 pub returns-in-Pair : goal.returns-in-Pair
 returns-in-Pair c =
-    rw (told c.before c.in-Pair.is) (c.put_status.ensures.written, omega (arith, c.put_status.ensures.upper_bound))
+    rw (sym c.response.ensures ∙ c.in-Pair.is) (record { written = c.put_status.ensures.written; upper_bound = omega (arith, c.put_status.ensures.upper_bound) })

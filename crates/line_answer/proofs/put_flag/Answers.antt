@@ -5,4 +5,4 @@ use Rattle.line_answer.proofs.put_flag.Goals as goal
 
 pub returns : goal.returns
 returns c =
-    (c.put_hex.ensures.written, omega (arith, c.put_hex.ensures.upper_bound))
+    (record { written = c.put_hex.ensures.written; upper_bound = omega (arith, c.put_hex.ensures.upper_bound) })

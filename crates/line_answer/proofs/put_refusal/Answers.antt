@@ -19,4 +19,4 @@ returns c =
     let w2 = written-more (closed 9 (dec_text a.ordinal)) (closed 9 (33 ∷ [])) c.put_number-a.ensures.written c.put_mark-b.ensures.written in
     let w3 = written-more _ (closed 9 (dec_text a.number)) w2 c.put_number-c.ensures.written in
     let w4 = written-more _ (closed 9 (45 ∷ [])) w3 c.put_mark-d.ensures.written in
-    (written_byte _ 45 w4, omega arith)
+    (record { written = written_byte _ 45 w4; upper_bound = omega arith })

@@ -12,12 +12,13 @@ pub put_end-requires : goal.put_end-requires
 put_end-requires c = simp length-set (omega arith)
 
 pub shape_of-out : goal.shape_of-out
-shape_of-out c = omega (arith, simp length-set at c.put_end.auto.0)
+shape_of-out c = omega (arith, simp length-set at c.put_end.auto.out)
 
 pub returns : goal.returns
 returns c =
     let a = c.args in
-    let w = written_byte (refusal_fields a.ordinal a.number) 9 c.put_refusal-tab.ensures.written in (
-      written-more (closed 9 (refusal_fields a.ordinal a.number)) (closed 10 (45 ∷ [])) w c.put_end.ensures.written,
-      omega (arith, c.put_refusal-tab.ensures.upper_bound, c.put_end.ensures.upper_bound),
-    )
+    let w = written_byte (refusal_fields a.ordinal a.number) 9 c.put_refusal-tab.ensures.written in
+    record {
+      written = written-more (closed 9 (refusal_fields a.ordinal a.number)) (closed 10 (45 ∷ [])) w c.put_end.ensures.written;
+      upper_bound = omega (arith, c.put_refusal-tab.ensures.upper_bound, c.put_end.ensures.upper_bound);
+    }

@@ -21,4 +21,4 @@ returns c =
     let w2 = written-more (closed 9 (dec_text a.ordinal)) (closed 9 (hex_text (a.flag1 ∷ []))) c.put_number-a.ensures.written c.put_flag-b.ensures.written in
     let w3 = written-more _ (closed 9 (hex_text (a.flag2 ∷ []))) w2 c.put_flag-c.ensures.written in
     let w4 = written-more _ (closed 9 (where_text a.flag1)) w3 c.put_where-d.ensures.written in
-    (written-more _ (hex_text a.read.now) w4 record { place = c.put_hex_field.ensures.value; bytes = c.put_hex_field.ensures.out_after }, omega (arith, hex_text-long a.read.now))
+    (record { written = written-more _ (hex_text a.read.now) w4 record { place = c.put_hex_field.ensures.value; bytes = c.put_hex_field.ensures.out_after }; upper_bound = omega (arith, hex_text-long a.read.now) })

@@ -12,7 +12,7 @@ read_codes-n-requires c = ((read_fields_lem _ c.requires.0).codes, c.requires.2)
 pub put_field-end-requires : goal.put_field-end-requires
 put_field-end-requires c =
     let f = read_fields_lem _ c.requires.0 in
-    (f.list, (list-room f c.requires.1, c.requires.2))
+    (f.list, list-room f c.requires.1, c.requires.2)
 
 pub slice_bounds-read-end-2 : goal.slice_bounds-read-end-2
 slice_bounds-read-end-2 c = omega (arith, list-room (read_fields_lem _ c.requires.0) c.requires.1)

@@ -8,10 +8,10 @@ pub ask_of-requires : goal.ask_of-requires
 ask_of-requires c = c.find_ends-ends.ensures
 
 pub read_asked-reply-requires : goal.read_asked-reply-requires
-read_asked-reply-requires c = (sym c.ask_of.ensures ∙ c.in-Read.is, (c.requires, c.find_ends-ends.ensures))
+read_asked-reply-requires c = (sym c.ask_of.ensures ∙ c.in-Read.is, c.requires, c.find_ends-ends.ensures)
 
 pub write_asked-reply-requires : goal.write_asked-reply-requires
-write_asked-reply-requires c = (sym c.ask_of.ensures ∙ c.in-Write.is, (c.requires, c.find_ends-ends.ensures))
+write_asked-reply-requires c = (sym c.ask_of.ensures ∙ c.in-Write.is, c.requires, c.find_ends-ends.ensures)
 
 pub returns-in-Malformed-clause-value : goal.returns-in-Malformed-clause-value
 returns-in-Malformed-clause-value c =

@@ -12,12 +12,12 @@ read_codes-n-requires c = ((write_fields_lem _ c.requires.0).0.codes, c.requires
 pub put_field-middle-requires : goal.put_field-middle-requires
 put_field-middle-requires c =
     let f = write_fields_lem _ c.requires.0 in
-    (f.0.list, (list-room f.0 c.requires.1, c.requires.2))
+    (f.0.list, list-room f.0 c.requires.1, c.requires.2)
 
 pub put_field-last-requires : goal.put_field-last-requires
 put_field-last-requires c =
     let f = write_fields_lem _ c.requires.0 in
-    (f.1, (omega (arith, data_room f.0 c.requires.1), c.requires.2))
+    (f.1, omega (arith, data_room f.0 c.requires.1), c.requires.2)
 
 pub slice_bounds-write-end-2 : goal.slice_bounds-write-end-2
 slice_bounds-write-end-2 c = omega (arith, data_room (write_fields_lem _ c.requires.0).0 c.requires.1)

@@ -6,8 +6,8 @@ use Rattle.replay_kind.proofs.request_kind.Goals as goal
 
 pub returns-then-is_board : goal.returns-then-is_board
 unfolding request_kind
-returns-then-is_board c = rw (sym c.is_board_lem.ensures ∙ c.if-is_board.true)
+returns-then-is_board c = rw (sym c.is_board.ensures ∙ c.if-is_board.true)
 
 pub returns-else-is_board : goal.returns-else-is_board
 unfolding request_kind
-returns-else-is_board c = rw (sym c.is_board_lem.ensures ∙ c.if-is_board.false)
+returns-else-is_board c = rw (sym c.is_board.ensures ∙ c.if-is_board.false)

@@ -7,11 +7,15 @@ use Rattle.replay_line.proofs.image_line.Goals as goal
 pub returns-in-Done : goal.returns-in-Done
 returns-in-Done c =
     let a = c.args in
-    image-done a.replay (image_step a.first a.replay.card a.arena.now a.line.now)
-    c.image_line-added.ensures.value c.image_line-added.ensures.arena_after c.one_more-lines.ensures c.in-Done.is a.out.now a.at
+    let w =
+        image-done a.replay (image_step a.first a.replay.card a.arena.now a.line.now)
+        c.image_line-added.ensures.value c.image_line-added.ensures.arena_after c.one_more-lines.ensures c.in-Done.is a.out.now a.at in
+    record { arena_after = w.0; written = w.1 }
 
 pub returns-in-Refused : goal.returns-in-Refused
 returns-in-Refused c =
     let a = c.args in
-    image-refused a.replay (image_step a.first a.replay.card a.arena.now a.line.now)
-    c.image_line-added.ensures.value c.image_line-added.ensures.arena_after c.one_more-lines.ensures c.in-Refused.is c.put_refusal.ensures
+    let w =
+        image-refused a.replay (image_step a.first a.replay.card a.arena.now a.line.now)
+        c.image_line-added.ensures.value c.image_line-added.ensures.arena_after c.one_more-lines.ensures c.in-Refused.is c.put_refusal.ensures in
+    record { arena_after = w.0; written = w.1 }

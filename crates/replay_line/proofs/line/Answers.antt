@@ -6,4 +6,6 @@ use Rattle.replay_line.proofs.line.Goals as goal
 pub returns : goal.returns
 unfolding line_held line_text work_held bytes_held
 returns c =
-    rw c.kind_of-kind.ensures at c.take.ensures
+    let w =
+        rw c.kind_of-kind.ensures at c.take.ensures in
+    record { arena_after = w.0; written = w.1; work_after = w.2; bytes_after = w.3 }

@@ -9,4 +9,4 @@ pub returns : goal.returns
 returns c =
     let a = c.args in
     let e = c.one_more-ordinal.ensures in
-    (board-held a.replay a.arena.now e, (rw e at c.board_line-last.ensures.written, omega (arith, c.board_line-last.ensures.upper_bound)))
+    (record { arena_value = board-held a.replay a.arena.now e; written = (rw e at c.board_line-last.ensures.written, omega (arith, c.board_line-last.ensures.upper_bound)) })

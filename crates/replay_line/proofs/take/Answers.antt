@@ -8,19 +8,27 @@ use Rattle.replay_line.proofs.take.Goals as goal
 pub returns-in-Image : goal.returns-in-Image
 returns-in-Image c =
     let a = c.args in
-    image-taken (held a.replay a.arena.now) a.line.now a.work.now a.bytes.now c.in-Image.is c.image_line.ensures
+    let w =
+        image-taken (held a.replay a.arena.now) a.line.now a.work.now a.bytes.now c.in-Image.is c.image_line.ensures in
+    record { arena_after = w.0; written = w.1; work_after = w.2; bytes_after = w.3 }
 
 pub returns-in-Request : goal.returns-in-Request
 returns-in-Request c =
     let a = c.args in
-    request-taken (held a.replay a.arena.now) a.line.now a.work.now a.bytes.now c.in-Request.is c.request_line.ensures
+    let w =
+        request-taken (held a.replay a.arena.now) a.line.now a.work.now a.bytes.now c.in-Request.is c.request_line.ensures in
+    record { arena_after = w.0; written = w.1; work_after = w.2; bytes_after = w.3 }
 
 pub returns-in-Board : goal.returns-in-Board
 returns-in-Board c =
     let a = c.args in
-    board-taken (held a.replay a.arena.now) a.line.now a.work.now a.bytes.now c.in-Board.is c.refresh_line.ensures
+    let w =
+        board-taken (held a.replay a.arena.now) a.line.now a.work.now a.bytes.now c.in-Board.is c.refresh_line.ensures in
+    record { arena_after = w.0; written = w.1; work_after = w.2; bytes_after = w.3 }
 
 pub returns-in-Nothing : goal.returns-in-Nothing
 returns-in-Nothing c =
     let a = c.args in
-    nothing_taken (held a.replay a.arena.now) a.line.now a.work.now a.bytes.now a.out.now a.at c.in-Nothing.is
+    let w =
+        nothing_taken (held a.replay a.arena.now) a.line.now a.work.now a.bytes.now a.out.now a.at c.in-Nothing.is in
+    record { arena_after = w.0; written = w.1; work_after = w.2; bytes_after = w.3 }

@@ -13,9 +13,10 @@ closed-requires c =
 
 pub returns-then-is_end : goal.returns-then-is_end
 returns-then-is_end c =
-    let o = rw c.made-made.ensures at c.finish-last.ensures in
+    let o = rw c.made-made.ensures at c.finish-last.ensures.written in
+    let b = rw c.made-made.ensures at c.finish-last.ensures.upper_bound in
     let n = ap (λ (r : Flow). r.made) c.closed.ensures in
-    (rest_end (finish_text c.args.replay.phase) (sym c.is_end.ensures ∙ c.if-is_end.true) o.0 c.closed.ensures, omega (arith, n, o.1))
+    (record { rested = rest_end (finish_text c.args.replay.phase) (sym c.is_end.ensures ∙ c.if-is_end.true) o c.closed.ensures; made_bound = omega (arith, n, b) })
 
 pub returns : goal.returns
-returns c = (rest-none (finish_text c.args.replay.phase) (sym c.is_end.ensures ∙ c.if-is_end.false), omega arith)
+returns c = (record { rested = rest-none (finish_text c.args.replay.phase) (sym c.is_end.ensures ∙ c.if-is_end.false); made_bound = omega arith })

@@ -16,4 +16,4 @@ returns c =
     let number = c.number.ensures in
     let w2 = written-more (closed 9 (105 ∷ 109 ∷ 97 ∷ 103 ∷ 101 ∷ [])) (closed 9 (dec_text a.line)) c.put_word-next.ensures.written c.put_number-last.ensures.written in
     let w3 = written-more _ (closed 10 (dec_text (refusal_number a.refusal))) w2 (rw number at c.put_number.ensures.written) in
-    (w3, omega (arith, c.put_word-next.ensures.upper_bound, c.put_number-last.ensures.upper_bound, c.put_number.ensures.upper_bound))
+    (record { written = w3; upper_bound = omega (arith, c.put_word-next.ensures.upper_bound, c.put_number-last.ensures.upper_bound, c.put_number.ensures.upper_bound) })

@@ -7,19 +7,19 @@ use Rattle.request_rules.proofs.element_by.Goals as goal
 
 pub returns-in-RandomReadWrite : goal.returns-in-RandomReadWrite
 unfolding element_by
-returns-in-RandomReadWrite c = rw c.in-RandomReadWrite.is (refl, c.copy_block.ensures)
+returns-in-RandomReadWrite c = rw c.in-RandomReadWrite.is (record { value = refl; store_after = c.copy_block.ensures })
 
 pub returns-in-RandomReadOnly : goal.returns-in-RandomReadOnly
 unfolding element_by
-returns-in-RandomReadOnly c = rw c.in-RandomReadOnly.is (refl, refl)
+returns-in-RandomReadOnly c = rw c.in-RandomReadOnly.is (record { value = refl; store_after = refl })
 
 pub returns-in-CyclicReadWrite : goal.returns-in-CyclicReadWrite
 unfolding element_by
-returns-in-CyclicReadWrite c = rw c.in-CyclicReadWrite.is (cyclic_ends _ _ c.cyclic_element.ensures)
+returns-in-CyclicReadWrite c = rw c.in-CyclicReadWrite.is (let p = cyclic_ends c.args.number c.args.store.now c.cyclic_element.ensures in record { value = p.0; store_after = p.1 })
 
 pub returns-in-CyclicReadOnly : goal.returns-in-CyclicReadOnly
 unfolding element_by
-returns-in-CyclicReadOnly c = rw c.in-CyclicReadOnly.is (refl, refl)
+returns-in-CyclicReadOnly c = rw c.in-CyclicReadOnly.is (record { value = refl; store_after = refl })
 
 pub returns-in-PurseDirect : goal.returns-in-PurseDirect
 unfolding element_by
@@ -37,4 +37,4 @@ returns-in-PurseDecrement c = rw c.in-PurseDecrement.is c.purse_in-in-PurseDecre
 
 pub returns-in-PurseReadOnly : goal.returns-in-PurseReadOnly
 unfolding element_by
-returns-in-PurseReadOnly c = rw c.in-PurseReadOnly.is (refl, refl)
+returns-in-PurseReadOnly c = rw c.in-PurseReadOnly.is (record { value = refl; store_after = refl })

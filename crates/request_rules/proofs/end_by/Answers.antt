@@ -10,28 +10,28 @@ returns-in-CyclicReadWrite c = rw c.in-CyclicReadWrite.is c.apply_cyclic_write.e
 
 pub returns-in-RandomReadWrite : goal.returns-in-RandomReadWrite
 unfolding end_by
-returns-in-RandomReadWrite c = rw c.in-RandomReadWrite.is (refl, refl)
+returns-in-RandomReadWrite c = rw c.in-RandomReadWrite.is (record { value = refl; store_after = refl })
 
 pub returns-in-RandomReadOnly : goal.returns-in-RandomReadOnly
 unfolding end_by
-returns-in-RandomReadOnly c = rw c.in-RandomReadOnly.is (refl, refl)
+returns-in-RandomReadOnly c = rw c.in-RandomReadOnly.is (record { value = refl; store_after = refl })
 
 pub returns-in-CyclicReadOnly : goal.returns-in-CyclicReadOnly
 unfolding end_by
-returns-in-CyclicReadOnly c = rw c.in-CyclicReadOnly.is (refl, refl)
+returns-in-CyclicReadOnly c = rw c.in-CyclicReadOnly.is (record { value = refl; store_after = refl })
 
 pub returns-in-PurseDirect : goal.returns-in-PurseDirect
 unfolding end_by
-returns-in-PurseDirect c = rw c.in-PurseDirect.is (refl, refl)
+returns-in-PurseDirect c = rw c.in-PurseDirect.is (record { value = refl; store_after = refl })
 
 pub returns-in-PurseCashback : goal.returns-in-PurseCashback
 unfolding end_by
-returns-in-PurseCashback c = rw c.in-PurseCashback.is (refl, refl)
+returns-in-PurseCashback c = rw c.in-PurseCashback.is (record { value = refl; store_after = refl })
 
 pub returns-in-PurseDecrement : goal.returns-in-PurseDecrement
 unfolding end_by
-returns-in-PurseDecrement c = rw c.in-PurseDecrement.is (refl, refl)
+returns-in-PurseDecrement c = rw c.in-PurseDecrement.is (record { value = refl; store_after = refl })
 
 pub returns-in-PurseReadOnly : goal.returns-in-PurseReadOnly
 unfolding end_by
-returns-in-PurseReadOnly c = rw c.in-PurseReadOnly.is (refl, refl)
+returns-in-PurseReadOnly c = rw c.in-PurseReadOnly.is (record { value = refl; store_after = refl })

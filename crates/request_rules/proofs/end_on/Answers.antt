@@ -12,9 +12,10 @@ pub returns-in-Defined : goal.returns-in-Defined
 returns-in-Defined c =
     let a = c.args in
     let k = c.end_by in
-    store_lent a.row a.stage.now (end_by a.row.attribute a.run.now) k.result k.new.0 c.place_of-at.result c.place_of-at.ensures (omega arith) k.auto.0
-    (rw c.in-Defined.is k.ensures)
+    let p = store_lent a.row a.stage.now (end_by a.row.attribute a.run.now) k.result k.new.store c.place_of-at.result c.place_of-at.ensures (omega arith) k.auto.store
+        (rw c.in-Defined.is (k.ensures.value, k.ensures.store_after)) in
+    record { value = p.0; stage_after = p.1 }
 
 pub returns-in-Undefined : goal.returns-in-Undefined
 unfolding on_store within back end_by
-returns-in-Undefined c = rw c.in-Undefined.is (refl, sym (put-part _ _ _))
+returns-in-Undefined c = rw c.in-Undefined.is (record { value = refl; stage_after = sym (put-part _ _ _) })

@@ -10,5 +10,6 @@ pub returns : goal.returns
 returns c =
     let a = c.args in
     let k = c.apply_purse_write in
-    within_lent_lem a.store.now (16 * a.number) 16 (λ b. purse_applied a.operation a.limit b a.block.now) (omega arith) k.result k.new.0
-    k.auto.0 k.ensures
+    let p = within_lent_lem a.store.now (16 * a.number) 16 (λ b. purse_applied a.operation a.limit b a.block.now) (omega arith) k.result k.new.block
+        k.auto.block (k.ensures.value, k.ensures.block_after) in
+    record { value = p.0; store_after = p.1 }

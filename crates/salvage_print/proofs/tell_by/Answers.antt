@@ -11,5 +11,7 @@ returns c =
     let p = c.put in
     let e = c.put_entry-n in
     let a = c.args in
-    Put_as p.result a.write a.report.now p.new.1.0 a.at (take (e.result - 0) (drop 0 e.new.1.1.0)) (said_of a.line a.fate)
-    (front_part a.entry.now e.new.1.1.0 (said_of a.line a.fate) e.result e.ensures.0 (omega (arith, e.ensures.1))) p.ensures
+    let w =
+        Put_as p.result a.write a.report.now p.new.dst a.at (take (e.result - 0) (drop 0 e.new.out)) (said_of a.line a.fate)
+        (front_part a.entry.now e.new.out (said_of a.line a.fate) e.result e.ensures.written (omega (arith, e.ensures.upper_bound))) (p.ensures.value, p.ensures.dst_after) in
+    record { value = w.0; report_after = w.1 }

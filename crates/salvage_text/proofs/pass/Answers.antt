@@ -10,20 +10,6 @@ use Rattle.salvage_text.proofs.Front.{zeroed, judged_done, judged_refused, first
 use borrow.Author.Rules.{rules}
 use Rattle.salvage_text.proofs.pass.Goals as goal
 
--- ahead of line 1 there is no card, and the arena is zero
-start_of : (i : goal.After-image-line) → imaged i.before.before.before.before.before.new.result i.before.before.before.before.before.before.before.before.zero.new.0 ≡ no_image
-start_of i =
-    let s = i.before.before.before.before.before.before.before.before.before.before.before.before.before.before in
-    ap (λ (c : Card). imaged c i.before.before.before.before.before.before.before.before.zero.new.0) i.before.before.before.before.before.new.ensures
-    ∙ ap (imaged no_image.card) (i.before.before.before.before.before.before.before.before.zero.ensures ∙ zeroed 65536 s.args.arena.now s.requires)
-
--- a first line that was accepted has bytes
-some_of : (i : goal.After-image-line) → i.image-line.result.answer ≡ Done → 1 ≤ i.before.before.before.before.find.result
-some_of i h =
-    let s = i.before.before.before.before.before.before.before.before.before.before.before.before.before.before in
-    first_some i.before.before.before.before.before.new.result i.before.before.before.before.before.before.before.before.zero.new.0
-    s.args.text.now i.before.before.before.before.find.result i.image-line.result i.image-line.ensures.0 h
-
 pub slice_bounds-pass_behind-end : goal.slice_bounds-pass_behind-end
 slice_bounds-pass_behind-end c =
     let t = c.args.text.now in
@@ -33,27 +19,34 @@ slice_bounds-pass_behind-end c =
 pub pass_behind-requires : goal.pass_behind-requires
 pass_behind-requires c =
     let t = c.args.text.now in
-    let o = some_of c c.in-Done.is in
+    let o = first_some c.new-blank.result c.zero.new.s t c.find-end.result c.image_line-first.result c.image_line-first.ensures.value c.in-Done.is in
     let w = within-behind t c.find-end.result c.behind-n.result c.find-end.ensures.value c.find-end.ensures.within c.behind-n.ensures in
     (w.1, omega (arith, o, w.0))
 
 pub returns-in-Done : goal.returns-in-Done
 returns-in-Done c =
     let t = c.args.text.now in
+    let z0 = c.zero.new.s in
+    let start : imaged c.new-blank.result z0 ≡ no_image =
+    ap (λ (d : Card). imaged d z0) c.new-blank.ensures
+    ∙ ap (imaged no_image.card) (c.zero.ensures ∙ zeroed 65536 c.args.arena.now c.requires) in
     let v = c.image_line-first in
     let h = c.in-Done.is in
-    let o = some_of c h in
+    let o = first_some c.new-blank.result c.zero.new.s t c.find-end.result c.image_line-first.result c.image_line-first.ensures.value h in
     let u = turn_first t c.find-end.result c.behind-n.result c.find-end.ensures.value c.find-end.ensures.within c.behind-n.ensures (omega (arith, o, c.find-end.ensures.within)) in
-    let q = judged_done c.new-blank.result c.zero.new.0 (take (c.find-end.result - 0) (drop 0 t)) (start_of c) v.result v.new.1.1.0 v.ensures.0 v.ensures.1 h in
-    let z : Image = imaged v.result.card v.new.1.1.0 in
+    let q = judged_done c.new-blank.result z0 (take (c.find-end.result - 0) (drop 0 t)) start v.result v.new.arena v.ensures.value v.ensures.arena_after h in
+    let z : Image = imaged v.result.card v.new.arena in
     rw (image-first_as t (c.find-end.result - 0) c.behind-n.result u z q, words-first t (c.find-end.result - 0) c.behind-n.result u z q) c.pass_behind.ensures
 
 pub returns-in-Refused : goal.returns-in-Refused
 returns-in-Refused c =
     let t = c.args.text.now in
+    let z0 = c.zero.new.s in
+    let start : imaged c.new-blank.result z0 ≡ no_image =
+    ap (λ (d : Card). imaged d z0) c.new-blank.ensures
+    ∙ ap (imaged no_image.card) (c.zero.ensures ∙ zeroed 65536 c.args.arena.now c.requires) in
     let v = c.image_line-first in
-    let h = c.enum_told-in-Refused-1.given in
-    let q = judged_refused c.new-blank.result c.zero.new.0 (take (c.find-end.result - 0) (drop 0 t)) (start_of c) v.result v.new.1.1.0 v.ensures.0 v.ensures.1 _ h.1 in
-    let z : Image = imaged c.new-blank.result v.new.1.1.0 in
+    let q = judged_refused c.new-blank.result z0 (take (c.find-end.result - 0) (drop 0 t)) start v.result v.new.arena v.ensures.value v.ensures.arena_after _ c.in-Refused.is in
+    let z : Image = imaged c.new-blank.result v.new.arena in
     let e = image-all t c.find-end.result c.behind-n.result c.find-end.ensures.value c.find-end.ensures.within c.behind-n.ensures _ z q.1 q.0 in
     rw (e.0, e.1) c.pass_behind-in-Refused.ensures

@@ -25,7 +25,7 @@ returns-in_default c =
     let h : List ℕ = a.words.now in (
       short_first (length a.out.now) (length a.report.now) g d (h ++ u) (sym c.in_default.is ∙ c.put.ensures.value),
       (
-        wrote_none a.write c.put.result a.out.now c.put.new.1.0 (g ++ d) g c.put.ensures.dst_after,
+        wrote_none a.write c.put.result a.out.now c.put.new.dst (g ++ d) g c.put.ensures.dst_after,
         wrote_none a.write Full a.report.now a.report.now (h ++ u) h refl,
       ),
     )
@@ -40,8 +40,8 @@ returns-in_default-put c =
     let h : List ℕ = a.words.now in (
       short_second (length a.out.now) (length a.report.now) (g ++ d) h u (sym c.in_default-put.is ∙ c.put-2.ensures.value),
       (
-        wrote_none a.write c.put.result a.out.now c.put.new.1.0 (g ++ d) g c.put.ensures.dst_after,
-        wrote_none a.write c.put-2.result a.report.now c.put-2.new.1.0 (h ++ u) h c.put-2.ensures.dst_after,
+        wrote_none a.write c.put.result a.out.now c.put.new.dst (g ++ d) g c.put.ensures.dst_after,
+        wrote_none a.write c.put-2.result a.report.now c.put-2.new.dst (h ++ u) h c.put-2.ensures.dst_after,
       ),
     )
 
@@ -50,7 +50,7 @@ walk-requires c =
     let a = c.args in
     let x = at_back (length a.out.now) 0 (length a.head.now) c.in-At.image (sym c.in-At.is ∙ c.put.ensures.value) in
     let y = at_back (length a.report.now) 0 (length a.words.now) c.in-At-put.said (sym c.in-At-put.is ∙ c.put-2.ensures.value) in
-    (c.requires.0, c.requires.1, omega (arith, x.0, x.1, c.put.auto.1.0), omega (arith, y.0, y.1, c.put-2.auto.1.0))
+    (c.requires.0, c.requires.1, omega (arith, x.0, x.1, c.put.auto.dst), omega (arith, y.0, y.1, c.put-2.auto.dst))
 
 pub returns : goal.returns
 returns c =
@@ -61,16 +61,16 @@ returns c =
     let g : List ℕ = a.head.now in
     let h : List ℕ = a.words.now in
     let e = c.walk.ensures in
-    let m = c.image-1.given in
-    let n = c.said-1.given in
-    let x = sym m.1 ∙ c.put.ensures.value in
-    let y = sym n.1 ∙ c.put-2.ensures.value in (
-      extent_behind (length a.out.now) (length a.report.now) (length c.put.new.1.0) (length c.put-2.new.1.0) m.0.0 n.0.0 c.walk.result g d h u
-          c.put.auto.1.0 c.put-2.auto.1.0 x y e.0,
+    let m = c.in-At in
+    let n = c.in-At-put in
+    let x = sym m.is ∙ c.put.ensures.value in
+    let y = sym n.is ∙ c.put-2.ensures.value in (
+      extent_behind (length a.out.now) (length a.report.now) (length c.put.new.dst) (length c.put-2.new.dst) m.image n.said c.walk.result g d h u
+          c.put.auto.dst c.put-2.auto.dst x y e.value,
       (
-        wrote-behind a.write c.walk.result a.out.now c.put.new.1.0 c.walk.new.1.1.1.1.1.0 g d m.0.0 x
-            (c.put.ensures.dst_after ∙ ap (λ (r : Spot). spotted r a.write a.out.now 0 g) m.1) e.1.0,
-        wrote-behind a.write c.walk.result a.report.now c.put-2.new.1.0 c.walk.new.1.1.1.1.1.1.1.0 h u n.0.0 y
-            (c.put-2.ensures.dst_after ∙ ap (λ (r : Spot). spotted r a.write a.report.now 0 h) n.1) e.1.1,
+        wrote-behind a.write c.walk.result a.out.now c.put.new.dst c.walk.new.out g d m.image x
+            (c.put.ensures.dst_after ∙ ap (λ (r : Spot). spotted r a.write a.out.now 0 g) m.is) e.wrote_if,
+        wrote-behind a.write c.walk.result a.report.now c.put-2.new.dst c.walk.new.report h u n.said y
+            (c.put-2.ensures.dst_after ∙ ap (λ (r : Spot). spotted r a.write a.report.now 0 h) n.is) e.wrote_if_2,
       ),
     )

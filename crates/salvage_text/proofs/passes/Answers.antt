@@ -12,13 +12,12 @@ returns-in-Short c =
     let a = c.args in
     let t = a.text.now in
     let e = c.pass-counted.ensures in
-    let h = c.in-Short.is in (
-      e.0,
-      (
-        landed_short c.pass-counted.result a.out.now c.pass-counted.new.1.1.0 (salvaged_text t) h e.1.0,
-        landed_short c.pass-counted.result a.report.now c.pass-counted.new.1.1.1.0 (reported_text t) h e.1.1,
-      ),
-    )
+    let h = c.in-Short.is in
+    record {
+      value = e.0;
+      out_after = landed_short c.pass-counted.result a.out.now c.pass-counted.new.out (salvaged_text t) h e.1.0;
+      report_after = landed_short c.pass-counted.result a.report.now c.pass-counted.new.report (reported_text t) h e.1.1;
+    }
 
 pub returns-in-Fits : goal.returns-in-Fits
 returns-in-Fits c =
@@ -27,17 +26,16 @@ returns-in-Fits c =
     let o : List ℕ = a.out.now in
     let w : List ℕ = a.report.now in
     let e = c.pass-counted.ensures in
-    let o' : List ℕ = c.pass-counted.new.1.1.0 in
-    let w' : List ℕ = c.pass-counted.new.1.1.1.0 in
+    let o' : List ℕ = c.pass-counted.new.out in
+    let w' : List ℕ = c.pass-counted.new.report in
     let h = c.in-Fits.is in
     let f = c.pass.ensures in
     let m = length (salvaged_text t) in
     let n = length (reported_text t) in
     let z = same_extent c.pass.result o o' w w' m n e.1.0 e.1.1 f.0 in
-    let k = same_fits c.pass.result c.pass-counted.result o o' w w' m n _ _ e.1.0 e.1.1 f.0 e.0 h in (
-      z,
-      (
-        landed c.pass.result _ _ o o' c.pass.new.1.1.0 (salvaged_text t) k e.1.0 f.1.0,
-        landed c.pass.result _ _ w w' c.pass.new.1.1.1.0 (reported_text t) k e.1.1 f.1.1,
-      ),
-    )
+    let k = same_fits c.pass.result c.pass-counted.result o o' w w' m n _ _ e.1.0 e.1.1 f.0 e.0 h in
+    record {
+      value = z;
+      out_after = landed c.pass.result _ _ o o' c.pass.new.out (salvaged_text t) k e.1.0 f.1.0;
+      report_after = landed c.pass.result _ _ w w' c.pass.new.report (reported_text t) k e.1.1 f.1.1;
+    }

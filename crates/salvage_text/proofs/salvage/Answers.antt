@@ -9,10 +9,9 @@ pub returns : goal.returns
 returns c =
     let a = c.args in
     let t = a.text.now in
-    let e = c.passes.ensures in (
-      c.answer_of_lem.ensures ∙ ap salvage_answer e.0,
-      (
-        e.1.0 ∙ ap (λ (x : Extent). landed_by x a.out.now (salvaged_text t)) e.0,
-        e.1.1 ∙ ap (λ (x : Extent). landed_by x a.report.now (reported_text t)) e.0,
-      ),
-    )
+    let e = c.passes.ensures in
+    record {
+      value = c.answer_of.ensures ∙ ap salvage_answer e.value;
+      out_after = e.out_after ∙ ap (λ (x : Extent). landed_by x a.out.now (salvaged_text t)) e.value;
+      report_after = e.report_after ∙ ap (λ (x : Extent). landed_by x a.report.now (reported_text t)) e.value;
+    }

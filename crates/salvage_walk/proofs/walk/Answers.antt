@@ -98,7 +98,9 @@ shape_of-report-in_default c = c.loop-at.invariant.0.report-long
 pub returns-in_default : goal.returns-in_default
 returns-in_default c =
     let k = c.keep in
-    (Line-of c.before).no_image_lem k.result k.new.1.1.1.0 c.in_default.is k.ensures.0 k.ensures.1
+    let w =
+        (Line-of c.before).no_image_lem k.result k.new.1.1.1.0 c.in_default.is k.ensures.0 k.ensures.1 in
+    record { value = w.0; wrote_if = w.1; wrote_if_2 = w.2 }
 
 pub overflow_add-passed : goal.overflow_add-passed
 overflow_add-passed c = omega (arith, c.loop-at.invariant.0.counted, c.loop-at-test.true, c.well-formed)
@@ -119,8 +121,10 @@ pub returns-in_default-tell : goal.returns-in_default-tell
 returns-in_default-tell c =
     let k = c.keep in
     let m = c.tell in
-    (Line-of c.before
-    ).no_report k.result m.result k.new.1.1.1.0 m.new.1.1.1.0 k.ensures.1 c.in_default-tell.is m.ensures.0 m.ensures.1
+    let w =
+        (Line-of c.before
+        ).no_report k.result m.result k.new.1.1.1.0 m.new.1.1.1.0 k.ensures.1 c.in_default-tell.is m.ensures.0 m.ensures.1 in
+    record { value = w.0; wrote_if = w.1; wrote_if_2 = w.2 }
 
 pub overflow_add-passed-in-loop-at : goal.overflow_add-passed-in-loop-at
 overflow_add-passed-in-loop-at c = omega (arith, c.loop-at.invariant.0.counted, c.loop-at-test.true, c.well-formed)
@@ -154,10 +158,7 @@ returns c =
     let z : Between Image = fresh (imaged a.card a.arena.now) in
     let d : List ℕ = image_at a.text.now z a.from in
     let u : List ℕ = report_at a.text.now a.lines z a.from in
-    let e = finished a.text.now d u a.write a.out.now a.image a.report.now a.said (held_of c.loop-at.built c.loop-at.arena c.loop-at.rules) c.loop-at.out c.loop-at.report c.loop-at.at c.loop-at.passed c.loop-at.made c.loop-at.told i c.loop-at-test.false in (
-      rw (e.0, e.1) (extent_fit (length a.out.now) (length a.report.now) (a.image + length d) (a.said + length u) (omega (arith, e.0, i.room, i.out_long)) (omega (arith, e.1, i.space, i.report-long))),
-      (
+    let e = finished a.text.now d u a.write a.out.now a.image a.report.now a.said (held_of c.loop-at.built c.loop-at.arena c.loop-at.rules) c.loop-at.out c.loop-at.report c.loop-at.at c.loop-at.passed c.loop-at.made c.loop-at.told i c.loop-at-test.false in (record { value = rw (e.0, e.1) (extent_fit (length a.out.now) (length a.report.now) (a.image + length d) (a.said + length u) (omega (arith, e.0, i.room, i.out_long)) (omega (arith, e.1, i.space, i.report-long))); wrote_if = (
         wrote_fit a.write a.out.now c.loop-at.out a.image c.loop-at.made c.loop-at.told d e.2,
         wrote_fit a.write a.report.now c.loop-at.report a.said c.loop-at.made c.loop-at.told u e.3,
-      ),
-    )
+      ); wrote_if_2 =  })

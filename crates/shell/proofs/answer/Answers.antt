@@ -18,9 +18,10 @@ passed-requires c =
 pub returns-then-asks : goal.returns-then-asks
 returns-then-asks c =
     let z : c.kept-len.result - 0 ≡ c.kept-len.result = omega arith in
-    let o = rw (c.kept-len.ensures, c.made-made.ensures) at (rw z at c.line-looked.ensures) in
+    let o = rw (c.kept-len.ensures) at (rw z at c.line-looked.ensures.arena_after) in
+    let w = rw (c.kept-len.ensures, c.made-made.ensures) at (rw z at c.line-looked.ensures.written) in
     rw c.if-asks.true
-    (answer-line (both_machine true) seen_stops most_printed (sym c.is_line.ensures ∙ c.if-is_line.true) o.0 o.1.0.0 o.1.0.1 refl c.passed.ensures)
+    (answer-line (both_machine true) seen_stops most_printed (sym c.is_line.ensures ∙ c.if-is_line.true) o w.0 w.1 refl c.passed.ensures)
 
 pub passed-requires-then-is_line : goal.passed-requires-then-is_line
 passed-requires-then-is_line c =
@@ -29,10 +30,11 @@ passed-requires-then-is_line c =
 pub returns-then-is_line : goal.returns-then-is_line
 returns-then-is_line c =
     let z : c.kept-len.result - 0 ≡ c.kept-len.result = omega arith in
-    let o = rw (c.kept-len.ensures, c.made-made.ensures) at (rw z at c.line-taken.ensures) in
+    let o = rw (c.kept-len.ensures) at (rw z at c.line-taken.ensures.arena_after) in
+    let w = rw (c.kept-len.ensures, c.made-made.ensures) at (rw z at c.line-taken.ensures.written) in
     let a = c.args in
     rw c.if-asks.false
-    (answer-line (both_machine false) seen_stops most_printed (sym c.is_line.ensures ∙ c.if-is_line.true) (ap (seen_with (seen a.inspect a.arena.now)) o.0) o.1.0.0 o.1.0.1 refl c.passed-then-is_line.ensures)
+    (answer-line (both_machine false) seen_stops most_printed (sym c.is_line.ensures ∙ c.if-is_line.true) (ap (seen_with (seen a.inspect a.arena.now)) o) w.0 w.1 refl c.passed-then-is_line.ensures)
 
 pub close-rest-requires : goal.close-rest-requires
 close-rest-requires c =

@@ -3,4 +3,4 @@ use borrow.Author.Rules.{rules}
 use Rattle.shell.proofs.inspect.Goals as goal
 
 pub returns : goal.returns
-returns c = c.whole.ensures
+returns g c = c.whole.ensures

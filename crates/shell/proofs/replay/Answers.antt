@@ -4,4 +4,4 @@ use Rattle.shell.proofs.Both.{ran-replay}
 use Rattle.shell.proofs.replay.Goals as goal
 
 pub returns : goal.returns
-returns c = ran-replay c.whole.ensures
+returns g c = ran-replay c.whole.ensures

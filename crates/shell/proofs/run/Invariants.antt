@@ -11,10 +11,10 @@ use Rattle.shell.proofs.Both.{both_blind, stops_dead}
 use Rattle.shell.proofs.run.Given as goal
 
 abbrev pub invariant-loop-ends : goal.invariant-loop-ends
-invariant-loop-ends l =
-    Turning (both_machine asks) 32769 seen_at_start most_printed moved.flow (seen moved.inspect arena) line chunk out
-    × (length arena ≡ length arena₀) × (length work ≡ length work₀) × (length bytes ≡ length bytes₀)
-    × (length chunk ≡ length chunk₀) × (length line ≡ length line₀) × (length out ≡ length out₀)
+invariant-loop-ends g l =
+    Turning (both_machine l.asks) 32769 seen_at_start most_printed l.moved.flow (seen l.moved.inspect l.arena) l.line l.chunk l.out
+    × (length l.arena ≡ length l.initial.arena) × (length l.work ≡ length l.initial.work) × (length l.bytes ≡ length l.initial.bytes)
+    × (length l.chunk ≡ length l.initial.chunk) × (length l.line ≡ length l.initial.line) × (length l.out ≡ length l.initial.out)
 
 abbrev pub decreases-loop-ends : goal.decreases-loop-ends
-decreases-loop-ends l = moved.flow.turns
+decreases-loop-ends g l = l.moved.flow.turns

@@ -4,7 +4,7 @@ use borrow.Author.Rules.{rules}
 use Rattle.shell.proofs.whole.Goals as goal
 
 pub lend-requires : goal.lend-requires
-lend-requires c = (refl, search rules)
+lend-requires g c = record { arena_value = refl; work_len = search rules }
 
 pub returns : goal.returns
-returns c = c.lend.ensures
+returns g c = c.lend.ensures

@@ -12,13 +12,10 @@ use Rattle.card_lists.specs.Gather.{nothing_gathered, gathered_from}
 use Rattle.card_lists.proofs.Gathering.{walk_begins, walk_ends, walk_on_lem, walk-done, still_fewer, same_read}
 use Rattle.card_lists.proofs.gather.gather.Goals as goal
 
-records : (c : goal.Start invariant-loop decreases-loop) → length c.args.t1 ≡ 64
-records c = search rules
-
 pub loop-i-init : goal.loop-i-init
 loop-i-init c =
-    let l = records c in
-    let d = ap (λ (n : Node). n.depth) (same_read c.args.t1 c.args.at _ root_node (omega (arith, l, c.requires))) in
+    let l : length c.args.nodes ≡ 64 = search rules in
+    let d = ap (λ (n : Node). n.depth) (same_read c.args.nodes c.args.at _ root_node (omega (arith, l, c.requires))) in
     (walk_begins _ _ l c.taken-n.ensures c.requires d c.empty.ensures, omega arith)
 
 pub returns-then-node-above : goal.returns-then-node-above

@@ -7,18 +7,14 @@ use Rattle.card_build.specs.Card.{is_short}
 use Rattle.card_lists.specs.Information.{ahead_of}
 use Rattle.card_lists.proofs.information.ahead.Goals as goal
 
--- the arena holds the blocks in use
-long : (c : goal.Else-is_short) → is_short c.args.arena-len c.args.used ≡ false
-long c = sym c.is_short.ensures ∙ c.if-is_short.false
-
 pub returns-then-is_short : goal.returns-then-is_short
 unfolding ahead_of
 returns-then-is_short c = rw (sym c.is_short.ensures ∙ c.if-is_short.true)
 
 pub returns-then-many-gt32 : goal.returns-then-many-gt32
 unfolding ahead_of
-returns-then-many-gt32 c = rw (long c.before, lt-ltb 32 c.args.many c.if-many-gt32.true)
+returns-then-many-gt32 c = rw (sym c.is_short.ensures ∙ c.if-is_short.false, lt-ltb 32 c.args.many c.if-many-gt32.true)
 
 pub returns : goal.returns
 unfolding ahead_of
-returns c = rw (long c.before, le-ltb 32 c.args.many c.if-many-gt32.false)
+returns c = rw (sym c.is_short.ensures ∙ c.if-is_short.false, le-ltb 32 c.args.many c.if-many-gt32.false)

@@ -1,40 +1,35 @@
 -- The code asks in the definition's order, and reads the node that the definition finds.
-use Rattle.std.proofs.Common.{sym, ◌∙◌, ◌<◌, arith, rules}
+use Rattle.std.proofs.Common.{sym, ◌∙◌, arith, rules}
 use borrow.Author.Tests.{ne_eqb}
 use Rattle.byte_parts.proofs.Tests.{tests}
 use Rattle.card_nodes.proofs.Records.{Records, found_index_lem}
 use Rattle.card_questions.specs.Keys.{version_of}
 use Rattle.card_questions.proofs.Version.{found_version}
 use Rattle.card_questions.proofs.keys.key_version.Goals as goal
-use Rattle.card_questions.proofs.keys.key_version.Goals.{In-At-unread, In-At-find_area-unread}
-
--- the service is one of the records
-service-in : (c : In-At-unread) → c.in-At.i < 64
-service-in c =
-    let r : Records c.args.nodes c.args.count = record { all = search rules } in
-    found_index_lem r _ c.find_service.ensures c.in-At.is
-
--- and so is the area
-area_in : (c : In-At-find_area-unread) → c.in-At-find_area.i < 64
-area_in c =
-    let r : Records c.args.nodes c.args.count = record { all = search rules } in
-    found_index_lem r _ c.find_area.ensures c.in-At-find_area.is
 
 pub returns-then-code-eq65535 : goal.returns-then-code-eq65535
 unfolding version_of
 returns-then-code-eq65535 c = search tests
 
 pub offset_bounds-nodes-i : goal.offset_bounds-nodes-i
-offset_bounds-nodes-i c = omega (arith, service-in c)
+offset_bounds-nodes-i c =
+    let r : Records c.args.nodes c.args.count = record { all = search rules } in
+    omega (arith, found_index_lem r _ c.find_service.ensures c.in-At.is)
 
 pub bounds-nodes-i : goal.bounds-nodes-i
-bounds-nodes-i c = service-in c
+bounds-nodes-i c =
+    let r : Records c.args.nodes c.args.count = record { all = search rules } in
+    found_index_lem r _ c.find_service.ensures c.in-At.is
 
 pub offset_bounds-nodes-i-in-At-find_area : goal.offset_bounds-nodes-i-in-At-find_area
-offset_bounds-nodes-i-in-At-find_area c = omega (arith, area_in c)
+offset_bounds-nodes-i-in-At-find_area c =
+    let r : Records c.args.nodes c.args.count = record { all = search rules } in
+    omega (arith, found_index_lem r _ c.find_area.ensures c.in-At-find_area.is)
 
 pub bounds-nodes-i-in-At-find_area : goal.bounds-nodes-i-in-At-find_area
-bounds-nodes-i-in-At-find_area c = area_in c
+bounds-nodes-i-in-At-find_area c =
+    let r : Records c.args.nodes c.args.count = record { all = search rules } in
+    found_index_lem r _ c.find_area.ensures c.in-At-find_area.is
 
 pub returns-in-At : goal.returns-in-At
 unfolding version_of

@@ -5,6 +5,6 @@ use Prim.Native.Nat.{◌/◌}
 use Rattle.inspect_answer.proofs.Fronts.{lent_long}
 use Rattle.inspect_answer.proofs.card.put_directory.Goals as goal
 
-pub returns : goal.returns
-returns c =
-    rw (lent_long (c.args.room / 2) 2048 (omega (arith, c.requires.0))) at c.put_pairs.ensures
+pub returns-clause-written : goal.returns-clause-written
+returns-clause-written c =
+    rw (lent_long (c.args.room / 2) 2048 (omega (arith, c.requires.0))) at c.put_pairs.ensures.written

@@ -12,34 +12,32 @@ use Rattle.inspect_answer.specs.Fields.{directory_fields}
 use Rattle.inspect_answer.proofs.Listings.{Stands, directory_stands}
 use Rattle.inspect_answer.proofs.card.put_pairs.Goals as goal
 
--- what the writer was found to say
-found : (k : goal.After-directory) {x : Listing} → k.directory.result ≡ x → let a = k.args in directory_answer a.card (length a.pairs.now) ≡ x
-found k e = sym k.directory.ensures.value ∙ e
-
--- what it wrote stands at the front
-stands_of : (k : goal.After-directory) {n : ℕ} → k.directory.result ≡ Listed n → let a = k.args in Stands (directory_of (nodes_of a.card)) k.directory.new.1.0 (length a.pairs.now) (2 * n)
-stands_of k e = let a = k.args in rw k.directory.ensures.out_after (directory_stands a.card a.pairs.now (found k e))
-
 pub overflow_mul-n : goal.overflow_mul-n
 overflow_mul-n c =
-    omega (arith, (stands_of c c.in-Listed.is).most, c.requires.0)
+    let t : Stands (directory_of (nodes_of c.args.card)) c.directory.new.out (length c.args.pairs.now) (2 * c.in-Listed.n) =
+    rw c.directory.ensures.out_after (directory_stands c.args.card c.args.pairs.now (sym c.directory.ensures.value ∙ c.in-Listed.is)) in
+    omega (arith, t.most, c.requires.0)
 
 pub slice_bounds-put_numbers-end : goal.slice_bounds-put_numbers-end
 slice_bounds-put_numbers-end c =
-    omega (arith, (stands_of c c.in-Listed.is).most, c.directory.auto.1.0)
+    let t : Stands (directory_of (nodes_of c.args.card)) c.directory.new.out (length c.args.pairs.now) (2 * c.in-Listed.n) =
+    rw c.directory.ensures.out_after (directory_stands c.args.card c.args.pairs.now (sym c.directory.ensures.value ∙ c.in-Listed.is)) in
+    omega (arith, t.most, c.directory.auto.out)
 
 pub put_numbers-requires : goal.put_numbers-requires
 put_numbers-requires c =
-    let t = stands_of c c.in-Listed.is in
+    let t : Stands (directory_of (nodes_of c.args.card)) c.directory.new.out (length c.args.pairs.now) (2 * c.in-Listed.n) =
+    rw c.directory.ensures.out_after (directory_stands c.args.card c.args.pairs.now (sym c.directory.ensures.value ∙ c.in-Listed.is)) in
     rw t.front (omega (arith, t.long, c.requires.0, c.requires.1))
 
-pub returns-in-Listed : goal.returns-in-Listed
+pub returns-in-Listed-clause-written : goal.returns-in-Listed-clause-written
 unfolding directory_fields
-returns-in-Listed c =
-    let t = stands_of c c.in-Listed.is in
-    rw (found c c.in-Listed.is) (rw t.front at c.put_numbers.ensures.written, omega (arith, rw t.front at c.put_numbers.ensures.upper_bound, t.long, c.requires.0))
+returns-in-Listed-clause-written c =
+    let t : Stands (directory_of (nodes_of c.args.card)) c.directory.new.out (length c.args.pairs.now) (2 * c.in-Listed.n) =
+    rw c.directory.ensures.out_after (directory_stands c.args.card c.args.pairs.now (sym c.directory.ensures.value ∙ c.in-Listed.is)) in
+    rw (sym c.directory.ensures.value ∙ c.in-Listed.is) (rw t.front at c.put_numbers.ensures.written)
 
-pub returns-in-Refused : goal.returns-in-Refused
+pub returns-in-Refused-clause-written : goal.returns-in-Refused-clause-written
 unfolding directory_fields
-returns-in-Refused c =
-    rw (found c c.in-Refused.is) (c.put_refusal.ensures.written, omega (arith, c.put_refusal.ensures.upper_bound))
+returns-in-Refused-clause-written c =
+    rw (sym c.directory.ensures.value ∙ c.in-Refused.is) (c.put_refusal.ensures.written)

@@ -6,14 +6,10 @@ use Rattle.answers.specs.declared.refusal.Told.{Told}
 use Rattle.inspect_answer.specs.Fields.{told_answer}
 use Rattle.inspect_answer.proofs.card.put_told.Goals as goal
 
--- what the card was found to tell
-found : (k : goal.After-told-of) {x : Told} → k.told_of.result ≡ x → let a = k.before.before.args in told_answer a.version a.card a.code ≡ x
-found k e = sym k.told_of.ensures ∙ e
+pub returns-in-Number-clause-written : goal.returns-in-Number-clause-written
+returns-in-Number-clause-written c =
+    rw (sym c.told_of.ensures ∙ c.in-Number.is) (c.put_counted.ensures.written)
 
-pub returns-in-Number : goal.returns-in-Number
-returns-in-Number c =
-    rw (found c.before c.in-Number.is) c.put_counted.ensures
-
-pub returns-in-Refused : goal.returns-in-Refused
-returns-in-Refused c =
-    rw (found c.before c.in-Refused.is) (c.put_refusal.ensures.written, omega (arith, c.put_refusal.ensures.upper_bound))
+pub returns-in-Refused-clause-written : goal.returns-in-Refused-clause-written
+returns-in-Refused-clause-written c =
+    rw (sym c.told_of.ensures ∙ c.in-Refused.is) (c.put_refusal.ensures.written)

@@ -9,9 +9,9 @@ use Rattle.inspect_fields.proofs.Lines.{front_put}
 use Rattle.inspect_answer.specs.Fields.{list_answer}
 use Rattle.inspect_answer.proofs.card.put_well_formed.Goals as goal
 
-pub returns : goal.returns
-returns c =
+pub returns-clause-written : goal.returns-clause-written
+returns-clause-written c =
     let a = c.args in
     let t = front_put (replicate 8192 0) (codes_of (field_one a.line.now)) (omega arith) c.read_codes-n.ensures.value.0 c.read_codes-n.ensures.codes_after in
     let e = c.list_check.ensures ∙ ap (list_answer a.areas a.card) t in
-    rw (← e) c.put_checked.ensures
+    rw (← e) (c.put_checked.ensures.written)

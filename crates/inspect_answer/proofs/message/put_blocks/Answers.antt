@@ -8,21 +8,21 @@ use Rattle.inspect_answer.specs.Fields.{info_fields}
 use Rattle.inspect_answer.proofs.Fronts.{Tells, shown}
 use Rattle.inspect_answer.proofs.message.put_blocks.Goals as goal
 
--- what the writer was found to say, and what it wrote
-wrote
-    : (k : goal.After-put-block-information) → let a = k.before.before.before.before.before.before.args in
-    Tells k.put-block-information.result k.put-block-information.new.1.1.1.0 (length a.work.now) (info_fields a.card (length a.arena.now) a.asked.now (length a.work.now))
-unfolding info_fields blocks_put blocks_out
-wrote k =
-    let a = k.before.before.before.before.before.before.args in
-    let b = blocks_told a.card (length a.arena.now) a.asked.now in
-    shown b.answer (information_bytes b.told) a.work.now k.put-block-information.ensures.0 k.put-block-information.ensures.1
-
 pub put_message-requires : goal.put_message-requires
+unfolding info_fields blocks_put blocks_out
 put_message-requires c =
-    let e = c.put_block_information-told.auto.1.1.1.0 in
-    (omega (arith, (wrote c).0, e), omega (arith, c.requires.0, e), c.requires.1)
+    let a = c.args in
+    let b = blocks_told a.card (length a.arena.now) a.asked.now in
+    let w : Tells c.put_block_information-told.result c.put_block_information-told.new.out (length a.work.now) (info_fields a.card (length a.arena.now) a.asked.now (length a.work.now)) =
+    shown b.answer (information_bytes b.told) a.work.now c.put_block_information-told.ensures.value c.put_block_information-told.ensures.out_after in
+    let e = c.put_block_information-told.auto.out in
+    (omega (arith, w.0, e), omega (arith, c.requires.0, e), c.requires.1)
 
-pub returns : goal.returns
-returns c =
-    rw (← (wrote c.before).1) c.put_message.ensures
+pub returns-clause-written : goal.returns-clause-written
+unfolding info_fields blocks_put blocks_out
+returns-clause-written c =
+    let a = c.args in
+    let b = blocks_told a.card (length a.arena.now) a.asked.now in
+    let w : Tells c.put_block_information-told.result c.put_block_information-told.new.out (length a.work.now) (info_fields a.card (length a.arena.now) a.asked.now (length a.work.now)) =
+    shown b.answer (information_bytes b.told) a.work.now c.put_block_information-told.ensures.value c.put_block_information-told.ensures.out_after in
+    rw (← w.1) (c.put_message.ensures.written)

@@ -8,7 +8,7 @@ use Rattle.inspect_fields.proofs.Lines.{front_put}
 use Rattle.inspect_answer.proofs.Fronts.{lent_long}
 use Rattle.inspect_answer.proofs.message.put_info.Goals as goal
 
-pub returns : goal.returns
-returns c =
+pub returns-clause-written : goal.returns-clause-written
+returns-clause-written c =
     let t = front_put (replicate 8192 0) (codes_of (field_one c.args.line.now)) (omega arith) c.read_codes-n.ensures.value.0 c.read_codes-n.ensures.codes_after in
-    rw (t, lent_long c.args.room 4096 c.requires.room_bound.0) at c.put_blocks.ensures
+    rw (t, lent_long c.args.room 4096 c.requires.room_bound.0) at c.put_blocks.ensures.written

@@ -13,11 +13,10 @@ pub put_hex-requires : goal.put_hex-requires
 put_hex-requires c =
     simp length-take (omega (arith, c.requires.1, c.requires.2))
 
-pub returns-in-Bytes : goal.returns-in-Bytes
-returns-in-Bytes c =
-    let w = rw (sub-zero c.in-Bytes.n) at c.put_hex.ensures in
-    rw c.in-Bytes.is (w.0, omega (arith, simp length-take at w.1, c.requires.1))
+pub returns-in-Bytes-clause-written : goal.returns-in-Bytes-clause-written
+returns-in-Bytes-clause-written c =
+    rw c.in-Bytes.is (rw (sub-zero c.in-Bytes.n) at c.put_hex.ensures.written)
 
-pub returns-in-Refused : goal.returns-in-Refused
-returns-in-Refused c =
-    rw c.in-Refused.is (c.put_refusal.ensures.written, omega (arith, c.put_refusal.ensures.upper_bound))
+pub returns-in-Refused-clause-written : goal.returns-in-Refused-clause-written
+returns-in-Refused-clause-written c =
+    rw c.in-Refused.is (c.put_refusal.ensures.written)

@@ -8,21 +8,21 @@ use Rattle.inspect_answer.specs.Fields.{list_fields}
 use Rattle.inspect_answer.proofs.Fronts.{Tells, shown}
 use Rattle.inspect_answer.proofs.message.put_packet.Goals as goal
 
--- what the writer was found to say, and what it wrote
-wrote
-    : (k : goal.After-put-code-list) → let a = k.before.before.before.before.args in
-    Tells k.put-code-list.result k.put-code-list.new.1.1.1.0 (length a.work.now) (list_fields a.card a.parent a.packet (length a.work.now))
-unfolding list_fields code_list_put code_list_out
-wrote k =
-    let a = k.before.before.before.before.args in
-    let l = code_list_of a.card a.parent a.packet in
-    shown l.answer (code_list_bytes l.list) a.work.now k.put-code-list.ensures.0 k.put-code-list.ensures.1
-
 pub put_message-requires : goal.put_message-requires
+unfolding list_fields code_list_put code_list_out
 put_message-requires c =
-    let e = c.put_code_list-put.auto.1.1.1.0 in
-    (omega (arith, (wrote c).0, e), omega (arith, c.requires.0, e), c.requires.1)
+    let a = c.args in
+    let l = code_list_of a.card a.parent a.packet in
+    let w : Tells c.put_code_list-put.result c.put_code_list-put.new.out (length a.work.now) (list_fields a.card a.parent a.packet (length a.work.now)) =
+    shown l.answer (code_list_bytes l.list) a.work.now c.put_code_list-put.ensures.value c.put_code_list-put.ensures.out_after in
+    let e = c.put_code_list-put.auto.out in
+    (omega (arith, w.0, e), omega (arith, c.requires.0, e), c.requires.1)
 
-pub returns : goal.returns
-returns c =
-    rw (← (wrote c.before).1) c.put_message.ensures
+pub returns-clause-written : goal.returns-clause-written
+unfolding list_fields code_list_put code_list_out
+returns-clause-written c =
+    let a = c.args in
+    let l = code_list_of a.card a.parent a.packet in
+    let w : Tells c.put_code_list-put.result c.put_code_list-put.new.out (length a.work.now) (list_fields a.card a.parent a.packet (length a.work.now)) =
+    shown l.answer (code_list_bytes l.list) a.work.now c.put_code_list-put.ensures.value c.put_code_list-put.ensures.out_after in
+    rw (← w.1) (c.put_message.ensures.written)

@@ -15,11 +15,11 @@ unfolding attribute_fields
 returns-in-Defined c =
     let a = c.args in
     let e = sym c.attribute.ensures ∙ c.in-Defined.is in
-    rw e (written-more (closed 9 (dec_text (number_of a.code))) _ (rw c.number-number.ensures at c.put_number-next.ensures.written) (rw c.requires_key-keyed.ensures at c.put_defined.ensures.written), omega (arith, c.put_number-next.ensures.upper_bound, c.put_defined.ensures.upper_bound))
+    rw e (record { written = written-more (closed 9 (dec_text (number_of a.code))) _ (rw c.number-number.ensures at c.put_number-next.ensures.written) (rw c.requires_key-keyed.ensures at c.put_defined.ensures.written); upper_bound = omega (arith, c.put_number-next.ensures.upper_bound, c.put_defined.ensures.upper_bound) })
 
 pub returns-in-Undefined : goal.returns-in-Undefined
 unfolding attribute_fields
 returns-in-Undefined c =
     let a = c.args in
     let e = sym c.attribute.ensures ∙ c.in-Undefined.is in
-    rw e (written-more (closed 9 (dec_text (number_of a.code))) (closed 10 (45 ∷ 9 ∷ 45 ∷ 9 ∷ 45 ∷ [])) (rw c.number-number.ensures at c.put_number-next.ensures.written) c.put_word.ensures.written, omega (arith, c.put_number-next.ensures.upper_bound, c.put_word.ensures.upper_bound))
+    rw e (record { written = written-more (closed 9 (dec_text (number_of a.code))) (closed 10 (45 ∷ 9 ∷ 45 ∷ 9 ∷ 45 ∷ [])) (rw c.number-number.ensures at c.put_number-next.ensures.written) c.put_word.ensures.written; upper_bound = omega (arith, c.put_number-next.ensures.upper_bound, c.put_word.ensures.upper_bound) })

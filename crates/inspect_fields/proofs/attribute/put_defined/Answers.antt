@@ -11,4 +11,4 @@ pub returns : goal.returns
 returns c =
     let a = c.args in
     let w2 = written-more (closed 9 (kind_text (kind_of a.attribute))) (closed 9 (right_text a.attribute)) (rw c.kind.ensures at c.put_kind-next.ensures.written) c.put_right-after.ensures.written in
-    (written-more _ (closed 10 (key_text a.keyed)) w2 c.put_key.ensures.written, omega (arith, c.put_kind-next.ensures.upper_bound, c.put_right-after.ensures.upper_bound, c.put_key.ensures.upper_bound))
+    (record { written = written-more _ (closed 10 (key_text a.keyed)) w2 c.put_key.ensures.written; upper_bound = omega (arith, c.put_kind-next.ensures.upper_bound, c.put_right-after.ensures.upper_bound, c.put_key.ensures.upper_bound) })

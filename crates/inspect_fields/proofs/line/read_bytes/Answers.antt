@@ -11,4 +11,4 @@ put_field-requires c =
 pub returns : goal.returns
 returns c =
     let e = c.put_field.ensures in
-    ((omega (arith, e.0), omega (arith, e.0, bytes-room c.args.line.now c.requires.1)), e.1)
+    (record { value = (omega (arith, e.value), omega (arith, e.value, bytes-room c.args.line.now c.requires.1)); bytes_after = e.bytes_after })

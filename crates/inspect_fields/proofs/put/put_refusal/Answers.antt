@@ -14,4 +14,4 @@ unfolding refusal_told
 returns c =
     let a = c.args in
     let e = c.number.ensures in
-    (written-more (closed 9 (33 ∷ [])) (closed 10 (dec_text (refusal_number a.refusal))) c.put_mark-next.ensures.written (rw e at c.put_number.ensures.written), omega (arith, c.put_mark-next.ensures.upper_bound, c.put_number.ensures.upper_bound))
+    (record { written = written-more (closed 9 (33 ∷ [])) (closed 10 (dec_text (refusal_number a.refusal))) c.put_mark-next.ensures.written (rw e at c.put_number.ensures.written); upper_bound = omega (arith, c.put_mark-next.ensures.upper_bound, c.put_number.ensures.upper_bound) })

@@ -12,25 +12,14 @@ use Rattle.node_messages.specs.CodeList.{areas_of, services_of, ranges_of, codes
 use Rattle.inspect_fields.specs.Fields.{flag_text}
 use Rattle.inspect_fields.proofs.read.put_code_list.Goals as goal
 
--- the arrays of the list
-ranges-long : (c : goal.Start) → length c.args.list.ranges ≡ 32
-ranges-long c = search rules
-
-codes-long : (c : goal.Start) → length c.args.list.codes ≡ 16
-codes-long c = search rules
-
-pub slice_bounds-put_numbers-end : goal.slice_bounds-put_numbers-end
-slice_bounds-put_numbers-end c =
-    omega (arith, c.least-areas.ensures, ranges-long c.before)
-
-pub slice_bounds-put_numbers-end-2 : goal.slice_bounds-put_numbers-end-2
-slice_bounds-put_numbers-end-2 c =
-    omega (arith, c.least-areas.ensures, c.least-services.ensures, codes-long c.before)
-
 pub returns : goal.returns
 returns c =
     let m = c.args.list in
+    let r : length m.ranges ≡ 32 = search rules in
+    let s : length m.codes ≡ 16 = search rules in
     let ea : 2 * c.least-areas.result - 0 ≡ 2 * areas_of m = sub-zero (2 * c.least-areas.result) ∙ ap (λ (k : ℕ). 2 * k) c.least-areas.ensures in
     let es : c.least-services.result - 0 ≡ services_of m = sub-zero c.least-services.result ∙ c.least-services.ensures ∙ rw c.least-areas.ensures in
     let w = written-more (closed 9 (flag_text m.more)) (closed 9 (four_digits (ranges_of m))) c.put_flag-next.ensures.written (rw ea at c.put_numbers-after.ensures.written) in
-    (written-more _ (closed 10 (four_digits (codes_listed m))) w (rw es at c.put_numbers.ensures.written), omega (arith, c.put_flag-next.ensures.upper_bound, c.put_numbers-after.ensures.upper_bound, c.put_numbers.ensures.upper_bound, take-le (2 * c.least-areas.result - 0) m.ranges, take-le (c.least-services.result - 0) m.codes, ranges-long c, codes-long c))
+    let lr : length m.ranges ≡ 32 = search rules in
+    let lc : length m.codes ≡ 16 = search rules in
+    (record { written = written-more _ (closed 10 (four_digits (codes_listed m))) w (rw es at c.put_numbers.ensures.written); upper_bound = omega (arith, c.put_flag-next.ensures.upper_bound, c.put_numbers-after.ensures.upper_bound, c.put_numbers.ensures.upper_bound, take-le (2 * c.least-areas.result - 0) m.ranges, take-le (c.least-services.result - 0) m.codes) })

@@ -5,8 +5,8 @@ use Rattle.inspect_fields.proofs.read.put_flag.Goals as goal
 
 pub returns-then-more : goal.returns-then-more
 returns-then-more c =
-    rw c.if-more.true (c.put_mark.ensures.written, omega (arith, c.put_mark.ensures.upper_bound))
+    rw c.if-more.true (record { written = c.put_mark.ensures.written; upper_bound = omega (arith, c.put_mark.ensures.upper_bound) })
 
 pub returns : goal.returns
 returns c =
-    rw c.if-more.false (c.put_mark-2.ensures.written, omega (arith, c.put_mark-2.ensures.upper_bound))
+    rw c.if-more.false (record { written = c.put_mark-2.ensures.written; upper_bound = omega (arith, c.put_mark-2.ensures.upper_bound) })

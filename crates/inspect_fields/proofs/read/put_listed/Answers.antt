@@ -7,9 +7,10 @@ use Rattle.inspect_fields.proofs.read.put_listed.Goals as goal
 pub returns-in-Done : goal.returns-in-Done
 unfolding read_list_fields
 returns-in-Done c =
-    rw (← c.read_code_list-listed.ensures, c.in-Done.is) c.put_code_list.ensures
+    rw (← c.read_code_list-listed.ensures, c.in-Done.is)
+    (record { written = c.put_code_list.ensures.written; upper_bound = c.put_code_list.ensures.upper_bound })
 
 pub returns-in-Refused : goal.returns-in-Refused
 unfolding read_list_fields
 returns-in-Refused c =
-    rw (← c.read_code_list-listed.ensures, c.in-Refused.is) (c.put_refusal.ensures.written, omega (arith, c.put_refusal.ensures.upper_bound))
+    rw (← c.read_code_list-listed.ensures, c.in-Refused.is) (record { written = c.put_refusal.ensures.written; upper_bound = omega (arith, c.put_refusal.ensures.upper_bound) })

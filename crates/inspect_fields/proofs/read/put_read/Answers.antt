@@ -11,10 +11,12 @@ pub returns-then-list : goal.returns-then-list
 returns-then-list c =
     let t = unhex (field_one c.args.line.now) in
     let e = front_put (replicate 16384 0) t (omega arith) c.read_bytes-n.ensures.value.0 c.read_bytes-n.ensures.bytes_after in
-    rw c.if-list.true (rw e at c.put_listed.ensures)
+    rw c.if-list.true
+    (record { written = rw e at c.put_listed.ensures.written; upper_bound = c.put_listed.ensures.upper_bound })
 
 pub returns : goal.returns
 returns c =
     let t = unhex (field_one c.args.line.now) in
     let e = front_put (replicate 16384 0) t (omega arith) c.read_bytes-n.ensures.value.0 c.read_bytes-n.ensures.bytes_after in
-    rw c.if-list.false (rw e at c.put_informed.ensures)
+    rw c.if-list.false
+    (record { written = rw e at c.put_informed.ensures.written; upper_bound = c.put_informed.ensures.upper_bound })

@@ -11,50 +11,33 @@ use Rattle.line_fields.specs.Fields.{named}
 use Rattle.line_image.specs.Line.{card_word, area_word, svc_word, lim_word, blk_word, image_named}
 use Rattle.line_image.proofs.line.is_image.Goals as goal
 
--- the line's fields
-abbrev parts : goal.After-field-name → List (List ℕ)
-parts c = split 9 c.args.line.now
-
 -- what it is to compare the first of them with a word
 compared
     : (s line word : List ℕ) {b : Bool} → b ≡ same_bytes s word → s ≡ get_or (split 9 line) 0 [] → b ≡ named word (split 9 line)
 unfolding named
 compared s line word p e = p ∙ ap (λ (t : List ℕ). same_bytes t word) e
 
--- whether it is each word
-card : (c : goal.After-same) {b : Bool} → c.same.result ≡ b → named card_word (parts c.before) ≡ b
-card c e = sym (compared _ _ card_word c.same.ensures c.field-name.ensures) ∙ e
-
-area : (c : goal.After-same-2) {b : Bool} → c.same-2.result ≡ b → named area_word (parts c.before) ≡ b
-area c e = sym (compared _ _ area_word c.same-2.ensures c.field-name.ensures) ∙ e
-
-service : (c : goal.After-same-3) {b : Bool} → c.same-3.result ≡ b → named svc_word (parts c.before) ≡ b
-service c e = sym (compared _ _ svc_word c.same-3.ensures c.field-name.ensures) ∙ e
-
-limit : (c : goal.After-same-4) {b : Bool} → c.same-4.result ≡ b → named lim_word (parts c.before) ≡ b
-limit c e = sym (compared _ _ lim_word c.same-4.ensures c.field-name.ensures) ∙ e
-
 pub returns-then-same : goal.returns-then-same
 unfolding image_named
-returns-then-same c = rw (card c.before c.if-same.true)
+returns-then-same c = rw (sym (compared _ _ card_word c.same.ensures c.field-name.ensures) ∙ c.if-same.true)
 
 pub returns-then-same-2 : goal.returns-then-same-2
 unfolding image_named
 returns-then-same-2 c =
-    rw (card c.before c.if-same.false, area c.before c.if-same-2.true)
+    rw (sym (compared _ _ card_word c.same.ensures c.field-name.ensures) ∙ c.if-same.false, sym (compared _ _ area_word c.same-2.ensures c.field-name.ensures) ∙ c.if-same-2.true)
 
 pub returns-then-same-3 : goal.returns-then-same-3
 unfolding image_named
 returns-then-same-3 c =
-    rw (card c.before c.if-same.false, area c.before c.if-same-2.false, service c.before c.if-same-3.true)
+    rw (sym (compared _ _ card_word c.same.ensures c.field-name.ensures) ∙ c.if-same.false, sym (compared _ _ area_word c.same-2.ensures c.field-name.ensures) ∙ c.if-same-2.false, sym (compared _ _ svc_word c.same-3.ensures c.field-name.ensures) ∙ c.if-same-3.true)
 
 pub returns-then-same-4 : goal.returns-then-same-4
 unfolding image_named
 returns-then-same-4 c =
-    rw (card c.before c.if-same.false, area c.before c.if-same-2.false, service c.before c.if-same-3.false, limit c.before c.if-same-4.true)
+    rw (sym (compared _ _ card_word c.same.ensures c.field-name.ensures) ∙ c.if-same.false, sym (compared _ _ area_word c.same-2.ensures c.field-name.ensures) ∙ c.if-same-2.false, sym (compared _ _ svc_word c.same-3.ensures c.field-name.ensures) ∙ c.if-same-3.false, sym (compared _ _ lim_word c.same-4.ensures c.field-name.ensures) ∙ c.if-same-4.true)
 
 pub returns : goal.returns
 unfolding image_named
 returns c =
-    rw (card c.before c.if-same.false, area c.before c.if-same-2.false, service c.before c.if-same-3.false, limit c.before c.if-same-4.false)
+    rw (sym (compared _ _ card_word c.same.ensures c.field-name.ensures) ∙ c.if-same.false, sym (compared _ _ area_word c.same-2.ensures c.field-name.ensures) ∙ c.if-same-2.false, sym (compared _ _ svc_word c.same-3.ensures c.field-name.ensures) ∙ c.if-same-3.false, sym (compared _ _ lim_word c.same-4.ensures c.field-name.ensures) ∙ c.if-same-4.false)
     (compared _ _ blk_word c.same-5.ensures c.field-name.ensures)

@@ -7,9 +7,9 @@ use Rattle.line_image.proofs.line.is_join.Goals as goal
 
 pub returns-then-not-is_form : goal.returns-then-not-is_form
 unfolding joins
-returns-then-not-is_form c = rw (sym c.is_form.ensures ∙ not-true _ c.if-not-is_form.true)
+returns-then-not-is_form c = rw (sym c.if-not-is_form.ensures)
 
 pub returns : goal.returns
 unfolding joins
 returns c =
-    rw (sym c.is_form.ensures ∙ not-false _ c.if-not-is_form.false) c.says_join.ensures
+    rw (sym c.if-not-is_form.ensures) c.says_join.ensures

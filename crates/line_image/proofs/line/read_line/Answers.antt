@@ -8,28 +8,17 @@ use borrow.Author.Tests.{lt-ltb, le-ltb}
 use Rattle.line_image.specs.Line.{image_line}
 use Rattle.line_image.proofs.line.read_line.Goals as goal
 
--- the line is not too long
-short : (c : goal.Else-line-gt-LONGEST_LINE) → ltb 32768 (length c.args.line.now) ≡ false
-short c = le-ltb 32768 (length c.args.line.now) c.if-line-gt-LONGEST_LINE.false
-
--- it is line 1, or a later one
-first : (c : goal.Then-first) → c.args.first ≡ true
-first c = c.if-first.true
-
-later : (c : goal.Else-first) → c.args.first ≡ false
-later c = c.if-first.false
-
 pub returns-then-line-gt-LONGEST_LINE : goal.returns-then-line-gt-LONGEST_LINE
 unfolding image_line
 returns-then-line-gt-LONGEST_LINE c = rw (lt-ltb 32768 (length c.args.line.now) c.if-line-gt-LONGEST_LINE.true)
 
 pub returns-then-first : goal.returns-then-first
 unfolding image_line
-returns-then-first c = rw (short c.before, first c.before) c.first_line.ensures
+returns-then-first c = rw (le-ltb 32768 (length c.args.line.now) c.if-line-gt-LONGEST_LINE.false, c.if-first.true) c.first_line.ensures
 
 pub returns : goal.returns
 unfolding image_line
-returns c = rw (short c.before, later c.before) c.later_line.ensures
+returns c = rw (le-ltb 32768 (length c.args.line.now) c.if-line-gt-LONGEST_LINE.false, c.if-first.false) c.later_line.ensures
 
 pub first_line-requires : goal.first_line-requires
 first_line-requires c = c.find_ends-ends.ensures

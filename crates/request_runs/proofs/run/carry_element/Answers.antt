@@ -4,7 +4,7 @@ use Rattle.request_runs.proofs.Carried.{element_passes, element_fails}
 use Rattle.request_runs.proofs.run.carry_element.Goals as goal
 
 pub returns-in-Failed : goal.returns-in-Failed
-returns-in-Failed c = element_fails _ _ _ _ _ c.element_on.ensures c.in-Failed.is
+returns-in-Failed c = element_fails _ _ _ _ _ (c.element_on.ensures.value, c.element_on.ensures.stage_after) c.in-Failed.is
 
 pub returns : goal.returns
-returns c = element_passes _ _ _ _ _ c.element_on.ensures c.in_default.is
+returns c = element_passes _ _ _ _ _ (c.element_on.ensures.value, c.element_on.ensures.stage_after) c.in_default.is
