@@ -7,9 +7,7 @@ pub returns : goal.returns
 returns c =
     let a = c.args in
     let e = c.one_more-lines.ensures in
-    let w =
-        (
-          question_seen_lem a.inspect a.question a.arena.now e c.numbered_to.ensures c.Room-after.ensures c.lent_after.ensures,
-          rw e at c.put_question-last.ensures,
-        ) in
-    record { arena_value = w.0; written = w.1 }
+    record {
+      arena_value = question_seen_lem a.inspect a.question a.arena.now e c.numbered_to.ensures c.room_after.ensures c.lent_after.ensures;
+      written = rw e at c.put_question-last.ensures;
+    }

@@ -8,6 +8,9 @@ pub returns : goal.returns
 returns c =
     let a = c.args in
     let h = held_by a.kind (held a.inspect.replay a.arena.now) a.line.now in
-    let w =
-        (replayed_seen_lem a.inspect {h = h} c.take-taken.ensures.arena_after c.one_more-lines.ensures c.numbered_to.ensures, c.take-taken.ensures.written) in
-    record { arena_after = w.0; written = w.1; work_after = w.2; bytes_after = w.3 }
+    record {
+      arena_after = replayed_seen_lem a.inspect {h = h} c.take-taken.ensures.arena_after c.one_more-lines.ensures c.numbered_to.ensures;
+      written = c.take-taken.ensures.written;
+      work_after = c.take-taken.ensures.work_after;
+      bytes_after = c.take-taken.ensures.bytes_after;
+    }

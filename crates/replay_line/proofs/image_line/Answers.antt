@@ -8,14 +8,14 @@ pub returns-in-Done : goal.returns-in-Done
 returns-in-Done c =
     let a = c.args in
     let w =
-        image-done a.replay (image_step a.first a.replay.card a.arena.now a.line.now)
-        c.image_line-added.ensures.value c.image_line-added.ensures.arena_after c.one_more-lines.ensures c.in-Done.is a.out.now a.at in
+    image-done a.replay (image_step a.first a.replay.card a.arena.now a.line.now)
+    c.image_line-added.ensures.value c.image_line-added.ensures.arena_after c.one_more-lines.ensures c.in-Done.is a.out.now a.at in
     record { arena_after = w.0; written = w.1 }
 
 pub returns-in-Refused : goal.returns-in-Refused
 returns-in-Refused c =
     let a = c.args in
     let w =
-        image-refused a.replay (image_step a.first a.replay.card a.arena.now a.line.now)
-        c.image_line-added.ensures.value c.image_line-added.ensures.arena_after c.one_more-lines.ensures c.in-Refused.is c.put_refusal.ensures in
+    image-refused a.replay (image_step a.first a.replay.card a.arena.now a.line.now)
+    c.image_line-added.ensures.value c.image_line-added.ensures.arena_after c.one_more-lines.ensures c.in-Refused.is (c.put_refusal.ensures.written, c.put_refusal.ensures.upper_bound) in
     record { arena_after = w.0; written = w.1 }

@@ -6,6 +6,5 @@ use Rattle.replay_line.proofs.line.Goals as goal
 pub returns : goal.returns
 unfolding line_held line_text work_held bytes_held
 returns c =
-    let w =
-        rw c.kind_of-kind.ensures at c.take.ensures in
-    record { arena_after = w.0; written = w.1; work_after = w.2; bytes_after = w.3 }
+    let k = c.kind_of-kind.ensures in
+    record { arena_after = rw k at c.take.ensures.arena_after; written = rw k at c.take.ensures.written; work_after = rw k at c.take.ensures.work_after; bytes_after = rw k at c.take.ensures.bytes_after }

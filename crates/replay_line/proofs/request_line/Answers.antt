@@ -8,6 +8,9 @@ returns c =
     let a = c.args in
     let e = c.one_more-asked.ensures in
     let o = c.request_line-last.ensures in
-    let w =
-        (request-held a.replay a.arena.now a.work.now a.line.now e c.requires.0 o.1.0, (rw (e, c.requires.0) at o.0, o.1.1)) in
-    record { arena_after = w.0; written = w.1; work_after = w.2; bytes_after = w.3 }
+    record {
+      arena_after = request-held a.replay a.arena.now a.work.now a.line.now e c.requires.0 o.arena_after;
+      written = rw (e, c.requires.0) at o.written;
+      work_after = o.work_after;
+      bytes_after = o.bytes_after;
+    }

@@ -9,26 +9,26 @@ pub returns-in-Image : goal.returns-in-Image
 returns-in-Image c =
     let a = c.args in
     let w =
-        image-taken (held a.replay a.arena.now) a.line.now a.work.now a.bytes.now c.in-Image.is c.image_line.ensures in
-    record { arena_after = w.0; written = w.1; work_after = w.2; bytes_after = w.3 }
+    image-taken (held a.replay a.arena.now) a.line.now a.work.now a.bytes.now c.in-Image.is (c.image_line.ensures.arena_after, c.image_line.ensures.written) in
+    record { arena_after = w.0; written = w.1.0; work_after = w.1.1.0; bytes_after = w.1.1.1 }
 
 pub returns-in-Request : goal.returns-in-Request
 returns-in-Request c =
     let a = c.args in
     let w =
-        request-taken (held a.replay a.arena.now) a.line.now a.work.now a.bytes.now c.in-Request.is c.request_line.ensures in
-    record { arena_after = w.0; written = w.1; work_after = w.2; bytes_after = w.3 }
+    request-taken (held a.replay a.arena.now) a.line.now a.work.now a.bytes.now c.in-Request.is (c.request_line.ensures.arena_after, (c.request_line.ensures.written, (c.request_line.ensures.work_after, c.request_line.ensures.bytes_after))) in
+    record { arena_after = w.0; written = w.1.0; work_after = w.1.1.0; bytes_after = w.1.1.1 }
 
 pub returns-in-Board : goal.returns-in-Board
 returns-in-Board c =
     let a = c.args in
     let w =
-        board-taken (held a.replay a.arena.now) a.line.now a.work.now a.bytes.now c.in-Board.is c.refresh_line.ensures in
-    record { arena_after = w.0; written = w.1; work_after = w.2; bytes_after = w.3 }
+    board-taken (held a.replay a.arena.now) a.line.now a.work.now a.bytes.now c.in-Board.is (c.refresh_line.ensures.arena_value, c.refresh_line.ensures.written) in
+    record { arena_after = w.0; written = w.1.0; work_after = w.1.1.0; bytes_after = w.1.1.1 }
 
 pub returns-in-Nothing : goal.returns-in-Nothing
 returns-in-Nothing c =
     let a = c.args in
     let w =
-        nothing_taken (held a.replay a.arena.now) a.line.now a.work.now a.bytes.now a.out.now a.at c.in-Nothing.is in
-    record { arena_after = w.0; written = w.1; work_after = w.2; bytes_after = w.3 }
+    nothing_taken (held a.replay a.arena.now) a.line.now a.work.now a.bytes.now a.out.now a.at c.in-Nothing.is in
+    record { arena_after = w.0; written = w.1.0; work_after = w.1.1.0; bytes_after = w.1.1.1 }

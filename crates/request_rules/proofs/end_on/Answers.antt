@@ -13,7 +13,7 @@ returns-in-Defined c =
     let a = c.args in
     let k = c.end_by in
     let p = store_lent a.row a.stage.now (end_by a.row.attribute a.run.now) k.result k.new.store c.place_of-at.result c.place_of-at.ensures (omega arith) k.auto.store
-        (rw c.in-Defined.is (k.ensures.value, k.ensures.store_after)) in
+    (rw c.in-Defined.is (k.ensures.value, k.ensures.store_after)) in
     record { value = p.0; stage_after = p.1 }
 
 pub returns-in-Undefined : goal.returns-in-Undefined

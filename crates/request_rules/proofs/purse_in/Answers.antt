@@ -11,5 +11,5 @@ returns c =
     let a = c.args in
     let k = c.apply_purse_write in
     let p = within_lent_lem a.store.now (16 * a.number) 16 (λ b. purse_applied a.operation a.limit b a.block.now) (omega arith) k.result k.new.block
-        k.auto.block (k.ensures.value, k.ensures.block_after) in
+    k.auto.block (k.ensures.value, k.ensures.block_after) in
     record { value = p.0; store_after = p.1 }

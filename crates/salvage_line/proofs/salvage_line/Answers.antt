@@ -14,9 +14,9 @@ unfolding is_word
 returns-then-is_taken c =
     let a = c.args in
     let w =
-        Taken_step a.card a.arena.now a.text.now a.rules c.depth_of-depth.result c.is_named-svc.result c.is_named-lim.result
-        c.depth_of-depth.ensures c.is_named-svc.ensures c.is_named-lim.ensures c.rules_after.result
-        (sym c.is_taken.ensures ∙ c.if-is_taken.true) c.rules_after.ensures in
+    Taken_step a.card a.arena.now a.text.now a.rules c.depth_of-depth.result c.is_named-svc.result c.is_named-lim.result
+    c.depth_of-depth.ensures c.is_named-svc.ensures c.is_named-lim.ensures c.rules_after.result
+    (sym c.is_taken.ensures ∙ c.if-is_taken.true) c.rules_after.ensures in
     record { fate_value = w.0; rules_after = w.1 }
 
 pub returns : goal.returns
@@ -32,6 +32,6 @@ returns c =
       fate_value = k.0;
       rules_after =
           ap (λ (x : Added). held_of x.card c.image_line-added.new.arena c.rules_after-2.result) e.value
-              ∙ ap (λ (x : List ℕ). held_of s.added.card x c.rules_after-2.result) e.arena_after
-              ∙ k.1;
+          ∙ ap (λ (x : List ℕ). held_of s.added.card x c.rules_after-2.result) e.arena_after
+          ∙ k.1;
     }

@@ -15,6 +15,6 @@ returns c =
     let g = c.gain-size in
     let a = c.args in
     let w =
-        Put_as p.result a.write a.out.now p.new.dst a.at (take (g.result - 0) (drop 0 a.piece.now)) (gain_of a.fate a.piece.now)
-        (gain_part a.fate a.piece.now g.result g.ensures) (p.ensures.value, p.ensures.dst_after) in
+    Put_as p.result a.write a.out.now p.new.dst a.at (take (g.result - 0) (drop 0 a.piece.now)) (gain_of a.fate a.piece.now)
+    (gain_part a.fate a.piece.now g.result g.ensures) (p.ensures.value, p.ensures.dst_after) in
     record { value = w.0; out_after = w.1 }

@@ -12,6 +12,6 @@ returns c =
     let e = c.put_entry-n in
     let a = c.args in
     let w =
-        Put_as p.result a.write a.report.now p.new.dst a.at (take (e.result - 0) (drop 0 e.new.out)) (said_of a.line a.fate)
-        (front_part a.entry.now e.new.out (said_of a.line a.fate) e.result e.ensures.written (omega (arith, e.ensures.upper_bound))) (p.ensures.value, p.ensures.dst_after) in
+    Put_as p.result a.write a.report.now p.new.dst a.at (take (e.result - 0) (drop 0 e.new.out)) (said_of a.line a.fate)
+    (front_part a.entry.now e.new.out (said_of a.line a.fate) e.result e.ensures.written (omega (arith, e.ensures.upper_bound))) (p.ensures.value, p.ensures.dst_after) in
     record { value = w.0; report_after = w.1 }

@@ -6,11 +6,11 @@ use Rattle.salvage_shell.proofs.Runs.{words-wrote}
 use Rattle.salvage_shell.proofs.print.Goals as goal
 
 pub flush-requires : goal.flush-requires
-flush-requires c =
+flush-requires g c =
     let p = c.requires in
-    rw c.closed.ensures (omega arith, omega (arith, p.0.2, p.0.3))
+    rw c.closed.ensures (omega arith, omega (arith, p.flow_value.2, p.flow_value.3))
 
 pub returns : goal.returns
-returns c =
+returns g c =
     let a = c.args in
     words-wrote a.flow a.image.now (salvage_prints a.text.now) c.requires.image_value c.closed.ensures c.flush.ensures

@@ -11,47 +11,44 @@ use Rattle.salvage_shell.proofs.Ends.{end-over}
 use Rattle.salvage_shell.proofs.Runs.{Holds, holds, filled_within, ended_held, short_over, short_ran, other_ran, took_ran}
 use Rattle.salvage_shell.proofs.run.Goals as goal
 
--- what the reads have left
-held_of : (s : goal.After-slurp-flow) → Holds s.slurp-flow.new.1.0 s.slurp-flow.result
-held_of s =
-    holds s.args.text.now s.slurp-flow.new.1.0 s.slurp-flow.result s.slurp-flow.auto.1.0 s.requires.0 s.slurp-flow.ensures
-
 pub slice_bounds-refuse-end : goal.slice_bounds-refuse-end
-slice_bounds-refuse-end c =
-    omega (arith, c.held-n.ensures, filled_within (held_of c.before))
+slice_bounds-refuse-end g c =
+    omega (arith, c.held-n.ensures, filled_within (holds c.args.text.now c.slurp-flow.new.buffer c.slurp-flow.result c.slurp-flow.auto.buffer c.requires.0 c.slurp-flow.ensures))
 
 pub refuse-requires : goal.refuse-requires
-refuse-requires c =
-    end-over (take (c.held-n.result - 0) (drop 0 c.slurp-flow.new.1.0))
-    (short_over (held_of c) c.held-n.result (sym c.is_short.ensures ∙ c.if-is_short.true) c.held-n.ensures)
+refuse-requires g c =
+    end-over (take (c.held-n.result - 0) (drop 0 c.slurp-flow.new.buffer))
+    (short_over (holds c.args.text.now c.slurp-flow.new.buffer c.slurp-flow.result c.slurp-flow.auto.buffer c.requires.0 c.slurp-flow.ensures) c.held-n.result (sym c.is_short.ensures ∙ c.if-is_short.true) c.held-n.ensures)
 
 pub returns-then-is_short : goal.returns-then-is_short
-returns-then-is_short c =
-    short_ran (held_of c.before) (sym c.is_short.ensures ∙ c.if-is_short.true)
+returns-then-is_short g c =
+    short_ran (holds c.args.text.now c.slurp-flow.new.buffer c.slurp-flow.result c.slurp-flow.auto.buffer c.requires.0 c.slurp-flow.ensures) (sym c.is_short.ensures ∙ c.if-is_short.true)
 
 pub slice_bounds-take-end : goal.slice_bounds-take-end
-slice_bounds-take-end c =
-    omega (arith, c.held-n.ensures, filled_within (held_of c.before))
+slice_bounds-take-end g c =
+    omega (arith, c.held-n.ensures, filled_within (holds c.args.text.now c.slurp-flow.new.buffer c.slurp-flow.result c.slurp-flow.auto.buffer c.requires.0 c.slurp-flow.ensures))
 
 pub take-requires : goal.take-requires
-take-requires c =
+take-requires g c =
     let q = sym c.is_end.ensures ∙ c.if-is_end.true in
-    let l = ended_held (held_of c) q in (
-      (l.1, q, c.slurp-flow.ensures.written),
-      (
-        lent_most c.held-n.result most_salvaged c.slurp-flow.new.1.0 (omega (arith, c.held-n.ensures, filled_within (held_of c)))
+    let h = holds c.args.text.now c.slurp-flow.new.buffer c.slurp-flow.result c.slurp-flow.auto.buffer c.requires.0 c.slurp-flow.ensures in
+    let l = ended_held h q in
+    record {
+      flow_value = (l.1, q, c.slurp-flow.ensures.written);
+      text_len_bound = (
+        lent_most c.held-n.result most_salvaged c.slurp-flow.new.buffer (omega (arith, c.held-n.ensures, filled_within h))
             (omega (arith, c.held-n.ensures, l.0)),
         c.requires.1,
         c.requires.2,
-      ),
-    )
+      );
+    }
 
 pub returns-then-is_end : goal.returns-then-is_end
-returns-then-is_end c =
+returns-then-is_end g c =
     let q = sym c.is_end.ensures ∙ c.if-is_end.true in
-    took_ran (held_of c.before) c.take.result c.held-n.result q c.held-n.ensures c.take.ensures
+    took_ran (holds c.args.text.now c.slurp-flow.new.buffer c.slurp-flow.result c.slurp-flow.auto.buffer c.requires.0 c.slurp-flow.ensures) c.take.result c.held-n.result q c.held-n.ensures c.take.ensures
 
 pub returns : goal.returns
-returns c =
-    other_ran (held_of c.before) (sym c.is_short.ensures ∙ c.if-is_short.false)
+returns g c =
+    other_ran (holds c.args.text.now c.slurp-flow.new.buffer c.slurp-flow.result c.slurp-flow.auto.buffer c.requires.0 c.slurp-flow.ensures) (sym c.is_short.ensures ∙ c.if-is_short.false)
     (sym c.is_end.ensures ∙ c.if-is_end.false)

@@ -6,14 +6,15 @@ use Rattle.salvage_shell.proofs.Rooms.{lent, lent_most}
 use Rattle.salvage_shell.proofs.show.Goals as goal
 
 pub print-shown-requires : goal.print-shown-requires
-print-shown-requires c =
+print-shown-requires g c =
     let a = c.args in
-    let p = c.requires in (
-      (p.0.0, p.0.1, p.0.2, lent_most a.image most_salvaged a.out.now p.1.0.0 (omega (arith, p.1.0.0, p.1.0.1))),
-      lent a.image a.out.now (salvage_prints a.text.now) p.1.1.0,
-    )
+    let p = c.requires in
+    record {
+      flow_value = (p.flow_value.0, p.flow_value.1, p.flow_value.2, lent_most a.image most_salvaged a.out.now p.image_in_bounds.0 (omega (arith, p.image_in_bounds)));
+      image_value = lent a.image a.out.now (salvage_prints a.text.now) p.out_value.0;
+    }
 
 pub say-requires : goal.say-requires
-say-requires c =
+say-requires g c =
     let a = c.args in
-    lent a.report a.words.now (salvage_tells a.text.now) c.requires.image_in_bounds.1.1
+    lent a.report a.words.now (salvage_tells a.text.now) c.requires.out_value.1

@@ -8,29 +8,26 @@ use Rattle.salvage_shell.proofs.Runs.{none-wrote}
 use Rattle.salvage_shell.proofs.take.Goals as goal
 
 pub refuse-requires : goal.refuse-requires
-refuse-requires c =
+refuse-requires g c =
     let a = c.args in
     let p = c.requires.text_len_bound in
     take-refused a.text.now a.out.now a.words.now p.0 p.1 p.2 _ (sym c.in-Refused.is ∙ c.salvage.ensures.value)
 
 pub show-requires : goal.show-requires
-show-requires c =
+show-requires g c =
     let a = c.args in
     let p = c.requires.text_len_bound in
     let e = c.salvage.ensures in
-    let k = c.salvage.auto.1 in
-    let o = c.salvage.new.1.0 in
-    let w = c.salvage.new.1.1.0 in
-    let d = take_done a.text.now a.out.now a.words.now p.0 p.1 p.2 _ _ o w (sym c.in-Done.is ∙ e.0) e.1.0 e.1.1 in (
-      c.requires.flow_value,
-      (
-        (omega (arith, d.first, k.0), omega (arith, p.1, k.0), omega (arith, d.second, k.1.0)),
-        (d.image, d.report),
-      ),
-    )
+    let k = c.salvage.auto in
+    let d = take_done a.text.now a.out.now a.words.now p.0 p.1 p.2 _ _ c.salvage.new.out c.salvage.new.report (sym c.in-Done.is ∙ e.value) e.out_after e.report_after in
+    record {
+      flow_value = c.requires.flow_value;
+      image_in_bounds = (omega (arith, d.first, k.out), omega (arith, p.1, k.out), omega (arith, d.second, k.report));
+      out_value = (d.image, d.report);
+    }
 
 pub returns-in-Refused : goal.returns-in-Refused
-returns-in-Refused c =
+returns-in-Refused g c =
     let a = c.args in
     let p = c.requires.text_len_bound in
     let t = a.text.now in

@@ -5,7 +5,7 @@ use borrow.Author.Rules.{rules}
 use Rattle.test_leaves.proofs.lines.Given as goal
 
 abbrev pub invariant-loop-read : goal.invariant-loop-read
-invariant-loop-read l = (read ≤ 1000000000) × (length text ≡ 65536)
+invariant-loop-read g l = (l.read ≤ 1000000000) × (length l.text ≡ 65536)
 
 abbrev pub decreases-loop-read : goal.decreases-loop-read
-decreases-loop-read l = 1000000000 - read
+decreases-loop-read g l = 1000000000 - l.read

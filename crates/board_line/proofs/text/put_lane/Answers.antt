@@ -36,8 +36,12 @@ put_word-requires-2 c =
     let n = c.race.result in
     rw c.crew_of.ensures (omega (
       arith,
-      c.put_number-next.ensures.written.place, long_one a.lane c.requires.0, length-append (dec_text a.lane) (9 ∷ []),
-      c.put_number-after.ensures.written.place, race_room n c.race.ensures.1, length-append (dec_text n) (9 ∷ []),
+      c.put_number-next.ensures.written.place,
+      long_one a.lane c.requires.0,
+      length-append (dec_text a.lane) (9 ∷ []),
+      c.put_number-after.ensures.written.place,
+      race_room n c.race.ensures.1,
+      length-append (dec_text n) (9 ∷ []),
       crew_most a.b.now,
     ))
 
@@ -54,7 +58,12 @@ returns-clause-upper_bound c =
     let n = c.race.result in
     omega (
       arith,
-      c.put_number-next.ensures.written.place, long_one a.lane c.requires.0, length-append (dec_text a.lane) (9 ∷ []),
-      c.put_number-after.ensures.written.place, race_room n c.race.ensures.1, length-append (dec_text n) (9 ∷ []),
-      rw c.crew_of.ensures at c.put_word-2.ensures.upper_bound, crew_most a.b.now,
+      c.put_number-next.ensures.written.place,
+      long_one a.lane c.requires.0,
+      length-append (dec_text a.lane) (9 ∷ []),
+      c.put_number-after.ensures.written.place,
+      race_room n c.race.ensures.1,
+      length-append (dec_text n) (9 ∷ []),
+      rw c.crew_of.ensures at c.put_word-2.ensures.upper_bound,
+      crew_most a.b.now,
     )

@@ -1,6 +1,6 @@
 -- The card that the bytes encode, and as many bytes for the read as there are for the records, up to 128.
 use native.Mathlib.Omega.{arith}
-use Prim.Native.Nat.{ℕ}
+use Prim.Native.Nat.{ℕ, ◌-◌}
 use mathlib.Core.Path.{◌≡◌, ◌∙◌}
 use mathlib.Core.List.{List}
 use lib.ListN.{length, take, replicate}
@@ -25,8 +25,7 @@ pub returns : goal.returns
 returns c =
     let a = c.args in
     let n = c.room-lent.result in
-    let l = length-take-le {A = ℕ} n (replicate 128 0) (omega (arith, c.room-lent.ensures.1)) in
-    let w =
-    board-is c.decode-own.result (card_decoded a.card.now) a.arena.now a.lanes.now (take n (replicate 128 0)) a.code
-    c.decode-own.ensures (l ∙ c.room-lent.ensures.0) c.filled.ensures.value c.filled.ensures.lanes_after in
+    let z : n - 0 ≡ n = omega arith in
+    let l = length-take-le {A = ℕ} (n - 0) (replicate 128 0) (omega (arith, c.room-lent.ensures.1)) ∙ z in
+    let w = board-is c.decode-own.result (card_decoded a.card.now) a.arena.now a.lanes.now (take (n - 0) (replicate 128 0)) a.code c.decode-own.ensures (l ∙ c.room-lent.ensures.0) c.filled.ensures.value c.filled.ensures.lanes_after in
     record { value = w.0; lanes_after = w.1 }

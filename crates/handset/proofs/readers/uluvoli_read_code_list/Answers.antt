@@ -38,13 +38,13 @@ overflow_mul-list-in-Done c = omega (arith, few _ c.read_code_list-read.ensures)
 
 pub fill-requires : goal.fill-requires
 fill-requires c =
-    let b = both _ _ _ c.judged-answer.ensures c.in-Done.is in
+    let b = both _ _ c.read_code_list-read.result c.judged-answer.ensures c.in-Done.is in
     let l = long _ c.read_code_list-read.ensures in
     simp length-take (omega (arith, b.0, few _ c.read_code_list-read.ensures, l.0), b.0)
 
 pub fill-requires-in-Done : goal.fill-requires-in-Done
 fill-requires-in-Done c =
-    let b = both _ _ _ c.judged-answer.ensures c.in-Done.is in
+    let b = both _ _ c.read_code_list-read.result c.judged-answer.ensures c.in-Done.is in
     let l = long _ c.read_code_list-read.ensures in
     simp length-take (omega (arith, b.1, few _ c.read_code_list-read.ensures, l.1), b.1)
 

@@ -10,5 +10,5 @@ read_codes-requires c = (c.requires.0, c.find_ends-ends.ensures)
 pub returns : goal.returns
 returns c =
     let w =
-        codes-put c.args.line.now c.requires.1 c.args.codes.now c.requires.2 c.read_codes.ensures.value.0 c.read_codes.ensures.codes_after in
+    codes-put c.args.line.now c.requires.1 c.args.codes.now c.requires.2 c.read_codes.ensures.value.0 c.read_codes.ensures.codes_after in
     record { value = w.0; codes_after = w.1 }

@@ -30,13 +30,13 @@ loop-i-preserved c =
     let below : c.loop-i.i < length codes = omega arith in
     let here : c.loop-i.i < 16 = omega arith in
     let looked : c.loop-k-test.rows ≡ set c.loop-i.rows c.loop-i.i (row_of (take a.count a.nodes) (get_or codes c.loop-i.i 0)) =
-        elim c.loop-k-test.branch [
-          | else-loop-k-test w ↦
-              filled_once (c.unknown_row.ensures ∙ no_service r _ refl (sym (done inv.1 w.loop-k-test.false))) c.loop-i.rows c.loop-i.i (w.rows-is ∙ inv.0)
-          | then-loop-k-test+then-is_service_of w ↦
-              filled_anew (w.row_by.ensures ∙ found_row_lem r _ refl (sym (hit _ _ inv.1 w.loop-k-test.true (sym w.is_service_of.ensures ∙ w.if-is_service_of.true))) _)
-              c.loop-i.rows c.loop-i.i _ inv.0 w.rows-is
-        ] in (
+    elim c.loop-k-test.branch [
+      | else-loop-k-test w ↦
+          filled_once (c.unknown_row.ensures ∙ no_service r _ refl (sym (done inv.1 w.loop-k-test.false))) c.loop-i.rows c.loop-i.i (w.rows-is ∙ inv.0)
+      | then-loop-k-test+then-is_service_of w ↦
+          filled_anew (w.row_by.ensures ∙ found_row_lem r _ refl (sym (hit _ _ inv.1 w.loop-k-test.true (sym w.is_service_of.ensures ∙ w.if-is_service_of.true))) _)
+          c.loop-i.rows c.loop-i.i _ inv.0 w.rows-is
+    ] in (
       omega arith,
       omega arith,
       c.loop-i.invariant.2,

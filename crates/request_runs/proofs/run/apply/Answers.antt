@@ -56,13 +56,13 @@ runs-preserved c =
     let i = c.scan.invariant in
     let e = c.close_run in
     let closing : Closing i =
-        elim c.scan-test.branch [
-          | else-scan-test w ↦ counted_out i w.scan-test.false
-          | then-scan-test+in_default-unpack w ↦ cut_short i w.scan-test.true (sym w.unpack-in-scan.ensures ∙ w.in_default-unpack.is)
-          | then-scan-test+in-Element-unpack+then-number_of-number w ↦
-              let h = sym w.unpack-in-scan.ensures ∙ w.in-Element-unpack.is in
-              other_number i w.scan-test.true h (ready_row c.args.table sixteen (each_ready i w.scan-test.true h) _) w.number_of.ensures w.if-number_of-number.true
-        ] in
+    elim c.scan-test.branch [
+      | else-scan-test w ↦ counted_out i w.scan-test.false
+      | then-scan-test+in_default-unpack w ↦ cut_short i w.scan-test.true (sym w.unpack-in-scan.ensures ∙ w.in_default-unpack.is)
+      | then-scan-test+in-Element-unpack+then-number_of-number w ↦
+          let h = sym w.unpack-in-scan.ensures ∙ w.in-Element-unpack.is in
+          other_number i w.scan-test.true h (ready_row c.args.table sixteen (each_ready i w.scan-test.true h) _) w.number_of.ensures w.if-number_of-number.true
+    ] in
     closes i closing e.result e.new.stage e.ensures c.runs.invariant e.auto.stage c.in_default-close_run.is
 
 pub returns-after-runs : goal.returns-after-runs
@@ -87,11 +87,11 @@ returns-in-Failed-close_run c =
     let i = c.scan.invariant in
     let e = c.close_run in
     let closing : Closing i =
-        elim c.scan-test.branch [
-          | else-scan-test w ↦ counted_out i w.scan-test.false
-          | then-scan-test+in_default-unpack w ↦ cut_short i w.scan-test.true (sym w.unpack-in-scan.ensures ∙ w.in_default-unpack.is)
-          | then-scan-test+in-Element-unpack+then-number_of-number w ↦
-              let h = sym w.unpack-in-scan.ensures ∙ w.in-Element-unpack.is in
-              other_number i w.scan-test.true h (ready_row c.args.table sixteen (each_ready i w.scan-test.true h) _) w.number_of.ensures w.if-number_of-number.true
-        ] in
+    elim c.scan-test.branch [
+      | else-scan-test w ↦ counted_out i w.scan-test.false
+      | then-scan-test+in_default-unpack w ↦ cut_short i w.scan-test.true (sym w.unpack-in-scan.ensures ∙ w.in_default-unpack.is)
+      | then-scan-test+in-Element-unpack+then-number_of-number w ↦
+          let h = sym w.unpack-in-scan.ensures ∙ w.in-Element-unpack.is in
+          other_number i w.scan-test.true h (ready_row c.args.table sixteen (each_ready i w.scan-test.true h) _) w.number_of.ensures w.if-number_of-number.true
+    ] in
     c.runs.invariant.same ∙ end-failed i closing e.result e.new.stage e.ensures c.in-Failed-close_run.is
