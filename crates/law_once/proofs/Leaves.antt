@@ -8,9 +8,10 @@ use types.Logic.{Logic}
 use contract.Monad.{Fun}
 use Rattle.law_once.specs.One.{OneAnswer}
 use Rattle.law_once.proofs.Law.{once, of_one, of_two, result}
+use Rattle.byte_scan.specs.contracts.find as byte_scan·find
 use Rattle.byte_parts.specs.contracts.spans.least as byte_parts·least
 use Rattle.byte_block.specs.contracts.copy_block as byte_block·copy-block
-use Rattle.byte_parts.specs.contracts.spans.copy as byte_parts-copy
+use Rattle.byte_parts.specs.contracts.spans.copy as byte_parts·copy
 use Rattle.byte_parts.specs.contracts.spans.zero as byte_parts·zero
 use Rattle.byte_parts.specs.contracts.spans.same as byte_parts·same
 use Rattle.byte_parts.specs.contracts.half.half as byte_parts·half
@@ -55,10 +56,13 @@ module _ {M : Type 1} {𝓤 : Ura M} (𝓛 : Logic 𝓤) (mem : Memory → SProp
   pub byte_parts·least-once : OneAnswer 𝓤 byte_parts·least.ended (byte_parts·least.clauses 𝓛 mem run)
   byte_parts·least-once κs a g r r' ws ws' = result 𝓤 refl
 
+  pub byte_scan·find-once : OneAnswer 𝓤 byte_scan·find.ended (byte_scan·find.clauses 𝓛 mem run)
+  byte_scan·find-once κs a g r r' ws ws' = of_two 𝓤 (λ p p' q q'. (once p q, refl))
+
   pub byte_block·copy-block-once : OneAnswer 𝓤 byte_block·copy-block.ended (byte_block·copy-block.clauses 𝓛 mem run)
   byte_block·copy-block-once κs a g r r' ws ws' = of_one 𝓤 (λ p q. (refl, λ i. (once p q i, (tt, (tt, (tt, tt))))))
 
-  pub byte_parts·copy-once : OneAnswer 𝓤 byte_parts-copy.ended (byte_parts-copy.clauses 𝓛 mem run)
+  pub byte_parts·copy-once : OneAnswer 𝓤 byte_parts·copy.ended (byte_parts·copy.clauses 𝓛 mem run)
   byte_parts·copy-once κs a g r r' ws ws' = of_one 𝓤 (λ p q. (refl, λ i. (once p q i, (tt, (tt, (tt, (tt, tt)))))))
 
   pub byte_parts·zero-once : OneAnswer 𝓤 byte_parts·zero.ended (byte_parts·zero.clauses 𝓛 mem run)

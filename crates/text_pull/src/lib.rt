@@ -364,6 +364,11 @@ fn say_why(rt: &impl Eprint, words: &str, reason: &str) {
         Some((why, _)) => why,
         None => reason,
     };
+    print_why(rt, words, why);
+}
+
+// Prints words and a reason on standard error.
+fn print_why(rt: &impl Eprint, words: &str, why: &str) {
     let _ = eprintln!(rt; "{words}: {why}");
 }
 
