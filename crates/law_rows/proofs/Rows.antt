@@ -34,43 +34,43 @@ abbrev block : ℕ → List ℕ
 block n = replicate block_size n
 
 -- 1048: number 41h, keyed random.
-abbrev P1 : Type 0
+abbrev pub P1 : Type 0
 P1 = (number_of 0x1048 ≡ 0x41) × (attribute_of 0x1048 ≡ Defined RandomReadWrite) × (requires_key 0x1048 ≡ true)
 
 -- Pack 255, index 1, mode 0: 81 FF.
-abbrev P2 : Type 0
+abbrev pub P2 : Type 0
 P2 = pack_of (record { number = 255; index = 1; mode = 0 }) ≡ 0x81 ∷ 0xff ∷ []
 
 -- Pack 256, index 1, mode 1: 11 00 01.
-abbrev P3 : Type 0
+abbrev pub P3 : Type 0
 P3 = pack_of (record { number = 256; index = 1; mode = 1 }) ≡ 0x11 ∷ 0x00 ∷ 0x01 ∷ []
 
 -- Bitmap 81h: 1, 8, 9.
-abbrev P4 : Type 0
+abbrev pub P4 : Type 0
 P4 = places_of 0x81 ≡ 1 ∷ 8 ∷ 9 ∷ []
 
 -- FFh: fifteen.
-abbrev P5 : Type 0
+abbrev pub P5 : Type 0
 P5 = places_of 0xff ≡ 1 ∷ 2 ∷ 3 ∷ 4 ∷ 5 ∷ 6 ∷ 7 ∷ 8 ∷ 9 ∷ 10 ∷ 11 ∷ 12 ∷ 13 ∷ 14 ∷ 15 ∷ []
 
 -- Purse 100, ids unequal: less 100 gives 0.
-abbrev P6 : Type 0
+abbrev pub P6 : Type 0
 P6 = purse_rule Decrement Unlimited (fields 100 0 1) (fields 100 0 2) ≡ Stored 0 100
 
 -- Less 101 gives 01.
-abbrev P7 : Type 0
+abbrev pub P7 : Type 0
 P7 = (purse_rule Decrement Unlimited (fields 100 0 1) (fields 101 0 2) ≡ Failed OutsideWord) × (sf2_of OutsideWord ≡ 0x01)
 
 -- The same with equal ids is unchanged.
-abbrev P8 : Type 0
+abbrev pub P8 : Type 0
 P8 = purse_rule Decrement Unlimited (fields 100 0 1) (fields 101 0 1) ≡ Unchanged
 
 -- Cashback held 30: 30 passes.
-abbrev P9 : Type 0
+abbrev pub P9 : Type 0
 P9 = purse_rule Cashback Unlimited (fields 100 30 1) (fields 30 0 2) ≡ Stored 130 0
 
 -- 31 is 02.
-abbrev P10 : Type 0
+abbrev pub P10 : Type 0
 P10 = (purse_rule Cashback Unlimited (fields 100 30 1) (fields 31 0 2) ≡ Failed CashbackExceeds) × (sf2_of CashbackExceeds ≡ 0x02)
 
 -- The limit of the next two: -50 to 200.
@@ -78,28 +78,28 @@ abbrev narrow : Limit
 narrow = Limited (pos 200) (negsuc 49) 0
 
 -- Purse 0: less 50 stores CE FF FF FF. Of the block's other bytes, 4 to 7 are the amount, 8 to 11 kept, 12 to 15 the command's.
-abbrev P11 : Type 0
+abbrev pub P11 : Type 0
 P11 =
     (purse_rule Decrement narrow (fields 0 0 1) (fields 50 0 2) ≡ Stored 0xffff_ffce 50)
     × (purse_applied Decrement narrow (replicate 8 0 ++ replicate 4 7 ++ replicate 4 1) (50 ∷ replicate 11 0 ++ replicate 4 2)
     ≡ passed (0xce ∷ 0xff ∷ 0xff ∷ 0xff ∷ 50 ∷ 0 ∷ 0 ∷ 0 ∷ replicate 4 7 ++ replicate 4 2))
 
 -- Less 51 is 03.
-abbrev P12 : Type 0
+abbrev pub P12 : Type 0
 P12 = (purse_rule Decrement narrow (fields 0 0 1) (fields 51 0 2) ≡ Failed OutsideLimits) × (sf2_of OutsideLimits ≡ 0x03)
 
 -- Cyclic x y z: p q gives p q x.
-abbrev P13 : Type 0
+abbrev pub P13 : Type 0
 P13 = cyclic_of (block 1 ++ block 2 ++ block 3) (block 4 ++ block 5) ≡ passed (block 4 ++ block 5 ++ block 1)
 
 -- Four blocks are AF.
-abbrev P14 : Type 0
+abbrev pub P14 : Type 0
 P14 =
     (cyclic_of (block 1 ++ block 2 ++ block 3) (block 4 ++ block 5 ++ block 6 ++ block 7) ≡ failed CyclicTooLong)
     × (sf2_of CyclicTooLong ≡ 0xaf)
 
 -- Index 253 is place 254, 254 and 300 are 255.
-abbrev P15 : Type 0
+abbrev pub P15 : Type 0
 P15 = (sf1_of 253 ≡ 254) × (sf1_of 254 ≡ 255) × (sf1_of 300 ≡ 255)
 
 -- Codes and elements of a list.
@@ -125,7 +125,3 @@ cyclic_rows = (refl, (refl, refl))
 -- The place of an error.
 pub place_rows : P15
 place_rows = (refl, refl, refl)
-
--- All of them.
-pub rows : (P1 × P2 × P3) × (P4 × P5) × (P6 × P7 × P8 × P9 × P10 × P11 × P12) × (P13 × P14) × P15
-rows = (packed_rows, bitmap_rows, purse_rows, cyclic_rows, place_rows)
