@@ -96,6 +96,7 @@ fn given_under(
 }
 
 // Where the store of a service of `code` and `blocks` at `depth` after `count` nodes lies, or its refusal.
+#[inline(never)]
 pub fn place_service(
     nodes: [Node; 64],
     count: usize,

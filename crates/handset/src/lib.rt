@@ -1,5 +1,5 @@
-// The calls that programs in C and Rust link (include/uluvoli.h). The card is bytes that the caller keeps: every call decodes
-// them, asks the card, and answers one number (`outcome`). No call requires anything of what it is lent.
+// What the calls of include/uluvoli.h do and promise; `handset_c` has each under its name in C. The card is bytes that the caller
+// keeps: every call decodes them, asks the card, and answers one number (`outcome`). No call requires anything of what it is lent.
 #![tactic(auto)]
 
 pub mod blocks;

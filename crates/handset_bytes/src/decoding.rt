@@ -9,6 +9,7 @@ use card_build::card::{Card, System};
 use card_nodes::node::Node;
 
 // What stands for the card of bytes that encode none. It has not even a root, so that every call on it is refusal 8.
+#[inline(never)]
 fn none() -> Card
     ensures { result ≡ no_card }
 {

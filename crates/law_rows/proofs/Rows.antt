@@ -1,4 +1,4 @@
--- Fifteen worked rows, subject by subject and in one statement, which the definitions compute: so they say what the rules say, at these values at least. Assumes nothing.
+-- Fifteen worked rows, subject by subject (`Whole` has them in one statement), which the definitions compute: so they say what the rules say, at these values at least. Assumes nothing.
 use Prim.Native.Nat.{ℕ}
 use mathlib.Core.Path.{◌≡◌, refl}
 use mathlib.Core.Bool.{true}

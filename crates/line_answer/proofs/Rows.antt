@@ -12,7 +12,7 @@ use Rattle.request_plan.specs.declared.Reply.TheVariants.{Refused, Done, ShortDa
 use Rattle.line_answer.specs.Answer.{where_text, status_fields, refusal_fields, cause_text, answer_text, refused_text}
 
 -- `1 00 00 - - -`, `2 00 00 - 11AB -`, `3 01 A8 1 - -`, `4 02 A5 2 - 1`,
--- `5 01 A5 1 - 7`, `6 01 AF 1 - -`, `10 FF Ac * - -`, `10 FE A8 254 - -`,
+-- `5 01 A5 1 - 7`, `6 01 AF 1 - -`, `10 FF AC * - -`, `10 FE A8 254 - -`,
 -- `10 FF A5 * - 1` (the 255th element), `11 ! 6 - - -` and `12 ! 41 - - -`.
 pub answer_rows
     : (answer_text 1 Done [] ≡ 49 ∷ 9 ∷ 48 ∷ 48 ∷ 9 ∷ 48 ∷ 48 ∷ 9 ∷ 45 ∷ 9 ∷ 45 ∷ 9 ∷ 45 ∷ 10 ∷ [])

@@ -105,7 +105,7 @@ fn wiped_write(
     data: &[u8],
 ) -> Reply
     requires { (judged_of card (length arena.old) (write_request «open» codes.now count list.now «data».now (length staging.old)) ≡ Fit) × Looked card true «open» codes.now list.now count settled }
-    ensures { WriteLeaves (serve card arena.old (write_request «open» codes.now count list.now «data».now (length staging.old))) result arena.new (staging.new ≡ staging_left card result staging.old) }
+    ensures wiped { WriteLeaves (serve card arena.old (write_request «open» codes.now count list.now «data».now (length staging.old))) result arena.new (staging.new ≡ staging_left card result staging.old) }
 {
     let reply = checked_write(
         card, settled, arena, staging, open, codes, list, count, data,

@@ -1,4 +1,4 @@
-// Salvage over a text: it is read whole, its image goes to standard output and the report to standard error.
+// Salvage over a text: it is read whole, its image goes to where is written and the report to standard error.
 #![tactic(auto)]
 
 ghost use Rattle.std.specs.Prelude.{◌+◌, ◌≤◌, ◌≡◌, true, false, length, take};

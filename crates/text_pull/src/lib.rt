@@ -4,7 +4,7 @@
 pub mod whole;
 pub mod writing;
 
-ghost use Rattle.std.specs.Prelude.{◌≡◌, true, false, ◌+◌, ◌≤◌, ◌<◌, length};
+ghost use Rattle.std.specs.Prelude.{◌≡◌, true, false, ◌+◌, ◌≤◌, ◌<◌, length, pos};
 ghost use Rattle.text_pull.specs.Pull.{flow_start, is_interrupt, error_stage, came_stage, stage_of, read_of, Refilled, stage_open, goes_on, at_end, last_of, fed_of, is_line, is_end, Pulled, took_of, closed_of, write_fault, fault_of};
 
 use std::io::{Error, ErrorKind, Read, Result, Write};
@@ -75,7 +75,9 @@ pub struct Ends<R, W> {
 
 impl<R, W> Ends<R, W> {
     // Ends over which no call has failed.
-    pub fn new(from: R, to: W) -> Ends<R, W> {
+    pub fn new(from: R, to: W) -> Ends<R, W>
+        ensures { (result.from ≡ from) × (result.to ≡ to) × (result.errno ≡ pos 0) }
+    {
         Ends { from, to, errno: 0 }
     }
 }

@@ -21,4 +21,6 @@ returns c =
     let a = c.args in
     let w = c.checked_write-reply in
     let m = w.ensures in
-    (m.0, (m.1.0, wiped a.card a.arena.now (write_request a.«open» a.codes.now a.count a.list.now a.«data».now (length a.staging.now)) c.requires.0 refl a.staging.now w.new.staging _ m.0 refl w.auto.staging m.1.1 c.zero.ensures))
+    record {
+      wiped = (m.0, (m.1.0, wiped a.card a.arena.now (write_request a.«open» a.codes.now a.count a.list.now a.«data».now (length a.staging.now)) c.requires.0 refl a.staging.now w.new.staging _ m.0 refl w.auto.staging m.1.1 c.zero.ensures));
+    }

@@ -32,4 +32,4 @@ returns-in-ShortData c =
     (o.0, (o.1, c.zero.ensures))
 
 pub returns-in-Fit : goal.returns-in-Fit
-returns-in-Fit c = c.wiped_write.ensures
+returns-in-Fit c = c.wiped_write.ensures.wiped
