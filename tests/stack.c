@@ -301,6 +301,25 @@ static void ask(uint16_t wanted_total) {
     expect("add_service, refused", add_service, ULUVOLI_TABLE_FULL << 16);
 }
 
+/* Every call on a card whose last record is of no kind, so that the bytes encode none: refusal 8. */
+static void ask_none(void) {
+    static const struct {
+        const char *name;
+        void (*one)(void);
+    } asked[] = {
+        {"add_area", add_area},   {"add_service", add_service},   {"set_limit", set_limit},       {"set_block", set_block},
+        {"read", read_blocks},    {"stored_block", stored_block}, {"write", write_blocks},        {"board", board},
+        {"total", total},         {"directory", directory},       {"key_version", key_version},   {"area_list", area_list},
+        {"code_list", code_list}, {"service_list", service_list}, {"information", block_information},
+    };
+    card_name = "bytes of no card";
+    make(flat_areas, ULUVOLI_NODES_MOST - 1);
+    card[32 + 2 * (ULUVOLI_NODES_MOST - 1)] = 3; /* its kind */
+    for (size_t i = 0; i < sizeof asked / sizeof *asked; i++) {
+        expect(asked[i].name, asked[i].one, ULUVOLI_NOT_BUILT << 16);
+    }
+}
+
 int main(int argc, char **argv) {
     must(argc == 2, "usage: stack SIZE");
     make_stack(strtoul(argv[1], NULL, 10));
@@ -314,6 +333,7 @@ int main(int argc, char **argv) {
         expect("add_service", add_service, 0);
         expect("new", new_card, 0);
     }
+    ask_none();
     printf("%u calls on %zu bytes of stack; the most, %zu, took %s on %s\n", calls, stack_len, most, most_call, most_card);
     return 0;
 }
