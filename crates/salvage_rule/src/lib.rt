@@ -118,7 +118,7 @@ pub fn rules_after(rules: Rules, depth: Depth, svc: bool, fate: Fate) -> Rules
             orphaned: false,
         },
         Fate::Parent => Rules {
-            stretch: ended(stretch, depth),
+            stretch: ended(stretch, depth), // and it begins none
             orphaned: orphans(rules.orphaned, svc),
         },
         Fate::Number(_) => Rules {
