@@ -1,6 +1,7 @@
 // A text pulled line by line: where the reading is, what a read brings, the next whole line, what a line leaves, what a write leaves.
 #![tactic(auto)]
 
+mod saying;
 pub mod whole;
 pub mod writing;
 
@@ -352,55 +353,13 @@ fn fault_of(flow: Flow) -> Fault
     write_fault(flow.stage)
 }
 
-// Says words on standard error, and behind them why the call with this error failed.
-fn say(rt: &(impl Eprint + Alloc), words: &str, errno: i32) {
-    match Error::from_raw_os_error(errno).to_string(rt.alloc()) {
-        Ok(reason) => say_why(rt, words, reason.as_str()),
-        Err(_) => say_why(rt, words, ""),
-    }
-}
-
-// Says words on standard error, and behind them a reason, without its number.
-fn say_why(rt: &impl Eprint, words: &str, reason: &str) {
-    let why = match reason.split_once(" (os error ") {
-        Some((why, _)) => why,
-        None => reason,
-    };
-    print_why(rt, words, why);
-}
-
-// Prints words and a reason on standard error.
-fn print_why(rt: &impl Eprint, words: &str, why: &str) {
-    let _ = eprintln!(rt; "{words}: {why}");
-}
-
-// Says on standard error that a read failed, and why.
-fn say_unread(rt: &(impl Eprint + Alloc), errno: i32) {
-    say(rt, "failed: the text could not be read", errno);
-}
-
-// Says on standard error that a write failed, and why.
-fn say_unwritten(rt: &(impl Eprint + Alloc), errno: i32) {
-    say(rt, "failed: the answers could not be written", errno);
-}
-
-// Says on standard error that a write took nothing: no call failed, so there is no reason to give.
-fn say_untaken(rt: &impl Eprint) {
-    let _ = rt.eprintln("failed: the answers could not be written: a write took nothing");
-}
-
-// Says on standard error that the turns are used up.
-fn say_unended(rt: &impl Eprint) {
-    let _ = rt.eprintln("failed: the turns are used up before the text has ended");
-}
-
 // Says on standard error what failed, in one line; where nothing did, nothing.
 pub fn report<R, W>(rt: &(impl Eprint + Alloc), ends: &Ends<R, W>, flow: Flow) {
     match fault_of(flow) {
         Fault::Nothing => {}
-        Fault::Unread => say_unread(rt, errno(ends)),
-        Fault::Unwritten => say_unwritten(rt, errno(ends)),
-        Fault::Untaken => say_untaken(rt),
-        Fault::Unended => say_unended(rt),
+        Fault::Unread => saying::say_unread(rt, errno(ends)),
+        Fault::Unwritten => saying::say_unwritten(rt, errno(ends)),
+        Fault::Untaken => saying::say_untaken(rt),
+        Fault::Unended => saying::say_unended(rt),
     }
 }

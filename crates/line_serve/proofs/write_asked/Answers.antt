@@ -25,42 +25,13 @@ slice_bounds-write-end-2 c = omega (arith, data_room (write_fields_lem _ c.requi
 pub slice_bounds-write-end-3 : goal.slice_bounds-write-end-3
 slice_bounds-write-end-3 c = omega (arith, data_room (write_fields_lem _ c.requires.0).0 c.requires.1)
 
-pub returns-clause-value : goal.returns-clause-value
-returns-clause-value c =
+pub returns : goal.returns
+returns c =
     let a = c.args in
     let n = c.read_codes-n in
     let p = c.put_field-middle.ensures in
     let q = c.put_field-last.ensures in
     let o = c.write.ensures in
-    (write-line a.card a.arena.now a.work.now a.line.now n.result n.new.codes (as_many _ (codes_in a.line.now) n.ensures.value.0 n.ensures.codes_after).1 c.requires.0 a.bytes.now (data_room (write_fields_lem _ c.requires.0).0 c.requires.1)
-    p.value q.value p.bytes_after q.bytes_after o.0 o.1.0 o.1.1).0
-
-pub returns-clause-arena_after : goal.returns-clause-arena_after
-returns-clause-arena_after c =
-    let a = c.args in
-    let n = c.read_codes-n in
-    let p = c.put_field-middle.ensures in
-    let q = c.put_field-last.ensures in
-    let o = c.write.ensures in
-    (write-line a.card a.arena.now a.work.now a.line.now n.result n.new.codes (as_many _ (codes_in a.line.now) n.ensures.value.0 n.ensures.codes_after).1 c.requires.0 a.bytes.now (data_room (write_fields_lem _ c.requires.0).0 c.requires.1)
-    p.value q.value p.bytes_after q.bytes_after o.0 o.1.0 o.1.1).1.0
-
-pub returns-clause-work_after : goal.returns-clause-work_after
-returns-clause-work_after c =
-    let a = c.args in
-    let n = c.read_codes-n in
-    let p = c.put_field-middle.ensures in
-    let q = c.put_field-last.ensures in
-    let o = c.write.ensures in
-    (write-line a.card a.arena.now a.work.now a.line.now n.result n.new.codes (as_many _ (codes_in a.line.now) n.ensures.value.0 n.ensures.codes_after).1 c.requires.0 a.bytes.now (data_room (write_fields_lem _ c.requires.0).0 c.requires.1)
-    p.value q.value p.bytes_after q.bytes_after o.0 o.1.0 o.1.1).1.1.0
-
-pub returns-clause-bytes_after : goal.returns-clause-bytes_after
-returns-clause-bytes_after c =
-    let a = c.args in
-    let n = c.read_codes-n in
-    let p = c.put_field-middle.ensures in
-    let q = c.put_field-last.ensures in
-    let o = c.write.ensures in
-    (write-line a.card a.arena.now a.work.now a.line.now n.result n.new.codes (as_many _ (codes_in a.line.now) n.ensures.value.0 n.ensures.codes_after).1 c.requires.0 a.bytes.now (data_room (write_fields_lem _ c.requires.0).0 c.requires.1)
-    p.value q.value p.bytes_after q.bytes_after o.0 o.1.0 o.1.1).1.1.1
+    let w = write-line a.card a.arena.now a.work.now a.line.now n.result n.new.codes (as_many _ (codes_in a.line.now) n.ensures.value.0 n.ensures.codes_after).1 c.requires.0 a.bytes.now (data_room (write_fields_lem _ c.requires.0).0 c.requires.1)
+    p.value q.value p.bytes_after q.bytes_after o.0 o.1.0 o.1.1 in
+    record { value = w.0; arena_after = w.1.0; work_after = w.1.1.0; bytes_after = w.1.1.1 }
