@@ -1,3 +1,4 @@
 pub mod Status
 pub mod Refusal
 pub mod Outcome
+pub mod Failure

@@ -56,20 +56,6 @@ pub enum Refusal {
     OutputTooShort,
 }
 
-// How a call ended.
-#[derive(Clone, Copy)]
-pub enum Answer {
-    Done,
-    Refused(Refusal),
-}
-
-// A number of 16 bits, or why there is none.
-#[derive(Clone, Copy)]
-pub enum Told {
-    Number(u16),
-    Refused(Refusal),
-}
-
 impl Refusal {
     // Gives the number of a refusal. Numbers that are left out are no refusal's, but 40 to 43, which are a board's.
     pub fn number(self) -> u8

@@ -98,7 +98,7 @@ impl Fault {
 fn held(index: usize) -> u8
     ensures { result ≡ min index 254 }
 {
-    if index < 254 { index as u8 } else { 254 }
+    index.min(254) as u8
 }
 
 // Gives status flag 1 of an error at `index` of the block list, counted from 0: its place, counted from 1, and 255 for any place that
@@ -109,9 +109,9 @@ pub fn list_error_index(index: usize) -> u8
     held(index) + 1
 }
 
-// How a rule ended: the bytes lent to it are now those to store, or it failed and they are as they were.
+// The first element of a list that fails, by its index, from 0, and why.
 #[derive(Clone, Copy)]
-pub enum Written {
-    Done,
-    Failed(Fault),
+pub struct Failure {
+    pub index: usize,
+    pub fault: Fault,
 }

@@ -1,4 +1,5 @@
 -- Lists of elements, one step at a time, and how many elements a list has that ends where it should.
+use Rattle.std.proofs.Common.{Option, Some, None}
 use Prim.Native.Nat.{ℕ, zero, suc, ◌-◌, ◌<◌}
 use native.Mathlib.Omega.{arith}
 use mathlib.Core.Path.{◌≡◌, refl, ap}
@@ -7,10 +8,16 @@ use mathlib.Core.List.{List, [], ◌∷◌}
 use lib.ListN.{length}
 use Rattle.block_list.specs.declared.element.BlockListElement.{BlockListElement}
 use Rattle.block_list.specs.declared.element.Unpacked.{Unpacked}
-use Rattle.block_list.specs.declared.element.Unpacked.TheVariants.{Element, Short}
 use Rattle.block_list.specs.Element.{unpack_at, after_element, ends_from, elements_from}
+use Rattle.block_list.specs.Unpacked.{unpacked_as}
 
-module _ (s : List ℕ) (at n : ℕ) (left : 0 < n) (short : unpack_at s at ≡ Short) where
+-- an element and the place past it are one alone
+pub unpacked_is : {e f : BlockListElement} {m n : ℕ} → unpacked_as e m ≡ unpacked_as f n → (e ≡ f) × (m ≡ n)
+unpacked_is {e} {f} {m} {n} h =
+    let r : ◌≡◌ {A = Unpacked} (record { element = e; next = m }) (record { element = f; next = n }) = cc in
+    (ap (λ (u : Unpacked). u.element) r, ap (λ (u : Unpacked). u.next) r)
+
+module _ (s : List ℕ) (at n : ℕ) (left : 0 < n) (short : unpack_at s at ≡ None) where
   -- at least one is left
   more : n ≡ suc (n - 1)
   more = omega arith
@@ -25,7 +32,7 @@ module _ (s : List ℕ) (at n : ℕ) (left : 0 < n) (short : unpack_at s at ≡ 
   unfolding elements_from
   elements_short = rw (more, short)
 
-module _ (s : List ℕ) (at : ℕ) {n m next : ℕ} {e : BlockListElement} (left : n ≡ suc m) (here : unpack_at s at ≡ Element e next) where
+module _ (s : List ℕ) (at : ℕ) {n m next : ℕ} {e : BlockListElement} (left : n ≡ suc m) (here : unpack_at s at ≡ unpacked_as e next) where
   -- where an element stands, the n elements end as the m after it do from the next place on
   pub ends_element : ends_from s n at ≡ ends_from s m next
   unfolding ends_from
@@ -44,8 +51,8 @@ ends-count s (suc n) at h = each (unpack_at s at) (ends-count s n) h
   where
     -- by what stands at the place
     each
-        : (u : Unpacked) → ((next : ℕ) → ends_from s n next ≡ true → length (elements_from s n next) ≡ n)
+        : (u : Option Unpacked) → ((next : ℕ) → ends_from s n next ≡ true → length (elements_from s n next) ≡ n)
         → after_element false (λ e next. ends_from s n next) u ≡ true
         → length (after_element [] (λ e next. e ∷ elements_from s n next) u) ≡ suc n
-    each Short rest h = absurd (false≢true h)
-    each (Element e next) rest h = ap suc (rest next h)
+    each None rest h = absurd (false≢true h)
+    each (Some taken) rest h = ap suc (rest taken.next h)

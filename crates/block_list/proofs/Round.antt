@@ -7,9 +7,9 @@ use mathlib.Core.List.{List, ◌∷◌, ◌++◌}
 use lib.ListN.{length, get_or, length-append}
 use lib.Seq.{get_or-append_seam, get_or-append-add}
 use Rattle.block_list.specs.declared.element.BlockListElement.{BlockListElement}
-use Rattle.block_list.specs.declared.element.Unpacked.TheVariants.{Element}
 use Rattle.block_list.specs.Element.{head_of, two_bytes, three_bytes, pack_of, element_of, unpack_at}
 use Rattle.block_list.proofs.Cases.{pack_two, pack_three, three, two}
+use Rattle.block_list.specs.Unpacked.{unpacked_as}
 
 -- an element, its index and mode as far as its bytes hold them
 abbrev pub held : BlockListElement → BlockListElement
@@ -27,7 +27,7 @@ module _ (e : BlockListElement) where
 
 module _ (pre rest : List ℕ) (e : BlockListElement) where
   -- two bytes are read back
-  round_two : unpack_at (pre ++ (two_bytes e ++ rest)) (length pre) ≡ Element (held e) (length pre + 2)
+  round_two : unpack_at (pre ++ (two_bytes e ++ rest)) (length pre) ≡ unpacked_as (held e) (length pre + 2)
   round_two =
       let head = 0x80 + head_of e in
       let bytes = two_bytes e ++ rest in
@@ -38,7 +38,7 @@ module _ (pre rest : List ℕ) (e : BlockListElement) where
       two s (length pre) (omega arith) (omega arith) ∙ rw (first, second, head_holds e head 1 (omega arith))
 
   -- three bytes are read back
-  round_three : unpack_at (pre ++ (three_bytes e ++ rest)) (length pre) ≡ Element (held e) (length pre + 3)
+  round_three : unpack_at (pre ++ (three_bytes e ++ rest)) (length pre) ≡ unpacked_as (held e) (length pre + 3)
   round_three =
       let head = head_of e in
       let bytes = three_bytes e ++ rest in
@@ -51,7 +51,7 @@ module _ (pre rest : List ℕ) (e : BlockListElement) where
       three s (length pre) (omega arith) (omega arith) ∙ rw (first, second, third, number, head_holds e head 0 (omega arith))
 
   -- what is packed after `pre` is read there, and the next place is past its bytes
-  pub round : unpack_at (pre ++ (pack_of e ++ rest)) (length pre) ≡ Element (held e) (length pre + length (pack_of e))
+  pub round : unpack_at (pre ++ (pack_of e ++ rest)) (length pre) ≡ unpacked_as (held e) (length pre + length (pack_of e))
   round =
       elim (dec_lt e.number 256) [
         | yes h ↦ rw (pack_two e h) round_two

@@ -1,17 +1,19 @@
 -- What is read is what the bytes say: an element's own two bytes, or its own three, whatever its number.
+use Rattle.std.proofs.Common.{None}
 use Prim.Native.Nat.{ℕ, ◌+◌, ◌-◌, ◌*◌, ◌/◌, ◌%◌, ◌≤◌, ◌<◌}
 use native.Mathlib.Omega.{arith}
 use native.Mathlib.Decide.{dec_lt}
 use native.Mathlib.Numerals.{add-one}
-use mathlib.Core.Path.{◌≡◌, ◌∙◌, ap}
+use mathlib.Core.Path.{◌≡◌, sym, ◌∙◌, ap}
 use mathlib.Core.Logic.{◌⊎◌, inl, inr}
 use mathlib.Core.List.{List, [], ◌∷◌}
 use lib.ListN.{length, get_or}
 use lib.Seq.{slice, slice-cons, slice_empty}
 use Rattle.block_list.specs.declared.element.BlockListElement.{BlockListElement}
-use Rattle.block_list.specs.declared.element.Unpacked.TheVariants.{Element, Short}
 use Rattle.block_list.specs.Element.{head_of, two_bytes, three_bytes, element_of, unpack_at}
 use Rattle.block_list.proofs.Cases.{past, cut_three_lem, cut_two_lem, three, two}
+use Rattle.block_list.specs.Unpacked.{unpacked_as}
+use Rattle.block_list.proofs.ListsLaws.{unpacked_is}
 
 -- what an element that was read says of the list: the bytes from `at` to `next` are its own two or its own three
 pub record Says (s : List ℕ) (at : ℕ) (e : BlockListElement) (next : ℕ) : Type 0 where
@@ -86,14 +88,14 @@ module _ (s : List ℕ) (at : ℕ) (byte : (k : ℕ) → get_or s k 0 < 256) whe
         inside = l;
       }
 
-  module _ {e : BlockListElement} {next : ℕ} (h : unpack_at s at ≡ Element e next) where
+  module _ {e : BlockListElement} {next : ℕ} (h : unpack_at s at ≡ unpacked_as e next) where
     -- it was not too short for an element
-    none : unpack_at s at ≡ Short → Says s at e next
+    none : unpack_at s at ≡ None → Says s at e next
     none g = let z : ◌≡◌ {A = ℕ} 0 1 = cc in absurd (omega arith)
 
     -- what holds of the element that stands there holds of the one that was read
-    same : {f : BlockListElement} {more : ℕ} → unpack_at s at ≡ Element f more → Says s at f more → Says s at e next
-    same {f} {more} g t = let x : e ≡ f = cc in let y : next ≡ more = cc in rw (x, y) t
+    same : {f : BlockListElement} {more : ℕ} → unpack_at s at ≡ unpacked_as f more → Says s at f more → Says s at e next
+    same g t = let r = unpacked_is (sym h ∙ g) in rw (r.0, r.1) t
 
     -- with the top bit clear
     long : at < length s → get_or s at 0 < 0x80 → Says s at e next

@@ -1,10 +1,10 @@
 -- List elements. Manual, section 4.2.1: a block list element, of two bytes or of three.
-use Rattle.std.specs.Prelude.{ℕ, zero, suc, ◌+◌, ◌*◌, ◌/◌, ◌%◌, List, [], ◌∷◌, Bool, false, cond, length, get_or, ltb, leb, eqb}
+use Rattle.std.specs.Prelude.{ℕ, zero, suc, ◌+◌, ◌*◌, ◌/◌, ◌%◌, List, [], ◌∷◌, Bool, false, cond, length, get_or, ltb, leb, eqb, Option, Some, None}
 use Rattle.block_list.specs.declared.element.BlockListElement.{BlockListElement}
 use Rattle.block_list.specs.declared.element.Packed.{Packed}
 use Rattle.block_list.specs.declared.element.Unpacked.{Unpacked}
-use Rattle.block_list.specs.declared.element.Unpacked.TheVariants.{Element, Short}
 use Rattle.byte_parts.specs.Part.{padded}
+use Rattle.block_list.specs.Unpacked.{unpacked_as}
 
 -- mode mod 8 and index mod 16 in the first byte, whose top bit says how many bytes there are
 -- RULES 7.2
@@ -33,17 +33,17 @@ element_of head number = record { number = number; index = head % 16; mode = hea
 
 -- top bit set is two bytes, clear is three, any number allowed
 -- RULES 7.3
-unfoldable pub unpack_at : List ℕ → ℕ → Unpacked
+unfoldable pub unpack_at : List ℕ → ℕ → Option Unpacked
 unpack_at s at =
-    cond (leb (length s) at) Short
+    cond (leb (length s) at) None
     (cond (ltb (get_or s at 0) 0x80)
-    (cond (ltb (length s) (at + 3)) Short (Element (element_of (get_or s at 0) (get_or s (at + 1) 0 + 256 * get_or s (at + 2) 0)) (at + 3)))
-    (cond (ltb (length s) (at + 2)) Short (Element (element_of (get_or s at 0) (get_or s (at + 1) 0)) (at + 2))))
+    (cond (ltb (length s) (at + 3)) None (unpacked_as (element_of (get_or s at 0) (get_or s (at + 1) 0 + 256 * get_or s (at + 2) 0)) (at + 3)))
+    (cond (ltb (length s) (at + 2)) None (unpacked_as (element_of (get_or s at 0) (get_or s (at + 1) 0)) (at + 2))))
 
 -- what follows an element, if one is there
-abbrev pub after_element : {A : Type 0} → A → (BlockListElement → ℕ → A) → Unpacked → A
-after_element short more Short = short
-after_element short more (Element e next) = more e next
+abbrev pub after_element : {A : Type 0} → A → (BlockListElement → ℕ → A) → Option Unpacked → A
+after_element short more None = short
+after_element short more (Some taken) = more taken.element taken.next
 
 -- whether n elements from a place on end exactly at the list's end
 unfoldable pub ends_from : List ℕ → ℕ → ℕ → Bool

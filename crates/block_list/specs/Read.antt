@@ -1,5 +1,5 @@
 -- A reader holds a list's bytes and a place in them; all before the place is taken.
-use Rattle.std.specs.Prelude.{ℕ, Bool, List, length, eqb}
+use Rattle.std.specs.Prelude.{ℕ, Bool, List, length, eqb, Option}
 use Rattle.std.specs.Borrow.{Bor}
 use Rattle.block_list.specs.declared.element.Unpacked.{Unpacked}
 use Rattle.block_list.specs.Element.{after_element, unpack_at}
@@ -10,11 +10,11 @@ abbrev pub reader_at_start : Bor (List ℕ) → Reader
 reader_at_start list = record { list = list; at = 0 }
 
 -- the element that stands at the reader's place, or too few bytes for one
-abbrev pub next_of : Reader → Unpacked
+abbrev pub next_of : Reader → Option Unpacked
 next_of r = unpack_at r.list.now r.at
 
 -- the place past an element; where there is none, the same place
-abbrev pub element_past : Unpacked → ℕ → ℕ
+abbrev pub element_past : Option Unpacked → ℕ → ℕ
 element_past u at = after_element at (λ e next. next) u
 
 -- the same list, with the next element taken

@@ -21,12 +21,9 @@ pub struct Packed {
 
 // What stands at a place of a list: an element and the place past it, or too few bytes for one.
 #[derive(Clone, Copy)]
-pub enum Unpacked {
-    Element {
-        element: BlockListElement,
-        next: usize,
-    },
-    Short,
+pub struct Unpacked {
+    pub element: BlockListElement,
+    pub next: usize,
 }
 
 // Gives the first byte of three for a mode and an index: three bits of the one, four of the other.
@@ -70,31 +67,31 @@ impl BlockListElement {
 }
 
 // Reads the element that stands at place `at` of a list. Three bytes may hold a number below 256, which `pack` would put in two.
-pub fn unpack(list: &[u8], at: usize) -> Unpacked
+pub fn unpack(list: &[u8], at: usize) -> Option<Unpacked>
     ensures { result ≡ unpack_at list.now at }
 {
     if list.len() <= at {
-        return Unpacked::Short;
+        return None;
     }
     let left = list.len() - at;
     let head = list[at];
     if head < 0x80 {
         if left < 3 {
-            return Unpacked::Short;
+            return None;
         }
         let low = list[at + 1] as u16;
         let high = list[at + 2] as u16;
-        Unpacked::Element {
+        Some(Unpacked {
             element: element_of(head, low + 256 * high),
             next: at + 3,
-        }
+        })
     } else {
         if left < 2 {
-            return Unpacked::Short;
+            return None;
         }
-        Unpacked::Element {
+        Some(Unpacked {
             element: element_of(head, list[at + 1] as u16),
             next: at + 2,
-        }
+        })
     }
 }

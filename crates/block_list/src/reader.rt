@@ -15,12 +15,12 @@ pub struct Reader<'a> {
 }
 
 // Gives the place past what was taken at `at`; where that was no element, `at` itself.
-fn place_past(taken: Unpacked, at: usize) -> usize
+fn place_past(taken: Option<Unpacked>, at: usize) -> usize
     ensures { result ≡ element_past taken at }
 {
     match taken {
-        Unpacked::Short => at,
-        Unpacked::Element { element: _, next } => next,
+        Some(taken) => taken.next,
+        None => at,
     }
 }
 
@@ -33,7 +33,7 @@ impl<'a> Reader<'a> {
     }
 
     // Takes the next element and moves on past it; where too few bytes are left for one, says so and stays.
-    pub fn next(&mut self) -> Unpacked
+    pub fn next(&mut self) -> Option<Unpacked>
         ensures { (result ≡ next_of self.old) × (self.new ≡ moved_on self.old) }
     {
         let taken = element::unpack(self.list, self.at);
@@ -55,12 +55,10 @@ pub fn list_ends(list: &[u8], count: usize) -> bool
     ensures { result ≡ ends_after list.now count }
 {
     let mut reader = Reader::new(list);
-    let mut left = count;
-    while 0 < left {
-        if let Unpacked::Short = reader.next() {
+    for i in 0..count {
+        if reader.next().is_none() {
             return false;
         }
-        left -= 1;
     }
     reader.is_finished()
 }

@@ -5,7 +5,8 @@ use native.Mathlib.Numerals.{add-one}
 use mathlib.Core.Path.{◌≡◌, refl, sym, ◌∙◌}
 use mathlib.Core.Bool.{Bool, true, false, cond, ◌&&◌}
 use mathlib.Core.List.{List, [], ◌∷◌, ◌++◌}
-use lib.Dec.{eqb}
+use lib.Dec.{eqb, leb}
+use Rattle.std.specs.List.{list_all}
 use lib.ListN.{length, get_or, take, drop, drop_of_length-le, length-take, length-drop}
 use lib.Seq.{take_all, take-nil, take-suc}
 use borrow.Author.Tests.{eq-eqb, ne_eqb, le-leb, lt-leb}
@@ -25,42 +26,6 @@ module _ (s : List ℕ) (at n : ℕ) where
   part-rest h =
       let e : length (drop at s) ≡ length s - at = length-drop at s in
       take_all n (drop at s) (omega arith) ∙ sym (take_all (length s - at) (drop at s) (omega arith))
-
-module _ (s : List ℕ) (i : ℕ) where
-  -- The rest at i, where a zero stands.
-  pub empty_here : i < length s → get_or s i 0 ≡ 0 → is_empty (drop i s) ≡ is_empty (drop (i + 1) s)
-  unfolding is_empty
-  empty_here h e = rw (here s i h, eq-eqb (get_or s i 0) 0 e)
-
-  -- Where none stands.
-  pub empty_not : i < length s → (get_or s i 0 ≡ 0 → ⊥) → is_empty (drop i s) ≡ false
-  unfolding is_empty
-  empty_not h e = rw (here s i h, ne_eqb (get_or s i 0) 0 e)
-
-  -- At the end.
-  pub empty-end : length s ≤ i → is_empty (drop i s) ≡ true
-  unfolding is_empty
-  empty-end h = rw (drop_of_length-le s h)
-
-  -- The rest at i, where a crew's byte stands.
-  pub crew_here : i < length s → 0x20 ≤ get_or s i 0 → get_or s i 0 ≤ 0x7e → are_crew (drop i s) ≡ are_crew (drop (i + 1) s)
-  unfolding are_crew
-  crew_here h a b = rw (here s i h, le-leb 0x20 (get_or s i 0) a, le-leb (get_or s i 0) 0x7e b)
-
-  -- Where a lower byte stands.
-  pub crew_low : i < length s → get_or s i 0 < 0x20 → are_crew (drop i s) ≡ false
-  unfolding are_crew
-  crew_low h a = rw (here s i h, lt-leb 0x20 (get_or s i 0) a)
-
-  -- Where a higher one stands.
-  pub crew_high : i < length s → 0x7e < get_or s i 0 → are_crew (drop i s) ≡ false
-  unfolding are_crew
-  crew_high h b = rw (here s i h, le-leb 0x20 (get_or s i 0) (omega arith), lt-leb (get_or s i 0) 0x7e b)
-
-  -- At the end.
-  pub crew_end : length s ≤ i → are_crew (drop i s) ≡ true
-  unfolding are_crew
-  crew_end h = rw (drop_of_length-le s h)
 
 -- A space at the end does not count.
 space_more : (t : List ℕ) → crew_length (t ++ (32 ∷ [])) ≡ crew_length t
@@ -89,3 +54,15 @@ module _ (s : List ℕ) (n : ℕ) (h : n < length s) where
   length_byte e =
       let k : length (take n s) ≡ n = length-take n s ∙ omega arith in
       rw (add-one n, take-suc s n 0 h, byte_more (take n s) (get_or s n 0) e, k)
+
+-- What `all` says of bytes that are to be zero.
+pub empty_all : (s : List ℕ) → list_all (λ x. eqb x 0) s ≡ is_empty s
+unfolding is_empty
+empty_all [] = refl
+empty_all (x ∷ s) = rw (empty_all s)
+
+-- What `all` says of bytes that are to be printed.
+pub crew_all : (s : List ℕ) → list_all (λ x. leb 0x20 x && leb x 0x7e) s ≡ are_crew s
+unfolding are_crew
+crew_all [] = refl
+crew_all (x ∷ s) = rw (crew_all s)

@@ -1,4 +1,5 @@
 -- Laws of eight lanes, one after the other, and of what one lane comes to. Assumes nothing.
+use Rattle.std.proofs.Common.{Result, Ok, Err}
 use Prim.Native.Nat.{ℕ, zero, suc, ◌+◌, ◌-◌, ◌≤◌, ◌<◌}
 use native.Mathlib.Omega.{arith}
 use native.Mathlib.Nat.{add-zero}
@@ -6,22 +7,21 @@ use mathlib.Core.Path.{◌≡◌, refl, ap}
 use mathlib.Core.Bool.{true, false}
 use mathlib.Core.List.{List, [], ◌∷◌, ◌++◌}
 use Rattle.board_lanes.specs.declared.refusal.BoardRefusal.TheVariants.{WrongLane, BadCrew, TailNotZero}
-use Rattle.board_lanes.specs.declared.lanes.Judged.{Judged}
-use Rattle.board_lanes.specs.declared.lanes.Judged.TheVariants.{Sound, Refused}
 use lib.Dec.{eqb}
 use lib.ListN.{length, get_or, drop, length-take}
 use Rattle.byte_parts.specs.Part.{part}
 use Rattle.board_lanes.specs.Board.{block_at, is_empty, race_of, are_crew, crew_bytes, filled_judged, lane_judged, and_then, lanes_judged, of_race, same_race, one_race, crew_length, crew_of, Lane, empty, filled, lane_of, lanes_from}
+use Rattle.board_lanes.specs.declared.refusal.BoardRefusal.{BoardRefusal}
 
 -- What is judged first, then next, then last.
-pub then-then : (a b c : Judged) → and_then (and_then a b) c ≡ and_then a (and_then b c)
-then-then Sound b c = refl
-then-then (Refused x) b c = refl
+pub then-then : (a b c : Result Unit BoardRefusal) → and_then (and_then a b) c ≡ and_then a (and_then b c)
+then-then (Ok tt) b c = refl
+then-then (Err x) b c = refl
 
 -- Nothing wrong at the end.
-pub then_sound : (a : Judged) → and_then a Sound ≡ a
-then_sound Sound = refl
-then_sound (Refused x) = refl
+pub then_sound : (a : Result Unit BoardRefusal) → and_then a (Ok tt) ≡ a
+then_sound (Ok tt) = refl
+then_sound (Err x) = refl
 
 module _ (bytes : List ℕ) (k : ℕ) where
   -- The lanes from k on, where there is one.
@@ -30,7 +30,7 @@ module _ (bytes : List ℕ) (k : ℕ) where
   lanes_here h = let e : 8 - k ≡ suc (8 - (k + 1)) = omega arith in rw e
 
   -- Where there is none.
-  pub lanes_end : 8 ≤ k → lanes_judged bytes (8 - k) k ≡ Sound
+  pub lanes_end : 8 ≤ k → lanes_judged bytes (8 - k) k ≡ Ok tt
   unfolding lanes_judged
   lanes_end h = let e : 8 - k ≡ 0 = omega arith in rw e
 
@@ -66,19 +66,19 @@ module _ (bytes : List ℕ) (k : ℕ) where
 
 -- A filled block, by its first test that fails.
 module _ (k : ℕ) (b : List ℕ) where
-  pub block-lane : eqb (get_or b 0 0) (k + 1) ≡ false → filled_judged k b ≡ Refused WrongLane
+  pub block-lane : eqb (get_or b 0 0) (k + 1) ≡ false → filled_judged k b ≡ Err WrongLane
   unfolding filled_judged
   block-lane p = rw p
 
-  pub block_crew : eqb (get_or b 0 0) (k + 1) ≡ true → are_crew (crew_bytes b) ≡ false → filled_judged k b ≡ Refused BadCrew
+  pub block_crew : eqb (get_or b 0 0) (k + 1) ≡ true → are_crew (crew_bytes b) ≡ false → filled_judged k b ≡ Err BadCrew
   unfolding filled_judged
   block_crew p q = rw (p, q)
 
-  pub block_tail : eqb (get_or b 0 0) (k + 1) ≡ true → are_crew (crew_bytes b) ≡ true → eqb (get_or b 15 0) 0 ≡ false → filled_judged k b ≡ Refused TailNotZero
+  pub block_tail : eqb (get_or b 0 0) (k + 1) ≡ true → are_crew (crew_bytes b) ≡ true → eqb (get_or b 15 0) 0 ≡ false → filled_judged k b ≡ Err TailNotZero
   unfolding filled_judged
   block_tail p q r = rw (p, q, r)
 
-  pub block_sound : eqb (get_or b 0 0) (k + 1) ≡ true → are_crew (crew_bytes b) ≡ true → eqb (get_or b 15 0) 0 ≡ true → filled_judged k b ≡ Sound
+  pub block_sound : eqb (get_or b 0 0) (k + 1) ≡ true → are_crew (crew_bytes b) ≡ true → eqb (get_or b 15 0) 0 ≡ true → filled_judged k b ≡ Ok tt
   unfolding filled_judged
   block_sound p q r = rw (p, q, r)
 

@@ -1,12 +1,10 @@
 -- The lane board, worked out from the 128 bytes of eight blocks, lane 1 first. A block has the lane in byte 0, the race's number in bytes 1
 -- and 2, low byte first, the crew's code in bytes 3 to 14, and zero in byte 15; a block of sixteen zeros is an empty lane.
-use Rattle.std.specs.Prelude.{ℕ, zero, suc, ◌+◌, ◌*◌, Bool, true, cond, not, ◌&&◌, List, [], ◌∷◌, leb, eqb, get_or, take}
+use Rattle.std.specs.Prelude.{ℕ, zero, suc, ◌+◌, ◌*◌, Bool, true, cond, not, ◌&&◌, List, [], ◌∷◌, leb, eqb, get_or, take, Result, Ok, Err}
 use Rattle.byte_parts.specs.Sizes.{block_size}
 use Rattle.byte_parts.specs.Part.{part}
 use Rattle.board_lanes.specs.declared.refusal.BoardRefusal.{BoardRefusal}
 use Rattle.board_lanes.specs.declared.refusal.BoardRefusal.TheVariants.{RacesDiffer, WrongLane, BadCrew, TailNotZero}
-use Rattle.board_lanes.specs.declared.lanes.Judged.{Judged}
-use Rattle.board_lanes.specs.declared.lanes.Judged.TheVariants.{Sound, Refused}
 
 -- the numbers of the board's own refusals
 -- RULES 17.3
@@ -42,25 +40,25 @@ crew_bytes b = part b 3 12
 
 -- a filled block: 41 for another lane's byte, then 42 for its crew, then 43 for its last byte
 -- RULES 17.3
-unfoldable pub filled_judged : ℕ → List ℕ → Judged
+unfoldable pub filled_judged : ℕ → List ℕ → Result Unit BoardRefusal
 filled_judged k b =
-    cond (not (eqb (get_or b 0 0) (k + 1))) (Refused WrongLane)
-    (cond (not (are_crew (crew_bytes b))) (Refused BadCrew)
-    (cond (not (eqb (get_or b 15 0) 0)) (Refused TailNotZero)
-    Sound))
+    cond (not (eqb (get_or b 0 0) (k + 1))) (Err WrongLane)
+    (cond (not (are_crew (crew_bytes b))) (Err BadCrew)
+    (cond (not (eqb (get_or b 15 0) 0)) (Err TailNotZero)
+    (Ok tt)))
 
-unfoldable pub lane_judged : ℕ → List ℕ → Judged
-lane_judged k b = cond (is_empty b) Sound (filled_judged k b)
+unfoldable pub lane_judged : ℕ → List ℕ → Result Unit BoardRefusal
+lane_judged k b = cond (is_empty b) (Ok tt) (filled_judged k b)
 
 -- what follows, where nothing is wrong so far
-abbrev pub and_then : Judged → Judged → Judged
-and_then Sound next = next
-and_then (Refused x) next = Refused x
+abbrev pub and_then : Result Unit BoardRefusal → Result Unit BoardRefusal → Result Unit BoardRefusal
+and_then (Ok tt) next = next
+and_then (Err x) next = Err x
 
 -- n lanes from k on, one after the other: whatever is wrong with a lane comes before the next lane
 -- RULES 17.3
-unfoldable pub lanes_judged : List ℕ → ℕ → ℕ → Judged
-lanes_judged bytes zero k = Sound
+unfoldable pub lanes_judged : List ℕ → ℕ → ℕ → Result Unit BoardRefusal
+lanes_judged bytes zero k = Ok tt
 lanes_judged bytes (suc n) k = and_then (lane_judged k (block_at bytes k)) (lanes_judged bytes n (k + 1))
 
 -- an empty lane has no race
@@ -80,12 +78,12 @@ one_race bytes (suc n) k =
 
 -- 40 for two filled lanes of different races
 -- RULES 17.3
-unfoldable pub races_judged : List ℕ → Judged
-races_judged bytes = cond (one_race bytes 8 0) Sound (Refused RacesDiffer)
+unfoldable pub races_judged : List ℕ → Result Unit BoardRefusal
+races_judged bytes = cond (one_race bytes 8 0) (Ok tt) (Err RacesDiffer)
 
 -- 40 comes last
 -- RULES 17.3
-unfoldable pub board_judged : List ℕ → Judged
+unfoldable pub board_judged : List ℕ → Result Unit BoardRefusal
 board_judged bytes = and_then (lanes_judged bytes 8 0) (races_judged bytes)
 
 -- how long a crew is without its trailing spaces (32)
@@ -118,9 +116,9 @@ pub data Board : Type 0 where
   lanes : List Lane → Board
   refused : BoardRefusal → Board
 
-abbrev pub board_by : List ℕ → Judged → Board
-board_by bytes Sound = lanes (lanes_of bytes)
-board_by bytes (Refused x) = refused x
+abbrev pub board_by : List ℕ → Result Unit BoardRefusal → Board
+board_by bytes (Ok tt) = lanes (lanes_of bytes)
+board_by bytes (Err x) = refused x
 
 unfoldable pub board_of : List ℕ → Board
 board_of bytes = board_by bytes (board_judged bytes)

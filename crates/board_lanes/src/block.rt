@@ -52,43 +52,24 @@ pub fn race(b: &[u8]) -> u64
 pub fn is_empty(b: &[u8]) -> bool
     ensures { result ≡ is_empty b.now }
 {
-    let mut i = 0;
-    while i < b.len() {
-        if b[i] != 0 {
-            return false;
-        }
-        i += 1;
-    }
-    true
+    b.iter().all(|x| *x == 0)
 }
 
 // Tells whether every byte of a crew is one that is printed.
 pub(crate) fn are_crew(s: &[u8]) -> bool
     ensures { result ≡ are_crew s.now }
 {
-    let mut i = 0;
-    while i < s.len() {
-        if s[i] < 0x20 {
-            return false;
-        }
-        if 0x7e < s[i] {
-            return false;
-        }
-        i += 1;
-    }
-    true
+    s.iter().all(|x| 0x20 <= *x && *x <= 0x7e)
 }
 
 // Gives how long a crew is without its trailing spaces.
 fn crew_length(s: &[u8]) -> usize
     ensures { (result ≡ crew_length s.now) × (result ≤ length s.now) }
 {
-    let mut n = s.len();
-    while 0 < n {
-        if s[n - 1] != b' ' {
-            return n;
+    for i in (0..s.len()).rev() {
+        if s[i] != b' ' {
+            return i + 1;
         }
-        n -= 1;
     }
     0
 }

@@ -5,15 +5,8 @@ ghost use Rattle.board_lanes.specs.Board.{filled_judged, lane_judged, and_then, 
 use crate::block::{are_crew, block, byte, crew, is_empty, race};
 use crate::refusal::BoardRefusal;
 
-// How blocks were judged: they make a board, or not.
-#[derive(Clone, Copy)]
-pub enum Judged {
-    Sound,
-    Refused(BoardRefusal),
-}
-
 // Judges the filled block of lane k + 1: its lane byte, then its crew, then its last byte.
-fn judge_block(b: &[u8], k: usize) -> Judged
+fn judge_block(b: &[u8], k: usize) -> Result<(), BoardRefusal>
     requires { k < 8 }
     ensures { result ≡ filled_judged k b.now }
 {
@@ -21,71 +14,66 @@ fn judge_block(b: &[u8], k: usize) -> Judged
     let printed = are_crew(crew(b));
     let ended = byte(b, 15) == 0;
     if !lane {
-        return Judged::Refused(BoardRefusal::WrongLane);
+        return Err(BoardRefusal::WrongLane);
     }
     if !printed {
-        return Judged::Refused(BoardRefusal::BadCrew);
+        return Err(BoardRefusal::BadCrew);
     }
     if !ended {
-        return Judged::Refused(BoardRefusal::TailNotZero);
+        return Err(BoardRefusal::TailNotZero);
     }
-    Judged::Sound
+    Ok(())
 }
 
 // Judges the block of lane k + 1: of an empty one nothing is asked.
-fn judge_lane(b: &[u8], k: usize) -> Judged
+#[tactic(auto, unfolding(crate::specs::Board::lane_judged))]
+fn judge_lane(b: &[u8], k: usize) -> Result<(), BoardRefusal>
     requires { k < 8 }
     ensures { result ≡ lane_judged k b.now }
 {
     if is_empty(b) {
-        return Judged::Sound;
+        return Ok(());
     }
     judge_block(b, k)
 }
 
 // Of two things judged the first that is wrong counts.
-fn and_then(first: Judged, next: Judged) -> Judged
+fn and_then(
+    first: Result<(), BoardRefusal>,
+    next: Result<(), BoardRefusal>,
+) -> Result<(), BoardRefusal>
     ensures { result ≡ and_then first next }
 {
-    match first {
-        Judged::Sound => next,
-        Judged::Refused(refusal) => Judged::Refused(refusal),
-    }
+    first.and(next)
 }
 
 // Judges the eight lanes, one after the other.
-fn judge_lanes(bytes: &[u8]) -> Judged
+fn judge_lanes(bytes: &[u8]) -> Result<(), BoardRefusal>
     ensures { result ≡ lanes_judged bytes.now 8 0 }
 {
-    let mut judged = Judged::Sound;
-    let mut k = 0;
-    while k < 8 {
+    let mut judged = Ok(());
+    for k in 0..8 {
         judged = and_then(judged, judge_lane(block(bytes, k), k));
-        k += 1;
     }
     judged
 }
 
 // Tells whether a block is of this race: an empty lane has none.
+#[tactic(auto, unfolding(crate::specs::Board::of_race))]
 fn is_of(b: &[u8], number: u64) -> bool
     ensures { result ≡ of_race number b.now }
 {
-    if is_empty(b) {
-        return true;
-    }
-    race(b) == number
+    is_empty(b) || race(b) == number
 }
 
 // Tells whether the filled lanes from lane `from` + 1 on are all of this race.
 fn same_race(bytes: &[u8], number: u64, from: usize) -> bool
     ensures { result ≡ same_race bytes.now number (8 - from) from }
 {
-    let mut i = from;
-    while i < 8 {
+    for i in from..8 {
         if !is_of(block(bytes, i), number) {
             return false;
         }
-        i += 1;
     }
     true
 }
@@ -94,28 +82,27 @@ fn same_race(bytes: &[u8], number: u64, from: usize) -> bool
 fn one_race(bytes: &[u8]) -> bool
     ensures { result ≡ one_race bytes.now 8 0 }
 {
-    let mut first = 0;
-    while first < 8 {
+    for first in 0..8 {
         if !is_empty(block(bytes, first)) {
             return same_race(bytes, race(block(bytes, first)), first + 1);
         }
-        first += 1;
     }
     true
 }
 
 // Judges the races of the filled lanes.
-fn judge_races(bytes: &[u8]) -> Judged
+#[tactic(auto, unfolding(crate::specs::Board::races_judged))]
+fn judge_races(bytes: &[u8]) -> Result<(), BoardRefusal>
     ensures { result ≡ races_judged bytes.now }
 {
     if one_race(bytes) {
-        return Judged::Sound;
+        return Ok(());
     }
-    Judged::Refused(BoardRefusal::RacesDiffer)
+    Err(BoardRefusal::RacesDiffer)
 }
 
 // Judges the eight blocks of a board: each lane, and last the races.
-pub fn judge(bytes: &[u8]) -> Judged
+pub fn judge(bytes: &[u8]) -> Result<(), BoardRefusal>
     ensures { result ≡ board_judged bytes.now }
 {
     let lanes = judge_lanes(bytes);

@@ -42,9 +42,7 @@ pub fn put_records(bytes: &[u8], out: &mut [u8])
     requires { 128 ≤ length out.old }
     ensures { out.new ≡ put out.old 0 128 (lanes_records (lanes_of bytes.now)) }
 {
-    let mut i = 0;
-    while i < 8 {
+    for i in 0..8 {
         put_record(block(bytes, i), out, BLOCK_SIZE * i);
-        i += 1;
     }
 }

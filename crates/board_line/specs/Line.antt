@@ -1,12 +1,10 @@
 -- An `L` line: `L` (76) and one service code; exactly two fields, and no more than 32,768 bytes. It takes an ordinal, as every request does;
 -- the eight lines of a board do not print it.
-use Rattle.std.specs.Prelude.{ℕ, Bool, cond, ◌&&◌, List, [], ltb, eqb, length}
+use Rattle.std.specs.Prelude.{ℕ, Bool, cond, ◌&&◌, List, [], ltb, eqb, length, Option, Some, None}
 use Rattle.byte_parts.specs.Letters.{tab}
 use Rattle.byte_parts.specs.Sizes.{longest_line}
 use Rattle.answers.specs.declared.refusal.Refusal.TheVariants.{MalformedRequest}
 use Rattle.text_fields.specs.Field.{split}
-use Rattle.text_numbers.specs.declared.codes.Code.{Code}
-use Rattle.text_numbers.specs.declared.codes.Code.TheVariants.{Is, Bad}
 use Rattle.text_numbers.specs.Codes.{hex16}
 use Rattle.card_build.specs.declared.card.Card.{Card}
 use Rattle.request_plan.specs.declared.Reply.TheVariants.{Refused}
@@ -25,10 +23,10 @@ board_line line = is_letter 76 (field_in line 0)
 
 -- the code that it asks
 -- RULES 17.4
-unfoldable pub board_code : List ℕ → Code
+unfoldable pub board_code : List ℕ → Option ℕ
 board_code line =
-    cond (ltb longest_line (length line)) Bad
-    (cond (board_line line && eqb (length (split tab line)) 2) (hex16 (field_in line 1)) Bad)
+    cond (ltb longest_line (length line)) None
+    (cond (board_line line && eqb (length (split tab line)) 2) (hex16 (field_in line 1)) None)
 
 -- eight lines of the blocks read; or one line, with the ordinal: a refusal of the board's own, or the card's answer
 -- RULES 17.5
@@ -38,9 +36,9 @@ refreshed_text ordinal bytes (NoBoard x) = refused_text ordinal (board_number x)
 refreshed_text ordinal bytes (ByCard reply) = answer_text ordinal reply []
 
 -- malformed is refusal 6
-abbrev pub code_text : Card → List ℕ → ℕ → Code → List ℕ
-code_text card arena ordinal Bad = answer_text ordinal (Refused MalformedRequest) []
-code_text card arena ordinal (Is code) =
+abbrev pub code_text : Card → List ℕ → ℕ → Option ℕ → List ℕ
+code_text card arena ordinal None = answer_text ordinal (Refused MalformedRequest) []
+code_text card arena ordinal (Some code) =
     refreshed_text ordinal (board_served card arena code 128).read (refreshed card arena code 128)
 
 -- RULES 17.4

@@ -3,9 +3,8 @@
 
 mod text;
 
-ghost use Rattle.std.specs.Prelude.{◌≡◌, ◌&&◌, [], ◌+◌, ◌≤◌, eqb, length};
+ghost use Rattle.std.specs.Prelude.{◌≡◌, ◌&&◌, [], ◌+◌, ◌≤◌, eqb, length, Some};
 ghost use Rattle.text_fields.specs.Field.{split};
-ghost use Rattle.text_numbers.specs.declared.codes.Code.TheVariants.{Is};
 ghost use Rattle.text_stream.specs.Stream.{Written};
 ghost use Rattle.line_answer.specs.Answer.{answer_text};
 ghost use Rattle.board_line.specs.Text.{most_board};
@@ -17,7 +16,6 @@ use byte_parts::sizes::LONGEST_LINE;
 use card_build::card::Card;
 use request_plan::Reply;
 use text_numbers::codes;
-use text_numbers::codes::Code;
 
 // Tells whether a line is a refresh, well formed or not.
 pub fn is_board(line: &[u8]) -> bool
@@ -37,14 +35,14 @@ fn is_refresh(line: &[u8]) -> bool
 }
 
 // Reads the code that a refresh asks: `L` and the code, in a line no longer than the longest size.
-fn code_of(line: &[u8]) -> Code
+fn code_of(line: &[u8]) -> Option<u16>
     ensures { result ≡ board_code line.now }
 {
     if LONGEST_LINE < line.len() {
-        return Code::Bad;
+        return None;
     }
     if !is_refresh(line) {
-        return Code::Bad;
+        return None;
     }
     codes::read_hex16(text_fields::field(line, 1, b'\t'))
 }
@@ -89,7 +87,7 @@ fn put_refresh(
     at: usize,
 ) -> usize
     requires { at + most_board ≤ length out.old }
-    ensures written { Written out.old at (code_text card arena.now ordinal (Is code)) result out.new }
+    ensures written { Written out.old at (code_text card arena.now ordinal (Some code)) result out.new }
     ensures upper_bound { result ≤ at + most_board }
 {
     let mut bytes = [0u8; 128];
@@ -111,8 +109,8 @@ pub fn board_line(
     ensures upper_bound { result ≤ at + most_board }
 {
     match code_of(line) {
-        Code::Is(code) => put_refresh(card, arena, code, ordinal, out, at),
-        Code::Bad => {
+        Some(code) => put_refresh(card, arena, code, ordinal, out, at),
+        None => {
             let reply = Reply::Refused(Refusal::MalformedRequest);
             put_reply(reply, line, ordinal, out, at)
         }

@@ -28,10 +28,8 @@ pub(crate) fn put_board(bytes: &[u8], out: &mut [u8], at: usize) -> usize
     ensures upper_bound { result ≤ at + most_board }
 {
     let mut last = at;
-    let mut k = 0;
-    while k < 8 {
+    for k in 0..8 {
         last = put_lane(block::block(bytes, k), k as u64 + 1, out, last);
-        k += 1;
     }
     last
 }

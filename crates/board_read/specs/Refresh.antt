@@ -1,16 +1,15 @@
 -- A refresh: one session read of the first eight blocks of a service's store, and the board that they make. Nothing of an earlier refresh
 -- has a part in it: it goes by the card, the arena and the code alone.
-use Rattle.std.specs.Prelude.{ℕ, false, List, [], ◌∷◌, length}
+use Rattle.std.specs.Prelude.{ℕ, false, List, [], ◌∷◌, length, Result, Err, Ok}
 use Rattle.card_build.specs.declared.card.Card.{Card}
 use Rattle.request_plan.specs.declared.Reply.{Reply}
 use Rattle.request_plan.specs.declared.Reply.TheVariants as replies
 use Rattle.request_plan.specs.Request.{Request, read_request}
 use Rattle.request_plan.specs.Serve.{Served, serve, output_after}
-use Rattle.board_lanes.specs.declared.lanes.Judged.{Judged}
-use Rattle.board_lanes.specs.declared.lanes.Judged.TheVariants as judged
 use Rattle.board_lanes.specs.Board.{board_judged}
 use Rattle.board_read.specs.declared.Refreshed.{Refreshed}
 use Rattle.board_read.specs.declared.Refreshed.TheVariants.{Board, NoBoard, Card as ByCard}
+use Rattle.board_lanes.specs.declared.refusal.BoardRefusal.{BoardRefusal}
 
 -- the list of blocks 0 to 7 of the first code: two bytes an element
 abbrev pub eight_blocks : List ℕ
@@ -26,9 +25,9 @@ abbrev pub board_served : Card → List ℕ → ℕ → ℕ → Served
 board_served card arena code room = serve card arena (board_request code room)
 
 -- the eight blocks read make a board, or the board's own refusal
-abbrev pub refreshed_by : Judged → Refreshed
-refreshed_by judged.Sound = Board
-refreshed_by (judged.Refused x) = NoBoard x
+abbrev pub refreshed_by : Result Unit BoardRefusal → Refreshed
+refreshed_by (Ok tt) = Board
+refreshed_by (Err x) = NoBoard x
 
 -- the card's own answer comes first
 abbrev pub refreshed_after : Served → Reply → Refreshed

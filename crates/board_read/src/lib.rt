@@ -8,7 +8,6 @@ ghost use Rattle.board_lanes.specs.Board.{board_judged};
 ghost use Rattle.board_read.specs.Refresh.{eight_blocks, refreshed_by, refreshed, blocks_after};
 
 use board_lanes::lanes;
-use board_lanes::lanes::Judged;
 use board_lanes::refusal::BoardRefusal;
 use card_build::card::Card;
 use request_plan::Reply;
@@ -27,8 +26,8 @@ fn made(bytes: &[u8]) -> Refreshed
     ensures { result ≡ refreshed_by (board_judged bytes.now) }
 {
     match lanes::judge(bytes) {
-        Judged::Sound => Refreshed::Board,
-        Judged::Refused(refusal) => Refreshed::NoBoard(refusal),
+        Ok(()) => Refreshed::Board,
+        Err(refusal) => Refreshed::NoBoard(refusal),
     }
 }
 

@@ -12,6 +12,7 @@ use lib.Dec.{eqb}
 use lib.ListN.{length, get_or, set, take, drop, length-take, length-drop, drop_of_length-le}
 use lib.Seq.{sets, length-sets, sets-eq, set-get_or, set-set, set_comm, take-set-le, drop-set-lt, take-nil, take-suc, take-take, drop-drop, take_at, drop_at, get_or-take, get_or-drop, take_all, drop-cons, length-take-le}
 use borrow.Author.Tests.{eq-eqb, eqb-true}
+use Rattle.std.specs.Cmp.Lexicographic.{pointwise}
 use Rattle.byte_parts.specs.Part.{part, put, same_bytes}
 
 -- Stores of two runs, one after the other.
@@ -176,6 +177,14 @@ same_equal (x ∷ s) [] e = cc
 same_equal (x ∷ s) (y ∷ t) e =
     let h = (and-eq-true_iff (eqb x y) (same_bytes s t)).0 e in
     rw (eqb-true x y h.0, same_equal s t h.1)
+
+-- What `==` says of two slices is whether they hold the same bytes.
+pub pointwise_same : (s t : List ℕ) → pointwise eqb s t ≡ same_bytes s t
+unfolding same_bytes
+pointwise_same [] [] = refl
+pointwise_same [] (y ∷ t) = refl
+pointwise_same (x ∷ s) [] = refl
+pointwise_same (x ∷ s) (y ∷ t) = rw (pointwise_same s t)
 
 -- A list holds the same bytes as itself.
 same_refl : (s : List ℕ) → same_bytes s s ≡ true

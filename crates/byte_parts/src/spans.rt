@@ -7,7 +7,7 @@ ghost use Rattle.byte_parts.specs.Part.{put, same_bytes};
 pub fn least(a: usize, b: usize) -> usize
     ensures { result ≡ min a b }
 {
-    if a < b { a } else { b }
+    a.min(b)
 }
 
 // Copies the n bytes of src from `from` on to dst from `at` on.
@@ -23,26 +23,13 @@ pub fn zero(s: &mut [u8], at: usize, n: usize)
     requires { at + n ≤ length s.old }
     ensures { s.new ≡ put s.old at n (replicate n 0) }
 {
-    let mut i = 0;
-    while i < n {
-        s[at + i] = 0;
-        i += 1;
-    }
+    s[at..at + n].fill(0);
 }
 
 // Tells whether s and t are as long and hold the same bytes.
+#[tactic(auto, using(crate::proofs::Part::pointwise_same))]
 pub fn same(s: &[u8], t: &[u8]) -> bool
     ensures { result ≡ same_bytes s.now t.now }
 {
-    if s.len() != t.len() {
-        return false;
-    }
-    let mut i = 0;
-    while i < s.len() {
-        if s[i] != t[i] {
-            return false;
-        }
-        i += 1;
-    }
-    true
+    s == t
 }

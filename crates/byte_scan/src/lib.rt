@@ -10,12 +10,10 @@ pub fn find(s: &[u8], from: usize, to: usize, b: u8) -> usize
     ensures value { result ≡ from + index_of b (slice from to s.now) }
     ensures within { result ≤ to }
 {
-    let mut i = from;
-    while i < to {
+    for i in from..to {
         if s[i] == b {
             return i;
         }
-        i += 1;
     }
     to
 }

@@ -1,2 +1,3 @@
 pub mod Admit
 pub mod Order
+pub mod Placed

@@ -1,55 +1,54 @@
--- What the code finds among the records is what the definitions judge by.
+-- What the code finds among the nodes is what the definitions judge by.
+use Rattle.std.proofs.Common.{Option, Some, None, Err}
 use mathlib.Core.Path.{◌≡◌, sym, ◌∙◌}
 use mathlib.Core.Bool.{Bool}
 use mathlib.Core.List.{List}
 use Prim.Native.Nat.{ℕ, ◌<◌}
-use lib.ListN.{take, get_or}
+use native.Mathlib.Omega.{arith}
+use lib.ListN.{length, get_or}
 use Rattle.answers.specs.declared.refusal.Refusal.TheVariants.{NoParent}
-use Rattle.answers.specs.declared.refusal.Answer.TheVariants.{Refused}
 use Rattle.card_nodes.specs.declared.node.Node.{Node}
-use Rattle.card_nodes.specs.declared.find.Found.{Found}
-use Rattle.card_nodes.specs.declared.find.Found.TheVariants.{At, Nothing}
+use Rattle.card_nodes.specs.Node.{root_node}
 use Rattle.card_nodes.specs.Find.{is_sharer_of, shared_of}
-use Rattle.card_nodes.proofs.Records.{Records, indexed, recorded, found_node}
-use Rattle.card_admit.specs.declared.Placed.TheVariants.{Refused as NotPlaced}
-use Rattle.card_admit.specs.declared.First.{First}
-use Rattle.card_admit.specs.declared.First.TheVariants.{There}
+use Rattle.card_nodes.proofs.Searches.{first_below, in_range_lem}
 use Rattle.card_admit.specs.Admit.{parent_at, area_under, area_judged, first_in, placed_under, placed_of, agreed}
 use Rattle.card_admit.proofs.Growth.{parent_at_below}
+use Rattle.card_sound.proofs.Laws.{same_read}
 
-module _ {nodes : List Node} {count : ℕ} (r : Records nodes count) where
-  module _ {f : Found} (depth : ℕ) (told : f ≡ parent_at (take count nodes) depth) (e : f ≡ Nothing) where
+module _ (ns : List Node) where
+  module _ {f : Option ℕ} (depth : ℕ) (told : f ≡ parent_at ns depth) (e : f ≡ None) where
     -- an area without a parent is refused with 21
-    pub area_orphan : (code end : ℕ) → Refused NoParent ≡ area_judged (take count nodes) depth code end
+    pub area_orphan : (code end : ℕ) → Err NoParent ≡ area_judged ns depth code end
     unfolding area_judged
     area_orphan code end = rw (sym told ∙ e)
 
     -- and so is a service
     pub service_orphan : (join : Bool) (used arena_len code blocks : ℕ) →
-        NotPlaced NoParent ≡ agreed join blocks (placed_of (take count nodes) used arena_len depth code blocks)
+        Err NoParent ≡ agreed join blocks (placed_of ns used arena_len depth code blocks)
     unfolding placed_of
     service_orphan join used arena_len code blocks = rw (sym told ∙ e)
 
-  module _ {f : Found} {p : ℕ} (depth : ℕ) (told : f ≡ parent_at (take count nodes) depth) (e : f ≡ At p) where
+  module _ {f : Option ℕ} {p : ℕ} (depth : ℕ) (told : f ≡ parent_at ns depth) (e : f ≡ Some p) where
     -- the index of the parent
-    pub parent-index : p < 64
-    parent-index = indexed r (parent_at_below (take count nodes) depth) (sym told ∙ e)
+    pub parent-index : p < length ns
+    parent-index = let h = in_range_lem (parent_at_below ns depth) (sym told ∙ e) in omega arith
 
     -- an area is judged under the record of its parent
-    pub judged : (z : Node) (code end : ℕ) →
-        area_under (get_or nodes p z) code end ≡ area_judged (take count nodes) depth code end
+    pub judged : (z : Node) (code end : ℕ) → area_under (get_or ns p z) code end ≡ area_judged ns depth code end
     unfolding area_judged
-    judged z code end = rw (sym told ∙ e, recorded r (parent_at_below (take count nodes) depth) (sym told ∙ e) z)
+    judged z code end = rw (sym told ∙ e, same_read ns p z root_node parent-index)
 
     -- and so is a service, which then gets its store
-    pub placed : {first : First} (z : Node) (used arena_len code blocks : ℕ) →
-        first ≡ first_in (take count nodes) (shared_of (take count nodes) code) →
-        placed_under (get_or nodes p z) first used arena_len code blocks ≡ placed_of (take count nodes) used arena_len depth code blocks
+    pub placed : {first : Option Node} (z : Node) (used arena_len code blocks : ℕ) → first ≡ first_in ns (shared_of ns code) →
+        placed_under (get_or ns p z) first used arena_len code blocks ≡ placed_of ns used arena_len depth code blocks
     unfolding placed_of
-    placed z used arena_len code blocks k =
-        rw (sym told ∙ e, recorded r (parent_at_below (take count nodes) depth) (sym told ∙ e) z, k)
+    placed z used arena_len code blocks k = rw (sym told ∙ e, same_read ns p z root_node parent-index, k)
 
-  -- the first service of a number is at its record
-  pub there : {f : Found} {j : ℕ} (code : ℕ) (z : Node) → f ≡ shared_of (take count nodes) code → f ≡ At j →
-      There (get_or nodes j z) ≡ first_in (take count nodes) (shared_of (take count nodes) code)
-  there code z told e = rw (sym told ∙ e, found_node r (is_sharer_of code) told e z)
+  module _ {f : Option ℕ} {j : ℕ} (code : ℕ) (told : f ≡ shared_of ns code) (e : f ≡ Some j) where
+    -- the index of the first service of a number
+    pub shared-index : j < length ns
+    shared-index = let h = in_range_lem (first_below (is_sharer_of code) 0 ns) (sym told ∙ e) in omega arith
+
+    -- which is at its record
+    pub there : (z : Node) → Some (get_or ns j z) ≡ first_in ns (shared_of ns code)
+    there z = rw (sym told ∙ e, same_read ns j z root_node shared-index)

@@ -1,4 +1,4 @@
 mod Judged
 -- What the calls' proofs cite.
-mod Accepted
 mod Answers
+pub mod Accepted

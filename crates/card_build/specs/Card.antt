@@ -1,9 +1,8 @@
 -- A card's value.
-use Rattle.std.specs.Prelude.{ℕ, ◌+◌, ◌*◌, List, Bool, ltb, take, set, replicate}
+use Rattle.std.specs.Prelude.{ℕ, ◌+◌, ◌*◌, List, Bool, ltb, take, set, replicate, Ok, Err}
 use Rattle.byte_parts.specs.Sizes.{block_size}
 use Rattle.answers.specs.declared.refusal.Refusal.{Refusal}
 use Rattle.card_nodes.specs.declared.node.Node.{Node}
-use Rattle.answers.specs.declared.refusal.Answer.TheVariants.{Done, Refused}
 use Rattle.card_nodes.specs.Node.{root_node}
 use Rattle.card_sound.specs.Sound.{sound_of}
 use Rattle.card_build.specs.declared.card.System.{System}
@@ -48,9 +47,9 @@ grown c n used = record { nodes = set c.nodes c.count n; count = c.count + 1; us
 
 -- RULES 5.11
 abbrev pub accepted : Card → Added
-accepted c = record { card = c; answer = Done }
+accepted c = record { card = c; answer = Ok tt }
 
 -- a refusal changes no node
 -- RULES 2.1, 5.10
 abbrev pub refused : Card → Refusal → Added
-refused c r = record { card = c; answer = Refused r }
+refused c r = record { card = c; answer = Err r }

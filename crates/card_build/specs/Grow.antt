@@ -1,21 +1,19 @@
 -- The additions and the limit, on a card that is sound.
-use Rattle.std.specs.Prelude.{ℕ, ◌+◌, ◌-◌, Bool, cond, not, leb, ℤ, get_or, set}
+use Rattle.std.specs.Prelude.{ℕ, ◌+◌, ◌-◌, Bool, cond, not, leb, ℤ, get_or, set, Option, None, Result, Ok, Err}
 use Rattle.answers.specs.declared.refusal.Refusal.TheVariants.{NotBuilt, TableFull, ShortArena, NotAService}
 use Rattle.service_code.specs.declared.limit.Limit.{Limit}
-use Rattle.service_code.specs.declared.limit.Limit.TheVariants.{Unlimited, Limited}
 use Rattle.card_nodes.specs.declared.node.Entry.{Entry}
 use Rattle.card_nodes.specs.declared.node.Entry.TheVariants.{Area, Service}
 use Rattle.card_nodes.specs.declared.node.Node.{Node}
-use Rattle.answers.specs.declared.refusal.Answer.{Answer}
-use Rattle.answers.specs.declared.refusal.Answer.TheVariants.{Done, Refused}
 use Rattle.card_admit.specs.declared.Placed.{Placed}
-use Rattle.card_admit.specs.declared.Placed.TheVariants.{Store, Refused as NotPlaced}
 use Rattle.card_nodes.specs.Node.{root_node}
 use Rattle.card_admit.specs.Admit.{area_judged, placed_of, agreed}
 use Rattle.card_build.specs.declared.card.Card.{Card}
 use Rattle.card_build.specs.declared.card.Added.{Added}
 use Rattle.card_build.specs.declared.build.Growth.{Growth}
 use Rattle.card_build.specs.Card.{nodes_of, is_short, grown, accepted, refused}
+use Rattle.answers.specs.declared.refusal.Refusal.{Refusal}
+use Rattle.service_code.specs.Limit.{limited_to}
 
 -- the record of a node
 -- RULES 5.2
@@ -31,9 +29,9 @@ abbrev pub grown_by : Card → Growth → Added
 grown_by c g = accepted (record { nodes = set c.nodes c.count g.node; count = g.count; used = g.used; system = c.system })
 
 -- a refused area leaves the card as it was
-abbrev pub area_by : Card → Node → Answer → Added
-area_by c n (Refused r) = refused c r
-area_by c n Done = accepted (grown c n c.used)
+abbrev pub area_by : Card → Node → Result Unit Refusal → Added
+area_by c n (Err r) = refused c r
+area_by c n (Ok tt) = accepted (grown c n c.used)
 
 -- 20: no record of the card is free; then those of the judging
 -- RULES 5.4
@@ -43,17 +41,17 @@ add_area c depth code end version =
     (area_by c (node_as depth code version (Area end)) (area_judged (nodes_of c) depth code end))
 
 -- what comes ahead of a service's own refusals: 8 of a card that is not sound, 7 of an arena that is short, 20 of a card that is full
-unfoldable pub ahead_of_service : Bool → Bool → Bool → Answer
+unfoldable pub ahead_of_service : Bool → Bool → Bool → Result Unit Refusal
 ahead_of_service sound short full =
-    cond (not sound) (Refused NotBuilt)
-    (cond short (Refused ShortArena)
-    (cond full (Refused TableFull)
-    Done))
+    cond (not sound) (Err NotBuilt)
+    (cond short (Err ShortArena)
+    (cond full (Err TableFull)
+    (Ok tt)))
 
 -- and so does a refused service, by 19 too
-abbrev pub service_by : Card → ℕ → ℕ → ℕ → Placed → Added
-service_by c depth code version (NotPlaced r) = refused c r
-service_by c depth code version (Store s b used) = accepted (grown c (node_as depth code version (Service s b Unlimited)) used)
+abbrev pub service_by : Card → ℕ → ℕ → ℕ → Result Placed Refusal → Added
+service_by c depth code version (Err r) = refused c r
+service_by c depth code version (Ok placed) = accepted (grown c (node_as depth code version (Service placed.start placed.blocks None)) placed.used)
 
 -- 7 ahead of the others, for an arena of `arena_len` bytes; then 20, then those of the placing, 24 among them
 -- RULES 2.3, 5.4
@@ -68,7 +66,7 @@ abbrev pub last_node : Card → Node
 last_node c = get_or c.nodes (c.count - 1) root_node
 
 -- 28 for an area
-abbrev pub limit_by : Card → Limit → Entry → Added
+abbrev pub limit_by : Card → Option Limit → Entry → Added
 limit_by c l (Area e) = refused c NotAService
 limit_by c l (Service s b old) = accepted (record {
   nodes = set c.nodes (c.count - 1) (node_as (last_node c).depth (last_node c).code (last_node c).version (Service s b l));
@@ -80,4 +78,4 @@ limit_by c l (Service s b old) = accepted (record {
 -- a limit goes to the node added last and replaces an earlier one; any two bounds are accepted
 -- RULES 5.9
 unfoldable pub set_limit : Card → ℤ → ℤ → ℕ → Added
-set_limit c upper lower generation = limit_by c (Limited upper lower generation) (last_node c).entry
+set_limit c upper lower generation = limit_by c (limited_to upper lower generation) (last_node c).entry

@@ -1,16 +1,16 @@
 // Building a card: each addition takes the card and hands it back, grown or as it was.
 ghost use Rattle.std.specs.Prelude.{◌≡◌, ◌-◌, ◌*◌, ◌/◌, ◌≤◌, ◌<◌, leb, length, replicate};
 ghost use Rattle.byte_parts.specs.Sizes.{block_size};
-ghost use Rattle.service_code.specs.declared.limit.Limit.TheVariants.{Limited};
 ghost use Rattle.byte_parts.specs.Part.{put};
 ghost use Rattle.card_nodes.specs.declared.node.Entry.TheVariants.{Service};
 ghost use Rattle.card_build.specs.Card.{is_short, refused};
 ghost use Rattle.card_build.specs.Grow.{node_as, growth_of, grown_by, ahead_of_service};
 ghost use Rattle.card_build.specs.Build.{area_added, service_added, limit_added, arena_added};
+ghost use Rattle.service_code.specs.Limit.{limited_to};
 
 use crate::card::{Added, Card};
 use crate::{card, fits};
-use answers::refusal::{Answer, Refusal};
+use answers::refusal::Refusal;
 use byte_parts::sizes::BLOCK_SIZE;
 use byte_parts::spans;
 use card_admit::Placed;
@@ -31,7 +31,7 @@ fn refuse(card: Card, refusal: Refusal) -> Added
 {
     Added {
         card,
-        answer: Answer::Refused(refusal),
+        answer: Err(refusal),
     }
 }
 
@@ -44,22 +44,22 @@ fn is_full(count: usize) -> bool
 
 // What is refused ahead of a service's own refusals, in an arena of `arena_len` bytes, or nothing.
 #[tactic(auto, unfolding(crate::specs::Grow::ahead_of_service))]
-fn ahead(sound: bool, arena_len: usize, used: usize, full: bool) -> Answer
+fn ahead(sound: bool, arena_len: usize, used: usize, full: bool) -> Result<(), Refusal>
     ensures { result ≡ ahead_of_service sound (is_short arena_len used) full }
 {
     // 8
     if !sound {
-        return Answer::Refused(Refusal::NotBuilt);
+        return Err(Refusal::NotBuilt);
     }
     // 7
     if card::is_short(arena_len, used) {
-        return Answer::Refused(Refusal::ShortArena);
+        return Err(Refusal::ShortArena);
     }
     // 20
     if full {
-        return Answer::Refused(Refusal::TableFull);
+        return Err(Refusal::TableFull);
     }
-    Answer::Done
+    Ok(())
 }
 
 // The record of a node that comes after `count` others; `in_use` blocks are then in use.
@@ -96,7 +96,7 @@ fn zero_blocks(arena: &mut [u8], used: usize, after: usize)
 
 // The record of a service's node, of a store, with a purse limit.
 fn limited(node: Node, start: u16, blocks: u16, upper: i32, lower: i32, generation: u8) -> Node
-    ensures { result ≡ node_as node.depth node.code node.version (Service start blocks (Limited upper lower generation)) }
+    ensures { result ≡ node_as node.depth node.code node.version (Service start blocks (limited_to upper lower generation)) }
 {
     Node {
         depth: node.depth,
@@ -105,11 +105,11 @@ fn limited(node: Node, start: u16, blocks: u16, upper: i32, lower: i32, generati
         entry: Entry::Service {
             start,
             blocks,
-            limit: Limit::Limited {
+            limit: Some(Limit {
                 upper,
                 lower,
                 generation,
-            },
+            }),
         },
     }
 }
@@ -127,7 +127,7 @@ impl Card {
         self.used = next.used;
         Added {
             card: self,
-            answer: Answer::Done,
+            answer: Ok(()),
         }
     }
 
@@ -147,8 +147,8 @@ impl Card {
             return refuse(self, Refusal::TableFull);
         }
         match fits::judge_area(nodes, count, depth, code, end) {
-            Answer::Refused(refusal) => refuse(self, refusal),
-            Answer::Done => self.grow(next_record(
+            Err(refusal) => refuse(self, refusal),
+            Ok(()) => self.grow(next_record(
                 depth as u8,
                 code,
                 version,
@@ -173,29 +173,26 @@ impl Card {
     {
         let count = self.count;
         let used = self.used;
-        // 8, 7, 20
-        if let Answer::Refused(refusal) = ahead(
-            self.is_sound(),
-            arena.len(),
-            used,
-            is_full(count),
-        ) {
+        // 8, 7, 20; no `?`, since a refusal hands the card back
+        if let Err(refusal) = ahead(self.is_sound(), arena.len(), used, is_full(count)) {
             return refuse(self, refusal);
         }
         let nodes = self.nodes;
         let join = self.system.join;
         match fits::place_service(nodes, count, join, used, arena.len(), depth, code, blocks) {
-            Placed::Refused(refusal) => refuse(self, refusal),
-            Placed::Store {
-                start,
-                blocks: own,
-                used: after,
-            } => {
+            Err(refusal) => refuse(self, refusal),
+            Ok(
+                Placed {
+                    start,
+                    blocks: own,
+                    used: after,
+                },
+            ) => {
                 zero_blocks(arena, used, after);
                 let entry = Entry::Service {
                     start,
                     blocks: own,
-                    limit: Limit::Unlimited,
+                    limit: None,
                 };
                 self.grow(next_record(depth as u8, code, version, entry, count, after))
             }
@@ -224,7 +221,7 @@ impl Card {
                 self.nodes[last] = limited(node, start, blocks, upper, lower, generation);
                 Added {
                     card: self,
-                    answer: Answer::Done,
+                    answer: Ok(()),
                 }
             }
         }

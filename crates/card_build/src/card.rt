@@ -2,7 +2,7 @@
 ghost use Rattle.std.specs.Prelude.{◌≡◌};
 ghost use Rattle.card_build.specs.Card.{of_one, new_card, is_sound, too_short, is_short};
 
-use answers::refusal::Answer;
+use answers::refusal::Refusal;
 use byte_parts::sizes::BLOCK_SIZE;
 use card_nodes::node::Node;
 
@@ -23,11 +23,11 @@ pub struct Card {
     pub system: System,
 }
 
-// A card handed back, and how the call on it ended.
+// A card handed back, and how the call on it ended. A struct and no Result: a refused call hands the card back too, and laws of the crates above name both fields.
 #[derive(Clone, Copy)]
 pub struct Added {
     pub card: Card,
-    pub answer: Answer,
+    pub answer: Result<(), Refusal>,
 }
 
 // Whether so many bytes are too few for a number of blocks.

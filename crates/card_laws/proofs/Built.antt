@@ -1,4 +1,5 @@
 -- Refusal 8 says yes exactly of the cards that accepted additions and limits produce.
+use Rattle.std.proofs.Common.{Option, Some, None}
 use mathlib.Core.Path.{◌≡◌, refl, sym, ◌∙◌, ap, subst}
 use mathlib.Core.Bool.{Bool, true, false, cond, not}
 use mathlib.Core.List.{List, [], ◌∷◌, ◌++◌}
@@ -8,7 +9,6 @@ use lib.IntN.{ℤ}
 use lib.ListN.{length}
 use Rattle.answers.specs.declared.refusal.Refusal.TheVariants.{NotBuilt}
 use Rattle.service_code.specs.declared.limit.Limit.{Limit}
-use Rattle.service_code.specs.declared.limit.Limit.TheVariants.{Unlimited, Limited}
 use Rattle.card_nodes.specs.declared.node.Entry.TheVariants.{Area, Service}
 use Rattle.card_nodes.specs.declared.node.Node.{Node}
 use Rattle.card_admit.specs.Admit.{placed_of, agreed}
@@ -23,6 +23,7 @@ use Rattle.card_laws.specs.Built.{Built}
 use Rattle.card_laws.proofs.Decided.{made_sound, sound_made}
 use Rattle.card_laws.proofs.Made.{Made, made-used}
 use Rattle.card_laws.proofs.Cards.{card_of, same_card, not_accepted, room_for, taken, last-node, area-card, area-accepted, service-card, service-accepted, limit-card}
+use Rattle.service_code.specs.Limit.{limited_to}
 
 -- a card of nodes that were made, at most 64
 pub data Carded : Card → Type 0 where
@@ -40,18 +41,18 @@ made-built system (Made.service {ns = ns} {used = used} {s = s} {b = b} {u = u} 
     (service-card system used ns depth code version 65536 b (omega (arith, made-used m)) f
     (ap (agreed system.join b) e ∙ own_count system.join s b u)))
   where
-    limited : (l : Limit) → Built (card_of system u (ns ++ (node_as depth code version (Service s b Unlimited) ∷ []))) →
+    limited : (l : Option Limit) → Built (card_of system u (ns ++ (node_as depth code version (Service s b None) ∷ []))) →
         Built (card_of system u (ns ++ (node_as depth code version (Service s b l) ∷ [])))
-    limited Unlimited c = c
-    limited (Limited upper lower generation) c =
-        let limit = Built.limit upper lower generation c (limit-card system u ns depth code version s b Unlimited upper lower generation) in
+    limited None c = c
+    limited (Some limit) c =
+        let limit = Built.limit limit.upper limit.lower limit.generation c (limit-card system u ns depth code version s b None limit.upper limit.lower limit.generation) in
         limit
 
 -- the card after an accepted call: one node more, or another limit on the last service
 pub data Follows : Card → Card → Type 0 where
   added : (system : System) (used : ℕ) (ns : List Node) (n : Node) {u : ℕ} → Made (ns ++ (n ∷ [])) u → length ns < 64 →
       Follows (card_of system used ns) (card_of system u (ns ++ (n ∷ [])))
-  limited : (system : System) (ns : List Node) (depth code version s b : ℕ) (old new : Limit) {u : ℕ} →
+  limited : (system : System) (ns : List Node) (depth code version s b : ℕ) (old new : Option Limit) {u : ℕ} →
       Made (ns ++ (node_as depth code version (Service s b new) ∷ [])) u → length ns < 64 →
       Follows (card_of system u (ns ++ (node_as depth code version (Service s b old) ∷ [])))
       (card_of system u (ns ++ (node_as depth code version (Service s b new) ∷ [])))
@@ -71,8 +72,8 @@ module _ {c' : Card} where
       let p = service-accepted system used ns depth code version arena_len blocks e in
       subst (Follows (card_of system used ns))
       (same_card (sym (service-card system used ns depth code version arena_len blocks p.0 p.1 p.5) ∙ e))
-      (Follows.added system used ns (node_as depth code version (Service p.2 p.3 Unlimited))
-      (Made.service depth code version Unlimited m (placed_longest ns depth code used arena_len blocks (agreed-stored system.join blocks (placed_of ns used arena_len depth code blocks) p.5))) p.1)
+      (Follows.added system used ns (node_as depth code version (Service p.2 p.3 None))
+      (Made.service depth code version None m (placed_longest ns depth code used arena_len blocks (agreed-stored system.join blocks (placed_of ns used arena_len depth code blocks) p.5))) p.1)
 
   -- a limit that is accepted
   pub limit_follows : {c : Card} (upper lower : ℤ) (generation : ℕ) → Carded c →
@@ -84,8 +85,8 @@ module _ {c' : Card} where
   limit_follows upper lower generation (carded system (Made.service {ns = ns} {s = s} {b = b} {u = u} depth code version old m j) h) e =
       subst (Follows (card_of system u (ns ++ (node_as depth code version (Service s b old) ∷ []))))
       (same_card (sym (limit-card system u ns depth code version s b old upper lower generation) ∙ e))
-      (Follows.limited system ns depth code version s b old (Limited upper lower generation)
-      (Made.service depth code version (Limited upper lower generation) m j) (room_for ns (node_as depth code version (Service s b old)) h))
+      (Follows.limited system ns depth code version s b old (limited_to upper lower generation)
+      (Made.service depth code version (limited_to upper lower generation) m j) (room_for ns (node_as depth code version (Service s b old)) h))
 
 -- its nodes were made too
 follows_carded : {c c' : Card} → Follows c c' → Carded c'

@@ -1,4 +1,5 @@
 -- The card of nodes that were made, and what an accepted call makes of it.
+use Rattle.std.proofs.Common.{Option, None, Result, Ok, Err}
 use mathlib.Core.Path.{◌≡◌, refl, sym, ◌∙◌, ap}
 use mathlib.Core.Bool.{Bool, true, false, cond}
 use mathlib.Core.List.{List, [], ◌∷◌, ◌++◌}
@@ -12,13 +13,9 @@ use borrow.Author.Tests.{ltb-false, leb-false, le-ltb, lt-leb}
 use Rattle.answers.specs.declared.refusal.Refusal.{Refusal}
 use Rattle.answers.specs.declared.refusal.Refusal.TheVariants.{TableFull, ShortArena}
 use Rattle.service_code.specs.declared.limit.Limit.{Limit}
-use Rattle.service_code.specs.declared.limit.Limit.TheVariants.{Unlimited, Limited}
 use Rattle.card_nodes.specs.declared.node.Entry.TheVariants.{Area, Service}
 use Rattle.card_nodes.specs.declared.node.Node.{Node}
-use Rattle.answers.specs.declared.refusal.Answer.{Answer}
-use Rattle.answers.specs.declared.refusal.Answer.TheVariants.{Done, Refused}
 use Rattle.card_admit.specs.declared.Placed.{Placed}
-use Rattle.card_admit.specs.declared.Placed.TheVariants.{Store, Refused as NotPlaced}
 use Rattle.card_nodes.specs.Node.{root_node}
 use Rattle.card_admit.specs.Admit.{area_judged, placed_of, agreed}
 use Rattle.card_build.specs.declared.card.System.{System}
@@ -26,6 +23,8 @@ use Rattle.card_build.specs.declared.card.Card.{Card}
 use Rattle.card_build.specs.declared.card.Added.{Added}
 use Rattle.card_build.specs.Card.{grown, accepted, refused}
 use Rattle.card_build.specs.Grow.{node_as, area_by, add_area, service_by, add_service, set_limit}
+use Rattle.card_admit.specs.Placed.{placed_at}
+use Rattle.service_code.specs.Limit.{limited_to}
 
 -- nodes, and the unused records after them
 abbrev pub records : List Node → List Node
@@ -84,7 +83,7 @@ module _ (system : System) (used : ℕ) (ns : List Node) where
 
   module _ (depth code version : ℕ) where
     -- an area that may come there comes next
-    pub area-card : (end : ℕ) → length ns < 64 → area_judged ns depth code end ≡ Done →
+    pub area-card : (end : ℕ) → length ns < 64 → area_judged ns depth code end ≡ Ok tt →
         add_area (card_of system used ns) depth code end version
         ≡ accepted (card_of system used (ns ++ (node_as depth code version (Area end) ∷ [])))
     unfolding add_area
@@ -94,31 +93,31 @@ module _ (system : System) (used : ℕ) (ns : List Node) where
     -- no other area is accepted
     pub area-accepted : {c' : Card} (end : ℕ) →
         add_area (card_of system used ns) depth code end version ≡ accepted c' →
-        (length ns < 64) × (area_judged ns depth code end ≡ Done)
+        (length ns < 64) × (area_judged ns depth code end ≡ Ok tt)
     unfolding add_area
     area-accepted {c' = c'} end e =
         let f = passed (card_of system used ns) TableFull (leb 64 (length ns)) (rw take-append_seam at e) in
         (leb-false 64 (length ns) f.0, done (area_judged ns depth code end) f.1)
       where
-        done : (a : Answer) → area_by (card_of system used ns) (node_as depth code version (Area end)) a ≡ accepted c' → a ≡ Done
-        done Done k = refl
-        done (Refused r) k = not_accepted k
+        done : (a : Result Unit Refusal) → area_by (card_of system used ns) (node_as depth code version (Area end)) a ≡ accepted c' → a ≡ Ok tt
+        done (Ok tt) k = refl
+        done (Err r) k = not_accepted k
 
     module _ (arena_len blocks : ℕ) where
       -- a service that gets a store comes next, with no limit, where the arena holds the blocks in use
       pub service-card : {s b u : ℕ} → 16 * used ≤ arena_len → length ns < 64 →
-          agreed system.join blocks (placed_of ns used arena_len depth code blocks) ≡ Store s b u →
+          agreed system.join blocks (placed_of ns used arena_len depth code blocks) ≡ placed_at s b u →
           add_service (card_of system used ns) arena_len depth code blocks version
-          ≡ accepted (card_of system u (ns ++ (node_as depth code version (Service s b Unlimited) ∷ [])))
+          ≡ accepted (card_of system u (ns ++ (node_as depth code version (Service s b None) ∷ [])))
       unfolding add_service
       service-card {s = s} {b = b} {u = u} h f e =
           rw (le-ltb arena_len (16 * used) h, lt-leb 64 (length ns) f, take-append_seam, e)
-          (ap accepted (grown-card (node_as depth code version (Service s b Unlimited)) u f))
+          (ap accepted (grown-card (node_as depth code version (Service s b None)) u f))
 
       -- no other service is accepted
       pub service-accepted : {c' : Card} → add_service (card_of system used ns) arena_len depth code blocks version ≡ accepted c' →
           (16 * used ≤ arena_len) × (length ns < 64) × (s : ℕ) × (b : ℕ) × (u : ℕ) ×
-          (agreed system.join blocks (placed_of ns used arena_len depth code blocks) ≡ Store s b u)
+          (agreed system.join blocks (placed_of ns used arena_len depth code blocks) ≡ placed_at s b u)
       unfolding add_service
       service-accepted {c' = c'} e =
           let h = passed (card_of system used ns) ShortArena (ltb arena_len (16 * used)) (rw take-append_seam at e) in
@@ -126,20 +125,20 @@ module _ (system : System) (used : ℕ) (ns : List Node) where
           let p = stored (agreed system.join blocks (placed_of ns used arena_len depth code blocks)) f.1 in
           (ltb-false arena_len (16 * used) h.0, leb-false 64 (length ns) f.0, p.0, p.1, p.2, p.3)
         where
-          stored : (p : Placed) → service_by (card_of system used ns) depth code version p ≡ accepted c' →
-              (s : ℕ) × (b : ℕ) × (u : ℕ) × (p ≡ Store s b u)
-          stored (Store s b u) k = (s, b, u, refl)
-          stored (NotPlaced r) k = not_accepted k
+          stored : (p : Result Placed Refusal) → service_by (card_of system used ns) depth code version p ≡ accepted c' →
+              (s : ℕ) × (b : ℕ) × (u : ℕ) × (p ≡ placed_at s b u)
+          stored (Ok placed) k = (placed.start, placed.blocks, placed.used, refl)
+          stored (Err r) k = not_accepted k
 
-  module _ (depth code version s b : ℕ) (old : Limit) (upper lower : ℤ) (generation : ℕ) where
+  module _ (depth code version s b : ℕ) (old : Option Limit) (upper lower : ℤ) (generation : ℕ) where
     -- a limit takes the place of the last service's
     pub limit-card :
         set_limit (card_of system used (ns ++ (node_as depth code version (Service s b old) ∷ []))) upper lower generation
-        ≡ accepted (card_of system used (ns ++ (node_as depth code version (Service s b (Limited upper lower generation)) ∷ [])))
+        ≡ accepted (card_of system used (ns ++ (node_as depth code version (Service s b (limited_to upper lower generation)) ∷ [])))
     unfolding set_limit
     limit-card =
         let n = node_as depth code version (Service s b old) in
-        let m = node_as depth code version (Service s b (Limited upper lower generation)) in
+        let m = node_as depth code version (Service s b (limited_to upper lower generation)) in
         rw (last-node ns n, last-node ns n)
         (ap accepted
         (λ i. record {

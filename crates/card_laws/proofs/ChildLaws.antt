@@ -1,4 +1,5 @@
 -- The direct children of an area are those by which directory and totals are worded, and the area that a code names.
+use Rattle.std.proofs.Common.{Some, None}
 use mathlib.Core.Path.{◌≡◌, refl, sym, ◌∙◌, ap}
 use mathlib.Core.Bool.{Bool, true, false, cond, and-eq-true_iff}
 use mathlib.Core.List.{List, [], ◌∷◌}
@@ -12,7 +13,6 @@ use borrow.Author.Tests.{le-leb, lt-leb, eq-eqb, ne_eqb}
 use Rattle.card_nodes.specs.declared.node.Entry.{Entry}
 use Rattle.card_nodes.specs.declared.node.Entry.TheVariants.{Area, Service}
 use Rattle.card_nodes.specs.declared.node.Node.{Node}
-use Rattle.card_nodes.specs.declared.find.Found.TheVariants.{At, Nothing}
 use Rattle.card_nodes.specs.Node.{root_node, is_area}
 use Rattle.card_nodes.specs.Find.{is_area_of, area_of}
 use Rattle.card_nodes.proofs.Searches.{first_found}
@@ -94,16 +94,16 @@ children_worded_lem {c = c} b i h a =
     rw (add-one i) (level_worded (length (nodes_of c)) n.depth (drop (suc i) (nodes_of c)) (shorter (suc i) (nodes_of c)) s)
 
 -- the area that a code names is the first of that code
-pub named : (ns : List Node) (code : ℕ) {i : ℕ} → area_named ns code ≡ At i → area_of ns code ≡ At i
+pub named : (ns : List Node) (code : ℕ) {i : ℕ} → area_named ns code ≡ Some i → area_of ns code ≡ Some i
 unfolding area_named
 named ns code {i = i} e = by (eqb code 0xffff) e
   where
-    by : (t : Bool) → cond t Nothing (area_of ns code) ≡ At i → area_of ns code ≡ At i
+    by : (t : Bool) → cond t None (area_of ns code) ≡ Some i → area_of ns code ≡ Some i
     by true k = absurd (let z : ◌≡◌ {A = ℕ} 0 1 = cc in (omega arith))
     by false k = k
 
 -- it is one of the nodes, and an area
-pub named-area : (ns : List Node) (code : ℕ) {i : ℕ} → area_named ns code ≡ At i →
+pub named-area : (ns : List Node) (code : ℕ) {i : ℕ} → area_named ns code ≡ Some i →
     (i < length ns) × (is_area (get_or ns i root_node).entry ≡ true)
 named-area ns code {i = i} e =
     let f = first_found (is_area_of code) ns (named ns code e) in
@@ -111,6 +111,6 @@ named-area ns code {i = i} e =
     (f.within, t.1)
 
 -- FFFF names none
-pub system-none : (ns : List Node) → area_named ns 0xffff ≡ Nothing
+pub system-none : (ns : List Node) → area_named ns 0xffff ≡ None
 unfolding area_named
 system-none ns = refl

@@ -1,4 +1,5 @@
 -- The test of refusal 8 says yes exactly of nodes that were made, with unused records after them.
+use Rattle.std.proofs.Common.{Option, Some, None}
 use mathlib.Core.Path.{◌≡◌, refl, sym, ◌∙◌, ap, subst}
 use mathlib.Core.Bool.{Bool, true, false, cond, not, false≢true, and-eq-true_iff}
 use mathlib.Core.List.{List, [], ◌∷◌, ◌++◌}
@@ -12,8 +13,6 @@ use Rattle.card_nodes.specs.declared.node.Entry.{Entry}
 use Rattle.card_nodes.specs.declared.node.Entry.TheVariants.{Area, Service}
 use Rattle.card_nodes.specs.declared.node.Node.{Node}
 use Rattle.card_nodes.specs.Node.{root_node}
-use Rattle.card_sound.specs.declared.Step.{Step}
-use Rattle.card_sound.specs.declared.Step.TheVariants.{Goes, Stops}
 use Rattle.card_sound.specs.Sound.{root_end, is_root, all_roots, steps_from, steps_of, ends_at, sound_of}
 use Rattle.card_laws.proofs.Made.{Made, steps_made, made_gone}
 use Rattle.card_laws.proofs.Cards.{records}
@@ -25,7 +24,7 @@ roots zero = refl
 roots (suc k) = roots k
 
 -- the root, and records that the steps go through
-sound_yes : (ms : List Node) (used : ℕ) → suc (length ms) ≤ 64 → steps_from (root_node ∷ []) 0 ms ≡ Goes used →
+sound_yes : (ms : List Node) (used : ℕ) → suc (length ms) ≤ 64 → steps_from (root_node ∷ []) 0 ms ≡ Some used →
     sound_of (root_node ∷ (ms ++ replicate (64 - suc (length ms)) root_node)) (suc (length ms)) used ≡ true
 unfolding sound_of steps_of is_root
 sound_yes ms used h e =
@@ -50,9 +49,9 @@ no_then true e = absurd (false≢true e)
 no_then false e = (refl, e)
 
 -- where the steps end
-ends : (s : Step) (used : ℕ) → ends_at used s ≡ true → s ≡ Goes used
-ends (Goes u) used e = ap Goes (eqb-true u used e)
-ends Stops used e = absurd (false≢true e)
+ends : (s : Option ℕ) (used : ℕ) → ends_at used s ≡ true → s ≡ Some used
+ends (Some u) used e = ap Some (eqb-true u used e)
+ends None used e = absurd (false≢true e)
 
 -- the root's case
 root_entry : (k : Entry) → root_end k ≡ true → k ≡ Area 0xfffe

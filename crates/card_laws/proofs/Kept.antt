@@ -1,4 +1,5 @@
 -- An accepted call keeps what was found before.
+use Rattle.std.proofs.Common.{Option, Some}
 use mathlib.Core.Path.{◌≡◌, refl, sym, ◌∙◌, ap}
 use mathlib.Core.Bool.{Bool}
 use mathlib.Core.List.{List, [], ◌∷◌, ◌++◌, map, map-append}
@@ -10,7 +11,6 @@ use lib.Seq.{take-append_seam}
 use Rattle.service_code.specs.declared.limit.Limit.{Limit}
 use Rattle.card_nodes.specs.declared.node.Entry.TheVariants.{Service}
 use Rattle.card_nodes.specs.declared.node.Node.{Node}
-use Rattle.card_nodes.specs.declared.find.Found.TheVariants.{At}
 use Rattle.card_nodes.specs.Node.{root_node, is_area, end_of, start_of, blocks_of}
 use Rattle.card_nodes.specs.Find.{first_from, service_of, area_of, shared_of}
 use Rattle.card_nodes.proofs.Searches.{first-kept, first-map}
@@ -34,9 +34,9 @@ pub record Alike (n m : Node) : Type 0 where
 -- nodes, and those after an accepted call
 pub record Kept (ns ms : List Node) : Type 0 where
   -- a service or an area that was found is found at its index
-  pub service : (code : ℕ) {i : ℕ} → service_of ns code ≡ At i → service_of ms code ≡ At i
-  pub area : (code : ℕ) {i : ℕ} → area_of ns code ≡ At i → area_of ms code ≡ At i
-  pub shared : (code : ℕ) {i : ℕ} → shared_of ns code ≡ At i → shared_of ms code ≡ At i
+  pub service : (code : ℕ) {i : ℕ} → service_of ns code ≡ Some i → service_of ms code ≡ Some i
+  pub area : (code : ℕ) {i : ℕ} → area_of ns code ≡ Some i → area_of ms code ≡ Some i
+  pub shared : (code : ℕ) {i : ℕ} → shared_of ns code ≡ Some i → shared_of ms code ≡ Some i
   -- each node is as it was, but for a limit
   pub alike : (i : ℕ) → i < length ns → Alike (node_at ns i) (node_at ms i)
   -- and that only at the last
@@ -68,7 +68,7 @@ found_last t ns n m e =
     first-map t 0 (ns ++ (m ∷ [])) (ns ++ (n ∷ []))
     (map-append t ns (m ∷ []) ∙ ap (λ b. map t ns ++ (b ∷ [])) (sym e) ∙ sym (map-append t ns (n ∷ [])))
 
-kept-limit : (ns : List Node) (depth code version s b : ℕ) (old new : Limit) →
+kept-limit : (ns : List Node) (depth code version s b : ℕ) (old new : Option Limit) →
     Kept (ns ++ (node_as depth code version (Service s b old) ∷ [])) (ns ++ (node_as depth code version (Service s b new) ∷ []))
 kept-limit ns depth code version s b old new =
     let n = node_as depth code version (Service s b old) in

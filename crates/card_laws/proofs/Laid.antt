@@ -1,4 +1,5 @@
 -- What is known of the nodes of a card that additions and limits produce, and where their stores lie.
+use Rattle.std.proofs.Common.{Option, Some, None, Ok}
 use mathlib.Core.Path.{◌≡◌, refl, sym, ◌∙◌, ap}
 use mathlib.Core.Bool.{Bool, true, false, ◌&&◌, false≢true, and-eq-true_iff}
 use mathlib.Core.List.{List, [], ◌∷◌, ◌++◌}
@@ -14,9 +15,6 @@ use Rattle.service_code.specs.Code.{number_of, code_kind_of}
 use Rattle.service_code.specs.declared.limit.Limit.{Limit}
 use Rattle.card_nodes.specs.declared.node.Entry.TheVariants.{Area, Service}
 use Rattle.card_nodes.specs.declared.node.Node.{Node}
-use Rattle.card_nodes.specs.declared.find.Found.TheVariants.{At, Nothing}
-use Rattle.answers.specs.declared.refusal.Answer.TheVariants.{Done}
-use Rattle.card_admit.specs.declared.Placed.TheVariants.{Store}
 use Rattle.card_nodes.specs.Node.{root_node, is_service, start_of, blocks_of}
 use Rattle.card_nodes.specs.Find.{first_from, service_of, shared_of}
 use Rattle.card_admit.specs.Admit.{area_judged, placed_of}
@@ -29,6 +27,7 @@ use Rattle.card_laws.specs.Built.{Built}
 use Rattle.card_laws.proofs.Made.{Made, made-used}
 use Rattle.card_laws.proofs.Built.{Carded, carded, built_carded}
 use Rattle.card_laws.proofs.Places.{Known, area_deep, service_known, same_kind_lem}
+use Rattle.card_admit.specs.Placed.{placed_at}
 
 -- a node by its index; past the end the root is read, which is no service
 abbrev pub node_at : List Node → ℕ → Node
@@ -41,7 +40,7 @@ store_end n = start_of n.entry + blocks_of n.entry
 -- a service, by the first of its number: that has the same store, of the same kind, after all stores before it
 pub record OfFirst (ns : List Node) (n : Node) : Type 0 where
   pub first : ℕ
-  pub found : shared_of ns n.code ≡ At first
+  pub found : shared_of ns n.code ≡ Some first
   pub start : start_of n.entry ≡ start_of (node_at ns first).entry
   pub blocks : blocks_of n.entry ≡ blocks_of (node_at ns first).entry
   pub kind : code_kind_of n.code ≡ code_kind_of (node_at ns first).code
@@ -78,7 +77,7 @@ abbrev sharer : ℕ → Node → Bool
 sharer code n = eqb (number_of n.code) (number_of code) && is_service n.entry
 
 -- what a search finds is a service of the code, or of its number
-found-is : (by : Node → ℕ) (x : ℕ) (ns : List Node) {p : ℕ} → first_from (λ m. eqb (by m) x && is_service m.entry) 0 ns ≡ At p →
+found-is : (by : Node → ℕ) (x : ℕ) (ns : List Node) {p : ℕ} → first_from (λ m. eqb (by m) x && is_service m.entry) 0 ns ≡ Some p →
     (p < length ns) × (by (node_at ns p) ≡ x) × (is_service (node_at ns p).entry ≡ true)
 found-is by x ns {p = p} e =
     let f = first_found (λ m. eqb (by m) x && is_service m.entry) ns e in
@@ -86,7 +85,7 @@ found-is by x ns {p = p} e =
     (f.within, eqb-true (by (node_at ns p)) x t.0, t.1)
 
 -- by its number
-shared_is : (ns : List Node) (code : ℕ) {p : ℕ} → shared_of ns code ≡ At p →
+shared_is : (ns : List Node) (code : ℕ) {p : ℕ} → shared_of ns code ≡ Some p →
     (p < length ns) × (number_of (node_at ns p).code ≡ number_of code) × (is_service (node_at ns p).entry ≡ true)
 shared_is ns code e = found-is (λ m. number_of m.code) (number_of code) ns e
 
@@ -97,7 +96,7 @@ pub record Served (ns : List Node) (code i : ℕ) : Type 0 where
   pub service : is_service (node_at ns i).entry ≡ true
 
 -- what service_of finds is one
-pub served : (ns : List Node) (code : ℕ) {i : ℕ} → service_of ns code ≡ At i → Served ns code i
+pub served : (ns : List Node) (code : ℕ) {i : ℕ} → service_of ns code ≡ Some i → Served ns code i
 served ns code e = let f = found-is (λ m. m.code) code ns e in record { inside = f.0; coded = f.1; service = f.2 }
 
 -- codes of one number find one service
@@ -119,7 +118,7 @@ owner_kept {ns = ns} {m = m} n o =
     }
 
 -- a new service of a new number is the first
-owner_new : (ns : List Node) (n : Node) → shared_of ns n.code ≡ Nothing → is_service n.entry ≡ true →
+owner_new : (ns : List Node) (n : Node) → shared_of ns n.code ≡ None → is_service n.entry ≡ true →
     ((k : ℕ) → store_end (node_at ns k) ≤ start_of n.entry) → OfFirst (ns ++ (n ∷ [])) n
 unfolding first_from
 owner_new ns n e h above =
@@ -162,7 +161,7 @@ module _ {ns : List Node} {used : ℕ} (l : Laid ns used) where
   }
 
   -- an area has no store
-  laid_area : (depth code end version : ℕ) → area_judged ns depth code end ≡ Done →
+  laid_area : (depth code end version : ℕ) → area_judged ns depth code end ≡ Ok tt →
       Laid (ns ++ (node_as depth code version (Area end) ∷ [])) used
   laid_area depth code end version e = laid_next (record {
     deep = area_deep ns depth code end e;
@@ -172,7 +171,7 @@ module _ {ns : List Node} {used : ℕ} (l : Laid ns used) where
     owner = no_service;
   })
 
-  module _ {s b u : ℕ} (depth code version : ℕ) (limit : Limit) (e : placed_of ns used 65536 depth code b ≡ Store s b u) where
+  module _ {s b u : ℕ} (depth code version : ℕ) (limit : Option Limit) (e : placed_of ns used 65536 depth code b ≡ placed_at s b u) where
     abbrev new : Node
     new = node_as depth code version (Service s b limit)
 
@@ -238,7 +237,7 @@ module _ {ns : List Node} {used : ℕ} (l : Laid ns used) (i j : ℕ) (h : is_se
   shared e =
       let o = l.owner i h in
       let p = l.owner j k in
-      let at : At o.first ≡ At p.first = sym o.found ∙ shared_same ns (node_at ns i).code (node_at ns j).code e ∙ p.found in
+      let at : Some o.first ≡ Some p.first = sym o.found ∙ shared_same ns (node_at ns i).code (node_at ns j).code e ∙ p.found in
       let same : o.first ≡ p.first = cc in
       record {
         start = o.start ∙ ap (λ x. start_of (node_at ns x).entry) same ∙ sym p.start;

@@ -1,4 +1,5 @@
 -- What is known of a node by the tests that it passed: its depth, and a service's attribute and kind.
+use Rattle.std.proofs.Common.{Option, Some, None, Result, Ok, Err}
 use mathlib.Core.Path.{◌≡◌, refl, sym, ◌∙◌, ap}
 use mathlib.Core.Bool.{Bool, true, false, cond}
 use mathlib.Core.List.{List}
@@ -10,71 +11,65 @@ use borrow.Author.Tests.{eqb-true}
 use Rattle.answers.specs.declared.refusal.Refusal.TheVariants.{NodeCodeOutOfRange, UndefinedServiceAttribute}
 use Rattle.service_code.specs.declared.code.ServiceAttribute.{ServiceAttribute}
 use Rattle.service_code.specs.declared.code.ServiceKind.TheVariants.{Random, Cyclic, Purse}
-use Rattle.service_code.specs.declared.code.Decoded.{Decoded}
-use Rattle.service_code.specs.declared.code.Decoded.TheVariants.{Defined, Undefined}
-use Rattle.service_code.specs.declared.code.DecodedKind.{DecodedKind}
-use Rattle.service_code.specs.declared.code.DecodedKind.TheVariants.{Defined as OfKind, Undefined as NoKind}
 use Rattle.service_code.specs.Code.{attribute_of, code_kind_of}
 use Rattle.card_nodes.specs.declared.node.Node.{Node}
-use Rattle.card_nodes.specs.declared.find.Found.{Found}
-use Rattle.card_nodes.specs.declared.find.Found.TheVariants.{At, Nothing}
-use Rattle.answers.specs.declared.refusal.Answer.{Answer}
-use Rattle.answers.specs.declared.refusal.Answer.TheVariants.{Done, Refused}
 use Rattle.card_admit.specs.declared.Placed.{Placed}
-use Rattle.card_admit.specs.declared.Placed.TheVariants.{Store}
 use Rattle.card_nodes.specs.Node.{root_node}
 use Rattle.card_admit.proofs.Growth.{Deep, parent_deep}
 use Rattle.card_admit.specs.Admit.{parent_at, area_found, area_judged, is_undefined, service_under, kind_number, same_kind, if_done, service_found, placed_of}
+use Rattle.answers.specs.declared.refusal.Refusal.{Refusal}
+use Rattle.card_admit.specs.Placed.{placed_at}
+use Rattle.service_code.specs.declared.code.ServiceKind.{ServiceKind}
 
 -- an area that is accepted
-pub area_deep : (ns : List Node) (depth code end : ℕ) → area_judged ns depth code end ≡ Done → Deep depth
+pub area_deep : (ns : List Node) (depth code end : ℕ) → area_judged ns depth code end ≡ Ok tt → Deep depth
 unfolding area_judged
 area_deep ns depth code end e = under (parent_at ns depth) refl e
   where
-    under : (f : Found) → parent_at ns depth ≡ f → area_found ns code end f ≡ Done → Deep depth
-    under Nothing q k = absurd (let z : ◌≡◌ {A = ℕ} 0 1 = cc in (omega arith))
-    under (At p) q k = parent_deep ns depth q
+    under : (f : Option ℕ) → parent_at ns depth ≡ f → area_found ns code end f ≡ Ok tt → Deep depth
+    under None q k = absurd (let z : ◌≡◌ {A = ℕ} 0 1 = cc in (omega arith))
+    under (Some p) q k = parent_deep ns depth q
 
 -- an attribute that is defined
 abbrev pub Known : ℕ → Type 0
-Known code = (a : ServiceAttribute) × (attribute_of code ≡ Defined a)
+Known code = (a : ServiceAttribute) × (attribute_of code ≡ Some a)
 
-under_known : (above : Node) (code : ℕ) → service_under above code ≡ Done → Known code
+under_known : (above : Node) (code : ℕ) → service_under above code ≡ Ok tt → Known code
 unfolding service_under
 under_known above code e = known _ (ltb 0xfffe code) (attribute_of code) refl e
   where
-    known : (x : Answer) (b : Bool) (d : Decoded) → attribute_of code ≡ d →
-        cond b (Refused NodeCodeOutOfRange) (cond (is_undefined d) (Refused UndefinedServiceAttribute) x) ≡ Done → Known code
+    known : (x : Result Unit Refusal) (b : Bool) (d : Option ServiceAttribute) → attribute_of code ≡ d →
+        cond b (Err NodeCodeOutOfRange) (cond (is_undefined d) (Err UndefinedServiceAttribute) x) ≡ Ok tt → Known code
     known x true d q k = absurd (let z : ◌≡◌ {A = ℕ} 0 1 = cc in (omega arith))
-    known x false (Defined a) q k = (a, q)
-    known x false Undefined q k = absurd (let z : ◌≡◌ {A = ℕ} 0 1 = cc in (omega arith))
+    known x false (Some a) q k = (a, q)
+    known x false None q k = absurd (let z : ◌≡◌ {A = ℕ} 0 1 = cc in (omega arith))
 
 -- a service that got a store
-pub service_known : (ns : List Node) (used arena_len depth code blocks : ℕ) {s b u : ℕ} → placed_of ns used arena_len depth code blocks ≡ Store s b u →
+pub service_known : (ns : List Node) (used arena_len depth code blocks : ℕ) {s b u : ℕ} → placed_of ns used arena_len depth code blocks ≡ placed_at s b u →
     Deep depth × Known code
 unfolding placed_of
 service_known ns used arena_len depth code blocks {s = s} {b = b} {u = u} e = under (parent_at ns depth) refl e
   where
-    done : (p : Placed) (a : Answer) → if_done a p ≡ Store s b u → a ≡ Done
-    done p Done k = refl
-    done p (Refused r) k = absurd (let z : ◌≡◌ {A = ℕ} 0 1 = cc in (omega arith))
+    done : (p : Result Placed Refusal) (a : Result Unit Refusal) → if_done a p ≡ placed_at s b u → a ≡ Ok tt
+    done p (Ok tt) k = refl
+    done p (Err r) k = absurd (let z : ◌≡◌ {A = ℕ} 0 1 = cc in (omega arith))
 
-    under : (f : Found) → parent_at ns depth ≡ f → service_found ns used arena_len code blocks f ≡ Store s b u → Deep depth × Known code
-    under Nothing q k = absurd (let z : ◌≡◌ {A = ℕ} 0 1 = cc in (omega arith))
-    under (At p) q k =
+    under : (f : Option ℕ) → parent_at ns depth ≡ f → service_found ns used arena_len code blocks f ≡ placed_at s b u → Deep depth × Known code
+    under None q k = absurd (let z : ◌≡◌ {A = ℕ} 0 1 = cc in (omega arith))
+    under (Some p) q k =
         let above = get_or ns p root_node in
         (parent_deep ns depth q, under_known above code (done _ (service_under above code) k))
 
 -- the kind of a number
-kind_at : ℕ → DecodedKind
-kind_at n = cond (eqb n 1) (OfKind Random) (cond (eqb n 2) (OfKind Cyclic) (cond (eqb n 3) (OfKind Purse) NoKind))
+kind_at : ℕ → Option ServiceKind
+kind_at n = cond (eqb n 1) (Some Random) (cond (eqb n 2) (Some Cyclic) (cond (eqb n 3) (Some Purse) None))
 
-kind_at_lem : (k : DecodedKind) → kind_at (kind_number k) ≡ k
+kind_at_lem : (k : Option ServiceKind) → kind_at (kind_number k) ≡ k
 unfolding kind_at
-kind_at_lem NoKind = refl
-kind_at_lem (OfKind Random) = refl
-kind_at_lem (OfKind Cyclic) = refl
-kind_at_lem (OfKind Purse) = refl
+kind_at_lem None = refl
+kind_at_lem (Some Random) = refl
+kind_at_lem (Some Cyclic) = refl
+kind_at_lem (Some Purse) = refl
 
 -- codes that pass the test of refusal 19 are of one kind
 pub same_kind_lem : (a b : ℕ) → same_kind a b ≡ true → code_kind_of a ≡ code_kind_of b

@@ -1,4 +1,5 @@
 -- A definition over the flat table says what docs/RULES.md words by the children of an area.
+use Rattle.std.proofs.Common.{Option}
 use mathlib.Core.Path.{◌≡◌, refl, sym, ◌∙◌, ap}
 use mathlib.Core.List.{List, [], ◌∷◌}
 use mathlib.Core.Logic.{⊎_elim}
@@ -22,7 +23,7 @@ module _ {B : Type 0} {f : ℕ → List Node → B} {none : B} {one : Node → B
   -- a child area counts with all that lies under it, a service alone
   module _ (child : Node → B → B)
       (as-area : (n : Node) (e : ℕ) → n.entry ≡ Area e → (x : B) → child n x ≡ one n x)
-      (as-service : (n : Node) (s b : ℕ) (l : Limit) → n.entry ≡ Service s b l → (x y : B) → join (child n x) y ≡ one n y) where
+      (as-service : (n : Node) (s b : ℕ) (l : Option Limit) → n.entry ≡ Service s b l → (x y : B) → join (child n x) y ≡ one n y) where
     one_child : (d : ℕ) (n : Node) (ns : List Node) → d < n.depth → (t : Entry) → n.entry ≡ t →
         join (child n (f n.depth ns)) (f d (drop (child_span t (span_under n.depth ns)) ns)) ≡ one n (f d ns)
     one_child d n ns h (Area e) q =

@@ -1,16 +1,14 @@
 -- The area that a code names, and its direct children.
-use Rattle.std.specs.Prelude.{ℕ, ◌+◌, List, [], ◌∷◌, ◌++◌, cond, eqb, leb, drop, get_or}
+use Rattle.std.specs.Prelude.{ℕ, ◌+◌, List, [], ◌∷◌, ◌++◌, cond, eqb, leb, drop, get_or, Option, None}
 use Rattle.card_nodes.specs.declared.node.Node.{Node}
-use Rattle.card_nodes.specs.declared.find.Found.{Found}
-use Rattle.card_nodes.specs.declared.find.Found.TheVariants.{Nothing}
 use Rattle.card_nodes.specs.Node.{root_node}
 use Rattle.card_nodes.specs.Find.{area_of}
 use Rattle.card_laws.specs.Worded.{by_children}
 
 -- the first area of a code; FFFF is the system, and no area
 -- RULES 18.1
-unfoldable pub area_named : List Node → ℕ → Found
-area_named ns code = cond (eqb code 0xffff) Nothing (area_of ns code)
+unfoldable pub area_named : List Node → ℕ → Option ℕ
+area_named ns code = cond (eqb code 0xffff) None (area_of ns code)
 
 -- of the nodes that follow an area of depth d, those under it that are one level deeper, in tree order
 -- RULES 18.1

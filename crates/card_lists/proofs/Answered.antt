@@ -1,4 +1,5 @@
 -- What a built card answers for an area: its packets, one after the other, tell all of its children.
+use Rattle.std.proofs.Common.{Some}
 use mathlib.Core.Path.{◌≡◌, refl, sym, ◌∙◌, ap}
 use mathlib.Core.Bool.{Bool, true, false, cond}
 use mathlib.Core.List.{List, []}
@@ -9,7 +10,6 @@ use borrow.Author.Tests.{leb-true, ne_eqb}
 use Rattle.answers.specs.declared.refusal.Refusal.TheVariants.{PacketPastEnd}
 use Rattle.node_messages.specs.CodeList.{ranges_of, codes_listed, list_told, list_refused}
 use Rattle.card_nodes.specs.declared.node.Node.{Node}
-use Rattle.card_nodes.specs.declared.find.Found.TheVariants.{At}
 use Rattle.card_questions.specs.ListingWorded.{pairs_of}
 use Rattle.card_build.specs.declared.card.Card.{Card}
 use Rattle.card_build.specs.Card.{nodes_of}
@@ -52,7 +52,7 @@ unfolding packets_joined
 same_joined f g e zero = refl
 same_joined f g e (suc k) = rw (same_joined f g e k, e k)
 
-module _ {c : Card} (b : Built c) (parent : ℕ) {i : ℕ} (found : area_named (nodes_of c) parent ≡ At i) where
+module _ {c : Card} (b : Built c) (parent : ℕ) {i : ℕ} (found : area_named (nodes_of c) parent ≡ Some i) where
   -- each packet is that of the area's direct children
   pub answers : (p : ℕ) → code_list_of c parent p ≡ packet_told (children_at (nodes_of c) i) p
   unfolding code_list_of

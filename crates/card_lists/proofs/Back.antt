@@ -1,4 +1,5 @@
 -- What a card tells, written and read, comes back.
+use Rattle.std.proofs.Common.{Option, Some, None, Ok}
 use mathlib.Core.Path.{◌≡◌, refl, sym, ◌∙◌, ap}
 use mathlib.Core.Bool.{Bool, true, false, cond, not}
 use mathlib.Core.List.{List, [], ◌∷◌, ◌++◌, map}
@@ -7,9 +8,7 @@ use native.Mathlib.Omega.{arith}
 use lib.Dec.{eqb, ltb, leb}
 use lib.ListN.{length, get_or, take, drop, replicate, length-map}
 use borrow.Author.Tests.{ltb-false}
-use Rattle.answers.specs.declared.refusal.Answer.TheVariants.{Done}
 use Rattle.answers.specs.declared.refusal.Refusal.TheVariants.{NotBuilt, ShortArena, TooManyNodes, ParentNoArea, PacketPastEnd}
-use Rattle.answers.specs.declared.refusal.Told.TheVariants.{Number}
 use Rattle.byte_parts.specs.Part.{padded}
 use Rattle.node_messages.specs.declared.code_list.Listed.{Listed}
 use Rattle.node_messages.specs.declared.information.Informed.{Informed}
@@ -20,8 +19,6 @@ use Rattle.node_messages.proofs.NumberLaws.{padded-long, padded_front}
 use Rattle.node_messages.proofs.Round.{halves_take, list_back, list-whole, information_back, information_whole}
 use Rattle.card_nodes.specs.declared.node.Entry.{Entry}
 use Rattle.card_nodes.specs.declared.node.Node.{Node}
-use Rattle.card_nodes.specs.declared.find.Found.{Found}
-use Rattle.card_nodes.specs.declared.find.Found.TheVariants.{At, Nothing}
 use Rattle.card_nodes.specs.Node.{root_node, is_area, is_service}
 use Rattle.card_nodes.specs.Find.{service_of, area_of}
 use Rattle.card_admit.specs.Admit.{usable}
@@ -111,7 +108,7 @@ list-fits more xs h = record {
 
 -- what is told, or a refusal
 abbrev Back : Listed → Type 0
-Back x = x.answer ≡ Done → read_code_list (code_list_bytes x.list) ≡ x
+Back x = x.answer ≡ Ok tt → read_code_list (code_list_bytes x.list) ≡ x
 
 packet-back : (children : List Node) (p : ℕ) → Coded children → Back (packet_told children p)
 unfolding packet_told
@@ -126,35 +123,35 @@ packet-back children p h = by (past_end p (length children))
         ∙ ap list_told (list-whole (packets.list-whole more ys (packet-few children p)))
 
 -- a code list that a card tells, written and read, comes back
-pub code-list-back : (c : Card) (parent p : ℕ) → Coded (nodes_of c) → (code_list_of c parent p).answer ≡ Done →
+pub code-list-back : (c : Card) (parent p : ℕ) → Coded (nodes_of c) → (code_list_of c parent p).answer ≡ Ok tt →
     read_code_list (code_list_bytes (code_list_of c parent p).list) ≡ code_list_of c parent p
 unfolding code_list_of
 code-list-back c parent p h = by (is_sound c) (area_named (nodes_of c) parent)
   where
-    by : (t : Bool) (f : Found) → Back (cond (not t) (list_refused NotBuilt) (list_found (nodes_of c) p f))
+    by : (t : Bool) (f : Option ℕ) → Back (cond (not t) (list_refused NotBuilt) (list_found (nodes_of c) p f))
     by false f e = absurd (let z : ◌≡◌ {A = ℕ} 0 1 = cc in (omega arith))
-    by true Nothing e = absurd (let z : ◌≡◌ {A = ℕ} 0 1 = cc in (omega arith))
-    by true (At i) e = packet-back (children_at (nodes_of c) i) p (coded_children (get_or (nodes_of c) i root_node).depth (drop (i + 1) (nodes_of c)) (coded_drop (i + 1) (nodes_of c) h)) e
+    by true None e = absurd (let z : ◌≡◌ {A = ℕ} 0 1 = cc in (omega arith))
+    by true (Some i) e = packet-back (children_at (nodes_of c) i) p (coded_children (get_or (nodes_of c) i root_node).depth (drop (i + 1) (nodes_of c)) (coded_drop (i + 1) (nodes_of c) h)) e
 
 -- totals and free counts are numbers of 16 bits
 total_half : (ns : List Node) (code : ℕ) → total_of ns code < 2 ^ 16
 unfolding total_of
 total_half ns code = by (service_of ns code) (area_of ns code)
   where
-    area : (g : Found) → area_total_at ns g < 2 ^ 16
-    area (At i) = omega arith
-    area Nothing = omega arith
+    area : (g : Option ℕ) → area_total_at ns g < 2 ^ 16
+    area (Some i) = omega arith
+    area None = omega arith
 
-    by : (f g : Found) → total_at ns code f < 2 ^ 16
-    by (At i) g = omega arith
-    by Nothing g = area (area_of ns code)
+    by : (f g : Option ℕ) → total_at ns code f < 2 ^ 16
+    by (Some i) g = omega arith
+    by None g = area (area_of ns code)
 
 free_half : (ns : List Node) (unused : ℕ) → unused < 2 ^ 16 → (code : ℕ) → free_for ns unused code < 2 ^ 16
 free_half ns unused h code = by (area_named ns code)
   where
-    by : (f : Found) → free_by unused f < 2 ^ 16
-    by (At i) = h
-    by Nothing = omega arith
+    by : (f : Option ℕ) → free_by unused f < 2 ^ 16
+    by (Some i) = h
+    by None = omega arith
 
 unused_half : (arena_len used : ℕ) → usable arena_len - used < 2 ^ 16
 unfolding usable
@@ -179,20 +176,20 @@ module _ (ns : List Node) (unused : ℕ) (asked : List ℕ) (h : unused < 2 ^ 16
   info_back = information_back info_fits ∙ ap information_told (information_whole info_whole)
 
 -- block information that a card tells, written and read, comes back
-pub blocks-back : (c : Card) (arena_len : ℕ) (asked : List ℕ) → (blocks_told c arena_len asked).answer ≡ Done →
+pub blocks-back : (c : Card) (arena_len : ℕ) (asked : List ℕ) → (blocks_told c arena_len asked).answer ≡ Ok tt →
     read_information (information_bytes (blocks_told c arena_len asked).told) ≡ blocks_told c arena_len asked
 unfolding blocks_told
 blocks-back c arena_len asked = by (is_sound c) (ltb arena_len (16 * c.used)) (ltb 32 (length asked)) refl
   where
     by : (t u v : Bool) → ltb 32 (length asked) ≡ v →
         (let x = cond (not t) (information_refused NotBuilt) (cond u (information_refused ShortArena) (cond v (information_refused TooManyNodes) (information_of (nodes_of c) (usable arena_len - c.used) asked))) in
-        x.answer ≡ Done → read_information (information_bytes x.told) ≡ x)
+        x.answer ≡ Ok tt → read_information (information_bytes x.told) ≡ x)
     by false u v q e = absurd (let z : ◌≡◌ {A = ℕ} 0 1 = cc in (omega arith))
     by true true v q e = absurd (let z : ◌≡◌ {A = ℕ} 0 1 = cc in (omega arith))
     by true false true q e = absurd (let z : ◌≡◌ {A = ℕ} 0 1 = cc in (omega arith))
     by true false false q e = info_back (nodes_of c) (usable arena_len - c.used) asked (unused_half arena_len c.used) (ltb-false 32 (length asked) q)
 
 -- assigned to a node of a built card is what the card answers for its total
-pub assigned-answered : {c : Card} → Built c → (code : ℕ) → total_answer c code ≡ Number (total_of (nodes_of c) code)
+pub assigned-answered : {c : Card} → Built c → (code : ℕ) → total_answer c code ≡ Ok (total_of (nodes_of c) code)
 unfolding total_answer
 assigned-answered b code = rw (built_sound b)

@@ -1,4 +1,5 @@
 -- One walk gathers the packet that the definition takes of all children.
+use Rattle.std.proofs.Common.{Option}
 use mathlib.Core.Path.{◌≡◌, refl, sym, ◌∙◌, ap}
 use mathlib.Core.Bool.{Bool, true, false, cond}
 use mathlib.Core.List.{List, [], ◌∷◌, ◌++◌, map, append-nil}
@@ -52,7 +53,7 @@ module _ (xs : List Node) (n : Node) (h : length xs < 16) where
       λ i. record { more = false; areas = k i; ranges = r i; services = length (sym services i); codes = padded 16 (map (λ (x : Node). x.code) (sym services i)) }
 
   -- a service
-  one_service : (s b : ℕ) (l : Limit) → n.entry ≡ Service s b l → service_gathered (list_of false xs) n.code ≡ list_of false (xs ++ (n ∷ []))
+  one_service : (s b : ℕ) (l : Option Limit) → n.entry ≡ Service s b l → service_gathered (list_of false xs) n.code ≡ list_of false (xs ++ (n ∷ []))
   unfolding among
   one_service s b l q =
       let services : services_among (xs ++ (n ∷ [])) ≡ services_among xs ++ (n ∷ []) = among-append is_service xs (n ∷ []) ∙ rw q in
@@ -166,7 +167,7 @@ module _ (m : CodeList) (n : Node) where
     unfolding child_added
     child_area q a = a ∙ rw (f, q)
 
-    pub child_service : {s b : ℕ} {l : Limit} {x : CodeList} → n.entry ≡ Service s b l → x ≡ service_gathered m n.code → x ≡ child_added m n
+    pub child_service : {s b : ℕ} {l : Option Limit} {x : CodeList} → n.entry ≡ Service s b l → x ≡ service_gathered m n.code → x ≡ child_added m n
     unfolding child_added
     child_service q a = a ∙ rw (f, q)
 

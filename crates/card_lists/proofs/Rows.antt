@@ -1,4 +1,5 @@
 -- Packets and free counts of small cards, as antt computes them. Assumes nothing.
+use Rattle.std.proofs.Common.{None}
 use Prim.Native.Nat.{ℕ}
 use mathlib.Core.Path.{◌≡◌, refl}
 use mathlib.Core.Bool.{true, false}
@@ -6,7 +7,6 @@ use mathlib.Core.List.{List, [], ◌∷◌}
 use lib.ListN.{replicate}
 use Rattle.answers.specs.declared.refusal.Refusal.TheVariants.{PacketPastEnd}
 use Rattle.byte_parts.specs.Part.{padded}
-use Rattle.service_code.specs.declared.limit.Limit.TheVariants.{Unlimited}
 use Rattle.node_messages.specs.CodeList.{list_told, list_refused}
 use Rattle.card_nodes.specs.declared.node.Entry.TheVariants.{Area, Service}
 use Rattle.card_nodes.specs.declared.node.Node.{Node}
@@ -15,7 +15,7 @@ use Rattle.card_lists.specs.Packet.{among, past_end, more_after, packet_told}
 
 -- the service 1009, and the area 1000 to 107F
 abbrev crews : Node
-crews = record { depth = 1; code = 0x1009; version = 0; entry = Service 0 1 Unlimited }
+crews = record { depth = 1; code = 0x1009; version = 0; entry = Service 0 1 None }
 
 abbrev races : Node
 races = record { depth = 1; code = 0x1000; version = 0; entry = Area 0x107f }

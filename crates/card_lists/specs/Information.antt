@@ -1,26 +1,22 @@
 -- The blocks of nodes, and what a card answers.
-use Rattle.std.specs.Prelude.{ℕ, ◌-◌, List, map, cond, not, ltb, length}
-use Rattle.answers.specs.declared.refusal.Answer.{Answer}
-use Rattle.answers.specs.declared.refusal.Answer.TheVariants.{Done, Refused}
+use Rattle.std.specs.Prelude.{ℕ, ◌-◌, List, map, cond, not, ltb, length, Option, Some, None, Result, Ok, Err}
 use Rattle.answers.specs.declared.refusal.Refusal.TheVariants.{NotBuilt, ShortArena, TooManyNodes}
 use Rattle.byte_parts.specs.Part.{padded}
 use Rattle.node_messages.specs.declared.information.Informed.{Informed}
-use Rattle.node_messages.specs.declared.message.Put.{Put}
 use Rattle.node_messages.specs.Information.{most_nodes, information_told, information_refused, information_bytes}
 use Rattle.card_nodes.specs.declared.node.Node.{Node}
-use Rattle.card_nodes.specs.declared.find.Found.{Found}
-use Rattle.card_nodes.specs.declared.find.Found.TheVariants.{At, Nothing}
 use Rattle.card_admit.specs.Admit.{usable}
 use Rattle.card_questions.specs.Total.{total_of}
 use Rattle.card_build.specs.declared.card.Card.{Card}
 use Rattle.card_build.specs.Card.{nodes_of, is_sound, is_short}
 use Rattle.card_laws.specs.Children.{area_named}
 use Rattle.card_lists.specs.Packet.{put_answered, out_answered}
+use Rattle.answers.specs.declared.refusal.Refusal.{Refusal}
 
 -- free are the unused blocks for an area, and none for any other node
-abbrev pub free_by : ℕ → Found → ℕ
-free_by unused (At i) = unused
-free_by unused Nothing = 0
+abbrev pub free_by : ℕ → Option ℕ → ℕ
+free_by unused (Some i) = unused
+free_by unused None = 0
 
 -- RULES 18.4
 abbrev pub free_for : List Node → ℕ → ℕ → ℕ
@@ -36,11 +32,11 @@ information_of ns unused asked = information_told (record {
 })
 
 -- what is refused ahead of any node, in an arena of `arena_len` bytes: 7, then 46
-unfoldable pub ahead_of : ℕ → ℕ → ℕ → Answer
+unfoldable pub ahead_of : ℕ → ℕ → ℕ → Result Unit Refusal
 ahead_of arena_len used many =
-    cond (is_short arena_len used) (Refused ShortArena)
-    (cond (ltb most_nodes many) (Refused TooManyNodes)
-    Done)
+    cond (is_short arena_len used) (Err ShortArena)
+    (cond (ltb most_nodes many) (Err TooManyNodes)
+    (Ok tt))
 
 -- what a card answers: 8, then 7 and 46
 -- RULES 18.4
@@ -53,7 +49,7 @@ blocks_told c arena_len asked =
 
 -- as bytes: 5 comes last
 -- RULES 18.4
-unfoldable pub blocks_put : Card → ℕ → List ℕ → ℕ → Put
+unfoldable pub blocks_put : Card → ℕ → List ℕ → ℕ → Result ℕ Refusal
 blocks_put c arena_len asked room = put_answered (blocks_told c arena_len asked).answer (information_bytes (blocks_told c arena_len asked).told) room
 
 -- RULES 18.4

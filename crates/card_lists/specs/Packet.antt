@@ -1,24 +1,19 @@
 -- The packets of an area's children, and what a card answers.
-use Rattle.std.specs.Prelude.{ℕ, zero, suc, ◌+◌, ◌*◌, List, [], ◌∷◌, ◌++◌, map, Bool, false, cond, not, eqb, ltb, leb, length, take, drop}
-use Rattle.answers.specs.declared.refusal.Answer.{Answer}
-use Rattle.answers.specs.declared.refusal.Answer.TheVariants.{Done, Refused}
+use Rattle.std.specs.Prelude.{ℕ, zero, suc, ◌+◌, ◌*◌, List, [], ◌∷◌, ◌++◌, map, Bool, false, cond, not, eqb, ltb, leb, length, take, drop, Option, Some, None, Result, Ok, Err}
 use Rattle.answers.specs.declared.refusal.Refusal.TheVariants.{NotBuilt, ParentNoArea, PacketPastEnd}
 use Rattle.byte_parts.specs.Part.{padded}
 use Rattle.node_messages.specs.declared.code_list.CodeList.{CodeList}
 use Rattle.node_messages.specs.declared.code_list.Listed.{Listed}
-use Rattle.node_messages.specs.declared.message.Put.{Put}
-use Rattle.node_messages.specs.declared.message.Put.TheVariants.{Refused as NotPut}
 use Rattle.node_messages.specs.Message.{message_put, message_after}
 use Rattle.node_messages.specs.CodeList.{most_entries, list_told, list_refused, code_list_bytes}
 use Rattle.card_nodes.specs.declared.node.Entry.{Entry}
 use Rattle.card_nodes.specs.declared.node.Node.{Node}
-use Rattle.card_nodes.specs.declared.find.Found.{Found}
-use Rattle.card_nodes.specs.declared.find.Found.TheVariants.{At, Nothing}
 use Rattle.card_nodes.specs.Node.{is_area, is_service}
 use Rattle.card_questions.specs.ListingWorded.{pairs_of}
 use Rattle.card_build.specs.declared.card.Card.{Card}
 use Rattle.card_build.specs.Card.{nodes_of, is_sound}
 use Rattle.card_laws.specs.Children.{area_named, children_at}
+use Rattle.answers.specs.declared.refusal.Refusal.{Refusal}
 
 -- the nodes of a kind
 unfoldable pub among : (Entry → Bool) → List Node → List Node
@@ -75,9 +70,9 @@ packet_told children p =
     (list_told (list_of (more_after p (length children)) (packet_of children p)))
 
 -- 44, or the packet of the area that was found
-abbrev pub list_found : List Node → ℕ → Found → Listed
-list_found ns p Nothing = list_refused ParentNoArea
-list_found ns p (At i) = packet_told (children_at ns i) p
+abbrev pub list_found : List Node → ℕ → Option ℕ → Listed
+list_found ns p None = list_refused ParentNoArea
+list_found ns p (Some i) = packet_told (children_at ns i) p
 
 -- what a card answers, refusal 8 first
 -- RULES 18.3
@@ -85,16 +80,16 @@ unfoldable pub code_list_of : Card → ℕ → ℕ → Listed
 code_list_of c parent p = cond (not (is_sound c)) (list_refused NotBuilt) (list_found (nodes_of c) p (area_named (nodes_of c) parent))
 
 -- an answer as bytes: 5 comes last
-abbrev pub put_answered : Answer → List ℕ → ℕ → Put
-put_answered Done message room = message_put message room
-put_answered (Refused r) message room = NotPut r
+abbrev pub put_answered : Result Unit Refusal → List ℕ → ℕ → Result ℕ Refusal
+put_answered (Ok tt) message room = message_put message room
+put_answered (Err r) message room = Err r
 
-abbrev pub out_answered : Answer → List ℕ → List ℕ → List ℕ
-out_answered Done message out = message_after message out
-out_answered (Refused r) message out = out
+abbrev pub out_answered : Result Unit Refusal → List ℕ → List ℕ → List ℕ
+out_answered (Ok tt) message out = message_after message out
+out_answered (Err r) message out = out
 
 -- RULES 18.3
-unfoldable pub code_list_put : Card → ℕ → ℕ → ℕ → Put
+unfoldable pub code_list_put : Card → ℕ → ℕ → ℕ → Result ℕ Refusal
 code_list_put c parent p room = put_answered (code_list_of c parent p).answer (code_list_bytes (code_list_of c parent p).list) room
 
 -- RULES 18.3

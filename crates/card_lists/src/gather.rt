@@ -18,10 +18,7 @@ pub struct Gathered {
 fn is_full(areas: usize, services: usize) -> bool
     ensures { result ≡ leb 16 (areas + services) }
 {
-    if 16 <= areas {
-        return true;
-    }
-    16 - areas <= services
+    16 <= areas || 16 - areas <= services
 }
 
 // Adds an area to a packet: its code and its end.
@@ -57,11 +54,7 @@ fn add_child(list: CodeList, child: Node) -> CodeList
     let entry = child.entry;
     match entry {
         Entry::Area { end } => add_area(list, child.code, end),
-        Entry::Service {
-            start: _,
-            blocks: _,
-            limit: _,
-        } => add_service(list, child.code),
+        Entry::Service { .. } => add_service(list, child.code),
     }
 }
 
@@ -97,14 +90,12 @@ pub(crate) fn gather(nodes: [Node; 64], count: usize, at: usize, first: usize) -
         list: CodeList::empty(),
         children: 0,
     };
-    let mut i = at + 1;
-    while i < n {
+    for i in at + 1..n {
         let node = nodes[i];
         if node.depth <= above.depth {
             return held;
         }
         held = add_node(held, node, above.depth, first);
-        i += 1;
     }
     held
 }

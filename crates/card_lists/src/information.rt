@@ -5,16 +5,14 @@ ghost use Rattle.card_questions.specs.Tags.{OfTags};
 ghost use Rattle.card_admit.specs.Admit.{usable};
 ghost use Rattle.card_lists.specs.Information.{free_for, information_of, ahead_of, blocks_told, blocks_put, blocks_out};
 
-use answers::refusal::{Answer, Refusal};
+use answers::refusal::Refusal;
 use card_build::card;
 use card_build::card::Card;
 use card_nodes::count;
-use card_nodes::find::Found;
 use card_nodes::node::Node;
 use card_questions::{tags, totals};
 use node_messages::information;
 use node_messages::information::{BlockInformation, Informed};
-use node_messages::message::Put;
 
 // The blocks free for the node of `code` among nodes of these tags: all that are unused for an area, none for any other.
 fn free_for(tags: &[u32], unused: u16, code: u16) -> u16
@@ -24,8 +22,8 @@ fn free_for(tags: &[u32], unused: u16, code: u16) -> u16
         return 0;
     }
     match tags::area_at(tags, code) {
-        Found::At(_) => unused,
-        Found::Nothing => 0,
+        Some(_) => unused,
+        None => 0,
     }
 }
 
@@ -34,14 +32,13 @@ fn put_free(tags: &[u32], unused: u16, asked: &[u16], to: &mut [u16])
     requires { length asked.now ≤ length to.old }
     ensures { OfTags tags.now (λ ns. to.new ≡ put to.old 0 (length asked.now) (map (free_for ns unused) asked.now)) }
 {
-    let mut i = 0;
-    while i < asked.len() {
-        to[i] = free_for(tags, unused, asked[i]);
-        i += 1;
+    for (i, code) in asked.iter().enumerate() {
+        to[i] = free_for(tags, unused, *code);
     }
 }
 
 // How many usable blocks of an arena of `arena_len` bytes are not in use.
+#[tactic(auto, unfolding(card_admit::specs::Admit::usable))]
 fn unused_blocks(arena_len: usize, used: usize) -> u16
     ensures { result ≡ usable arena_len - used }
 {
@@ -69,23 +66,24 @@ fn information_of(nodes: [Node; 64], count: usize, unused: u16, asked: &[u16]) -
             assigned,
             free,
         },
-        answer: Answer::Done,
+        answer: Ok(()),
     }
 }
 
 // What is refused ahead of any node, of an arena of `arena_len` bytes and of so many nodes asked, or nothing.
-fn ahead(arena_len: usize, used: usize, many: usize) -> Answer
+#[tactic(auto, unfolding(crate::specs::Information::ahead_of))]
+fn ahead(arena_len: usize, used: usize, many: usize) -> Result<(), Refusal>
     ensures { result ≡ ahead_of arena_len used many }
 {
     // 7
     if card::is_short(arena_len, used) {
-        return Answer::Refused(Refusal::ShortArena);
+        return Err(Refusal::ShortArena);
     }
     // 46
     if 32 < many {
-        return Answer::Refused(Refusal::TooManyNodes);
+        return Err(Refusal::TooManyNodes);
     }
-    Answer::Done
+    Ok(())
 }
 
 // The blocks of the nodes `asked`: assigned counts by the block total, and free counts. Refusals 8, 7, 46.
@@ -97,7 +95,7 @@ pub fn block_information(card: Card, arena: &[u8], asked: &[u16]) -> Informed
         return Informed::refused(Refusal::NotBuilt);
     }
     // 7, 46
-    if let Answer::Refused(refusal) = ahead(arena.len(), card.used, asked.len()) {
+    if let Err(refusal) = ahead(arena.len(), card.used, asked.len()) {
         return Informed::refused(refusal);
     }
     let nodes = card.nodes;
@@ -110,14 +108,16 @@ pub fn block_information(card: Card, arena: &[u8], asked: &[u16]) -> Informed
 }
 
 // The same information as bytes. Refusals 8, 7, 46, 5; the output beyond the message stays as it was.
-pub fn put_block_information(card: Card, arena: &[u8], asked: &[u16], out: &mut [u8]) -> Put
+pub fn put_block_information(
+    card: Card,
+    arena: &[u8],
+    asked: &[u16],
+    out: &mut [u8],
+) -> Result<usize, Refusal>
     ensures value { result ≡ blocks_put card (length arena.now) asked.now (length out.old) }
     ensures out_after { out.new ≡ blocks_out card (length arena.now) asked.now out.old }
 {
     let told = block_information(card, arena, asked);
-    let answer = told.answer;
-    match answer {
-        Answer::Refused(refusal) => Put::Refused(refusal),
-        Answer::Done => information::put_information(told.told, out),
-    }
+    told.answer?;
+    information::put_information(told.told, out)
 }

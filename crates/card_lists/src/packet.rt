@@ -4,13 +4,12 @@ ghost use Rattle.card_laws.specs.Children.{area_named};
 ghost use Rattle.card_lists.specs.Packet.{past_end, list_more, list_found, code_list_of, code_list_put, code_list_out};
 
 use crate::{area, gather};
-use answers::refusal::{Answer, Refusal};
+use answers::refusal::Refusal;
 use card_build::card::Card;
-use card_nodes::find::Found;
+use card_nodes::count;
 use card_nodes::node::Node;
 use node_messages::code_list;
 use node_messages::code_list::{CodeList, Listed};
-use node_messages::message::Put;
 
 // How many children come ahead of those of a packet.
 fn passed(packet: u32) -> usize
@@ -20,6 +19,7 @@ fn passed(packet: u32) -> usize
 }
 
 // Whether a packet lies past the end of so many children. Packet 0 never does.
+#[tactic(auto, unfolding(crate::specs::Packet::past_end))]
 fn is_past_end(packet: u32, children: usize) -> bool
     ensures { result ≡ past_end packet children }
 {
@@ -36,7 +36,7 @@ fn told(mut list: CodeList, more: bool) -> Listed
     list.more = more;
     Listed {
         list,
-        answer: Answer::Done,
+        answer: Ok(()),
     }
 }
 
@@ -45,7 +45,7 @@ fn packet_under(nodes: [Node; 64], count: usize, parent: u16, packet: u32) -> Li
     ensures { result ≡ list_found (take count nodes) packet (area_named (take count nodes) parent) }
 {
     // 44
-    let Found::At(at) = area::area_named(nodes, count, parent) else {
+    let Some(at) = area::area_named(count::records(&nodes, count), parent) else {
         return Listed::refused(Refusal::ParentNoArea);
     };
     let first = passed(packet);
@@ -59,6 +59,7 @@ fn packet_under(nodes: [Node; 64], count: usize, parent: u16, packet: u32) -> Li
 
 // A packet of the children of the area of `parent`: children 16 · packet to 16 · packet + 15, areas and services apart, and whether
 // more follow. Refusals 8, 44, 45.
+#[tactic(auto, unfolding(crate::specs::Packet::code_list_of))]
 pub fn code_list(card: Card, parent: u16, packet: u32) -> Listed
     ensures { result ≡ code_list_of card parent packet }
 {
@@ -71,14 +72,11 @@ pub fn code_list(card: Card, parent: u16, packet: u32) -> Listed
 }
 
 // The same packet as bytes. Refusals 8, 44, 45, 5; the output beyond the message stays as it was.
-pub fn put_code_list(card: Card, parent: u16, packet: u32, out: &mut [u8]) -> Put
+pub fn put_code_list(card: Card, parent: u16, packet: u32, out: &mut [u8]) -> Result<usize, Refusal>
     ensures value { result ≡ code_list_put card parent packet (length out.old) }
     ensures out_after { out.new ≡ code_list_out card parent packet out.old }
 {
     let asked = code_list(card, parent, packet);
-    let answer = asked.answer;
-    match answer {
-        Answer::Refused(refusal) => Put::Refused(refusal),
-        Answer::Done => code_list::put_code_list(asked.list, out),
-    }
+    asked.answer?;
+    code_list::put_code_list(asked.list, out)
 }

@@ -1,4 +1,5 @@
 -- What refusal 8 of two systems asks, and that of one system is one walk. Assumes nothing.
+use Rattle.std.proofs.Common.{Option, Some, None}
 use Prim.Native.Nat.{ℕ, zero, suc, ◌≤◌}
 use native.Mathlib.Omega.{arith}
 use mathlib.Core.Path.{◌≡◌, refl, ap}
@@ -9,8 +10,6 @@ use lib.ListN.{length, take, drop, replicate}
 use borrow.Author.Tests.{eq-eqb, ne_eqb, eqb-true, le-ltb, ltb-false}
 use Rattle.card_nodes.specs.declared.node.Node.{Node}
 use Rattle.card_nodes.specs.Node.{root_node}
-use Rattle.card_sound.specs.declared.Step.{Step}
-use Rattle.card_sound.specs.declared.Step.TheVariants.{Goes, Stops}
 use Rattle.card_sound.specs.Sound.{is_root, all_roots, steps_from, steps_of, ends_at, sound_of}
 use Rattle.card_build.specs.declared.card.Card.{Card}
 use Rattle.card_build.specs.Card.{system_of}
@@ -26,21 +25,21 @@ unused_roots (suc n) = unused_roots n
 
 module _ (nodes : List Node) (count used : ℕ) where
   -- what `walked_sound` asks
-  pub sound_walked : (walked : Step) → walked_sound nodes count used walked ≡ true →
-      (count ≤ 64) × (all_roots (drop count nodes) ≡ true) × (walked ≡ Goes used)
+  pub sound_walked : (walked : Option ℕ) → walked_sound nodes count used walked ≡ true →
+      (count ≤ 64) × (all_roots (drop count nodes) ≡ true) × (walked ≡ Some used)
   unfolding walked_sound
   sound_walked walked e = by_tests (ltb 64 count) (all_roots (drop count nodes)) walked refl refl e
     where
-      by_tests : (many unused : Bool) (x : Step) → ltb 64 count ≡ many → all_roots (drop count nodes) ≡ unused →
+      by_tests : (many unused : Bool) (x : Option ℕ) → ltb 64 count ≡ many → all_roots (drop count nodes) ≡ unused →
           cond many false (cond (not unused) false (ends_at used x)) ≡ true →
-          (count ≤ 64) × (all_roots (drop count nodes) ≡ true) × (x ≡ Goes used)
+          (count ≤ 64) × (all_roots (drop count nodes) ≡ true) × (x ≡ Some used)
       by_tests true unused x p q h = absurd (false≢true h)
       by_tests false false x p q h = absurd (false≢true h)
-      by_tests false true Stops p q h = absurd (false≢true h)
-      by_tests false true (Goes u) p q h = (ltb-false 64 count p, q, ap Goes (eqb-true u used h))
+      by_tests false true None p q h = absurd (false≢true h)
+      by_tests false true (Some u) p q h = (ltb-false 64 count p, q, ap Some (eqb-true u used h))
 
   -- and asks no more
-  pub walked_sound_lem : (walked : Step) → count ≤ 64 → all_roots (drop count nodes) ≡ true → walked ≡ Goes used →
+  pub walked_sound_lem : (walked : Option ℕ) → count ≤ 64 → all_roots (drop count nodes) ≡ true → walked ≡ Some used →
       walked_sound nodes count used walked ≡ true
   unfolding walked_sound
   walked_sound_lem walked few unused goes = rw (le-ltb 64 count few, unused, goes, eq-eqb used used refl)
@@ -59,9 +58,9 @@ one_sound (n ∷ nodes) (suc count) used h =
     let some : eqb (suc count) 0 ≡ false = ne_eqb (suc count) 0 (omega arith) in
     rw some (by_tests (ltb 64 (suc count)) (is_root n) (all_roots (drop count nodes)) (steps_from (n ∷ []) 0 (take count nodes)))
   where
-    by_tests : (many root unused : Bool) (x : Step) →
+    by_tests : (many root unused : Bool) (x : Option ℕ) →
         cond many false (cond (not root) false (cond (not unused) false (ends_at used x)))
-        ≡ cond many false (cond (not unused) false (ends_at used (cond (not root) Stops x)))
+        ≡ cond many false (cond (not unused) false (ends_at used (cond (not root) None x)))
     by_tests true root unused x = refl
     by_tests false true unused x = refl
     by_tests false false true x = refl

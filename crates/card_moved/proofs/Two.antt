@@ -1,4 +1,5 @@
 -- Refusal 8 of two systems says yes exactly where each has a card of its own, the second's stores after the first's. Assumes nothing.
+use Rattle.std.proofs.Common.{Option, Some, None}
 use Prim.Native.Nat.{ℕ, ◌-◌, ◌≤◌}
 use native.Mathlib.Omega.{arith}
 use mathlib.Core.Path.{◌≡◌, refl, sym, ap, ◌∙◌}
@@ -8,8 +9,6 @@ use lib.ListN.{length, take, drop, replicate, length-take, length-drop, length-a
 use lib.Seq.{take-append_seam, drop-append_seam}
 use Rattle.card_nodes.specs.declared.node.Node.{Node}
 use Rattle.card_nodes.specs.Node.{root_node}
-use Rattle.card_sound.specs.declared.Step.{Step}
-use Rattle.card_sound.specs.declared.Step.TheVariants.{Goes, Stops}
 use Rattle.card_sound.specs.Sound.{all_roots, then_step}
 use Rattle.card_moved.specs.Own.{OwnCard}
 use Rattle.card_moved.specs.Two.{system_from, sound_two, TwoOwned, OwnedPass}
@@ -27,11 +26,11 @@ sound_two_lem one two nodes at count used e =
     ms : List Node
     ms = drop at (take count nodes)
 
-    by_first : count ≤ 64 → (x : Step) → system_from 0 (take at nodes) ≡ x →
-        then_step x (λ k. system_from k ms) ≡ Goes used →
+    by_first : count ≤ 64 → (x : Option ℕ) → system_from 0 (take at nodes) ≡ x →
+        then_step x (λ k. system_from k ms) ≡ Some used →
         (k : ℕ) × OwnCard one 0 k (take at nodes) × OwnCard two k used ms × (count ≤ 64) × (used ≤ 4096)
-    by_first few Stops q g = no_stop g
-    by_first few (Goes k) q g =
+    by_first few None q g = no_stop g
+    by_first few (Some k) q g =
         let taken : length (take count nodes) ≤ 64 = simp length-take (omega (arith, few)) in
         let long : length ms ≡ length (take count nodes) - at = length-drop at (take count nodes) in
         let some = system-some k used ms g in (
@@ -44,8 +43,8 @@ sound_two_lem one two nodes at count used e =
 
 -- two walks, by the records of each
 both_walked : (nodes ns ms : List Node) (at count k w : ℕ) → take at nodes ≡ ns → drop at (take count nodes) ≡ ms →
-    system_from 0 ns ≡ Goes k → system_from k ms ≡ Goes w →
-    then_step (system_from 0 (take at nodes)) (λ v. system_from v (drop at (take count nodes))) ≡ Goes w
+    system_from 0 ns ≡ Some k → system_from k ms ≡ Some w →
+    then_step (system_from 0 (take at nodes)) (λ v. system_from v (drop at (take count nodes))) ≡ Some w
 both_walked nodes ns ms at count k w front back e g = rw (front, e, back, g)
 
 -- and two systems that have cards of their own pass

@@ -1,22 +1,20 @@
 -- Refusal 8 of a card of two systems, as a test of its 64 records. The first system's are those before record `at`, the second's those
 -- from there up to `count`; the second's stores come after the first's.
-use Rattle.std.specs.Prelude.{ℕ, ◌+◌, ◌≤◌, List, [], ◌∷◌, ◌++◌, Bool, true, false, cond, not, ◌≡◌, ltb, length, take, drop, replicate}
+use Rattle.std.specs.Prelude.{ℕ, ◌+◌, ◌≤◌, List, [], ◌∷◌, ◌++◌, Bool, true, false, cond, not, ◌≡◌, ltb, length, take, drop, replicate, Option, None}
 use Rattle.byte_parts.specs.Sizes.{most_blocks}
 use Rattle.card_nodes.specs.declared.node.Node.{Node}
 use Rattle.card_nodes.specs.Node.{root_node}
-use Rattle.card_sound.specs.declared.Step.{Step}
-use Rattle.card_sound.specs.declared.Step.TheVariants.{Stops}
 use Rattle.card_sound.specs.Sound.{is_root, all_roots, then_step, steps_from, ends_at}
 use Rattle.card_build.specs.declared.card.System.{System}
 use Rattle.card_moved.specs.Own.{OwnCard}
 
 -- the walk over one system's records, with so many blocks in use before them: a root, then those that the building gives; none is no system
-unfoldable pub system_from : ℕ → List Node → Step
-system_from begun [] = Stops
-system_from begun (n ∷ ns) = cond (not (is_root n)) Stops (steps_from (n ∷ []) begun ns)
+unfoldable pub system_from : ℕ → List Node → Option ℕ
+system_from begun [] = None
+system_from begun (n ∷ ns) = cond (not (is_root n)) None (steps_from (n ∷ []) begun ns)
 
 -- at most 64 records, unused ones after them, and a walk over them that ends with the blocks in use
-unfoldable pub walked_sound : List Node → ℕ → ℕ → Step → Bool
+unfoldable pub walked_sound : List Node → ℕ → ℕ → Option ℕ → Bool
 walked_sound nodes count used walked =
     cond (ltb 64 count) false
     (cond (not (all_roots (drop count nodes))) false

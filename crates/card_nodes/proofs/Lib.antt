@@ -3,3 +3,4 @@ pub mod Turns
 pub mod Searches
 pub mod Records
 pub mod ParentWorded
+pub mod Positions

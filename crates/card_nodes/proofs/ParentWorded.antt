@@ -1,4 +1,5 @@
 -- The parent that one pass over the nodes finds is the one that docs/RULES.md words.
+use Rattle.std.proofs.Common.{Option, Some, None}
 use mathlib.Core.Path.{◌≡◌, refl, sym, ◌∙◌, ap}
 use mathlib.Core.Bool.{Bool, true, false, cond, ◌&&◌, and-true, and-false, and_assoc}
 use mathlib.Core.List.{List, [], ◌∷◌, ◌++◌}
@@ -10,38 +11,36 @@ use lib.ListN.{length, take, drop, get_or, length-append, drop_of_length-le}
 use lib.Seq.{take-suc, take-length, get_or-take, take-append_seam, get_or-append_seam, drop-append-le}
 use borrow.Author.Tests.{eqb-true, eqb-false, ltb-true, ltb-false, eq-eqb, ne_eqb, lt-ltb, le-ltb}
 use Rattle.card_nodes.specs.declared.node.Node.{Node}
-use Rattle.card_nodes.specs.declared.find.Found.{Found}
-use Rattle.card_nodes.specs.declared.find.Found.TheVariants.{At, Nothing}
 use Rattle.card_nodes.specs.Node.{root_node, is_area}
 use Rattle.card_nodes.specs.Find.{or_else, area_at, open_at, parent_from, parent_of}
 use Rattle.card_nodes.specs.ParentWorded.{latest_from, all_deeper, is_open_area, if_open_area, parent_worded}
 use Rattle.card_nodes.proofs.Searches.{parent_append, area-seen}
 
 -- a test at the end passes through those before it
-or_last_lem : (b : Bool) (f g : Found) (p : ℕ) → or_else (cond b (At p) f) g ≡ cond b (At p) (or_else f g)
+or_last_lem : (b : Bool) (f g : Option ℕ) (p : ℕ) → or_else (cond b (Some p) f) g ≡ cond b (Some p) (or_else f g)
 or_last_lem true f g p = refl
 or_last_lem false f g p = refl
 
 -- one node more at the end is the latest, if it is of that depth
 latest_append : (depth i : ℕ) (ns : List Node) (m : Node) →
-    latest_from depth i (ns ++ (m ∷ [])) ≡ cond (eqb (m.depth + 1) depth) (At (i + length ns)) (latest_from depth i ns)
+    latest_from depth i (ns ++ (m ∷ [])) ≡ cond (eqb (m.depth + 1) depth) (Some (i + length ns)) (latest_from depth i ns)
 unfolding latest_from
 latest_append depth i [] m = rw (add-zero i)
 latest_append depth i (n ∷ ns) m =
     let e : i + suc (length ns) ≡ suc i + length ns = omega arith in
     rw (latest_append depth (suc i) ns m, e)
-    (or_last_lem (eqb (m.depth + 1) depth) (latest_from depth (suc i) ns) (cond (eqb (n.depth + 1) depth) (At i) Nothing) (suc i + length ns))
+    (or_last_lem (eqb (m.depth + 1) depth) (latest_from depth (suc i) ns) (cond (eqb (n.depth + 1) depth) (Some i) None) (suc i + length ns))
 
 -- what is found, counted from i, is a node of depth one less
-abbrev OneAbove : ℕ → ℕ → List Node → Found → Type 0
-OneAbove depth i ns (At p) = (k : ℕ) × (i + k ≡ p) × (k < length ns) × ((get_or ns k root_node).depth + 1 ≡ depth)
-OneAbove depth i ns Nothing = Unit {0}
+abbrev OneAbove : ℕ → ℕ → List Node → Option ℕ → Type 0
+OneAbove depth i ns (Some p) = (k : ℕ) × (i + k ≡ p) × (k < length ns) × ((get_or ns k root_node).depth + 1 ≡ depth)
+OneAbove depth i ns None = Unit {0}
 
-above_or : (depth i : ℕ) (n : Node) (ns : List Node) (f : Found) (b : Bool) → eqb (n.depth + 1) depth ≡ b → OneAbove depth (suc i) ns f →
-    OneAbove depth i (n ∷ ns) (or_else f (cond b (At i) Nothing))
-above_or depth i n ns (At p) b e a = (suc a.0, omega (arith, a.1), omega (arith, a.2), a.3)
-above_or depth i n ns Nothing true e a = (0, omega arith, omega arith, eqb-true _ _ e)
-above_or depth i n ns Nothing false e a = tt
+above_or : (depth i : ℕ) (n : Node) (ns : List Node) (f : Option ℕ) (b : Bool) → eqb (n.depth + 1) depth ≡ b → OneAbove depth (suc i) ns f →
+    OneAbove depth i (n ∷ ns) (or_else f (cond b (Some i) None))
+above_or depth i n ns (Some p) b e a = (suc a.0, omega (arith, a.1), omega (arith, a.2), a.3)
+above_or depth i n ns None true e a = (0, omega arith, omega arith, eqb-true _ _ e)
+above_or depth i n ns None false e a = tt
 
 latest_above : (depth i : ℕ) (ns : List Node) → OneAbove depth i ns (latest_from depth i ns)
 unfolding latest_from
@@ -68,7 +67,7 @@ module _ (ns : List Node) (m : Node) where
       (sym (and_assoc (is_area (get_or ns p root_node).entry) (all_deeper (get_or ns p root_node).depth (drop (p + 1) ns)) (ltb (get_or ns p root_node).depth m.depth)))
 
   -- the last node itself is open if it is an area
-  open_last : if_open_area (ns ++ (m ∷ [])) (At (length ns)) ≡ area_at m.entry (length ns)
+  open_last : if_open_area (ns ++ (m ∷ [])) (Some (length ns)) ≡ area_at m.entry (length ns)
   unfolding all_deeper
   open_last =
       let k : length (ns ++ (m ∷ [])) ≤ length ns + 1 = simp length-append (omega arith) in
@@ -77,23 +76,23 @@ module _ (ns : List Node) (m : Node) where
 
   module _ (depth : ℕ) where
     -- a shallower one shuts all before it
-    shut : m.depth + 1 < depth → (f : Found) → OneAbove depth 0 ns f → Nothing ≡ if_open_area (ns ++ (m ∷ [])) f
-    shut h (At p) a =
+    shut : m.depth + 1 < depth → (f : Option ℕ) → OneAbove depth 0 ns f → None ≡ if_open_area (ns ++ (m ∷ [])) f
+    shut h (Some p) a =
         let q : p ≡ a.0 = omega (arith, a.1) in
         let d = a.3 in
         rw (q, open_append a.0 a.2, le-ltb (get_or ns a.0 root_node).depth m.depth (omega arith), and-false (is_open_area ns a.0))
-    shut h Nothing a = refl
+    shut h None a = refl
 
     -- a deeper one leaves them
-    left : depth ≤ m.depth → (f : Found) → OneAbove depth 0 ns f → if_open_area ns f ≡ if_open_area (ns ++ (m ∷ [])) f
-    left h (At p) a =
+    left : depth ≤ m.depth → (f : Option ℕ) → OneAbove depth 0 ns f → if_open_area ns f ≡ if_open_area (ns ++ (m ∷ [])) f
+    left h (Some p) a =
         let q : p ≡ a.0 = omega (arith, a.1) in
         let d = a.3 in
         rw (q, open_append a.0 a.2, lt-ltb (get_or ns a.0 root_node).depth m.depth (omega arith), and-true (is_open_area ns a.0))
-    left h Nothing a = refl
+    left h None a = refl
 
     other : (b : Bool) → ltb m.depth depth ≡ b → eqb (m.depth + 1) depth ≡ false → parent_of ns depth ≡ parent_worded ns depth →
-        cond b Nothing (parent_of ns depth) ≡ if_open_area (ns ++ (m ∷ [])) (latest_from depth 0 ns)
+        cond b None (parent_of ns depth) ≡ if_open_area (ns ++ (m ∷ [])) (latest_from depth 0 ns)
     other true e n same =
         let l = ltb-true m.depth depth e in
         let x = eqb-false (m.depth + 1) depth n in
@@ -101,8 +100,8 @@ module _ (ns : List Node) (m : Node) where
     other false e n same = same ∙ left (ltb-false m.depth depth e) (latest_from depth 0 ns) (latest_above depth 0 ns)
 
     by_last : (b : Bool) → eqb (m.depth + 1) depth ≡ b → parent_of ns depth ≡ parent_worded ns depth →
-        cond (ltb m.depth depth) (cond b (area_at m.entry (length ns)) Nothing) (parent_of ns depth)
-        ≡ if_open_area (ns ++ (m ∷ [])) (cond b (At (length ns)) (latest_from depth 0 ns))
+        cond (ltb m.depth depth) (cond b (area_at m.entry (length ns)) None) (parent_of ns depth)
+        ≡ if_open_area (ns ++ (m ∷ [])) (cond b (Some (length ns)) (latest_from depth 0 ns))
     by_last true e same = let x = eqb-true (m.depth + 1) depth e in rw (lt-ltb m.depth depth (omega arith)) (sym open_last)
     by_last false e same = other (ltb m.depth depth) refl e same
 
@@ -110,7 +109,7 @@ module _ (ns : List Node) (m : Node) where
     more : parent_of ns depth ≡ parent_worded ns depth → parent_of (ns ++ (m ∷ [])) depth ≡ parent_worded (ns ++ (m ∷ [])) depth
     unfolding parent_from open_at
     more same =
-        parent_append depth Nothing 0 ns (m ∷ [])
+        parent_append depth None 0 ns (m ∷ [])
         ∙ rw (latest_append depth 0 ns m, zero-add) (by_last (eqb (m.depth + 1) depth) refl same)
 
 -- the first k nodes

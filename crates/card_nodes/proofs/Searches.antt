@@ -1,4 +1,5 @@
 -- What the searches among the nodes of a system find.
+use Rattle.std.proofs.Common.{Option, Some, None}
 use mathlib.Core.Path.{◌≡◌, refl, sym, ◌∙◌, ap, subst}
 use mathlib.Core.Bool.{Bool, true, false, cond, not, ◌&&◌}
 use mathlib.Core.List.{List, [], ◌∷◌, ◌++◌, map}
@@ -11,23 +12,21 @@ use Rattle.service_code.specs.Code.{number_of}
 use Rattle.card_nodes.specs.declared.node.Entry.{Entry}
 use Rattle.card_nodes.specs.declared.node.Entry.TheVariants.{Area, Service}
 use Rattle.card_nodes.specs.declared.node.Node.{Node}
-use Rattle.card_nodes.specs.declared.find.Found.{Found}
-use Rattle.card_nodes.specs.declared.find.Found.TheVariants.{At, Nothing}
 use Rattle.card_nodes.specs.Node.{root_node, is_area, is_service}
 use Rattle.card_nodes.specs.Find.{is_service_of, is_area_of, is_sharer_of, first_from, or_else, service_of, area_of, shared_of, area_at, open_at, parent_from}
 
 -- an index that was found is below n
-abbrev pub Below : Found → ℕ → Type 0
-Below (At p) n = p < n
-Below Nothing n = Unit {0}
+abbrev pub Below : Option ℕ → ℕ → Type 0
+Below (Some p) n = p < n
+Below None n = Unit {0}
 
 -- and so below any larger number
-below_wider : (f : Found) {n m : ℕ} → n ≤ m → Below f n → Below f m
-below_wider (At p) h b = omega arith
-below_wider Nothing h b = tt
+below_wider : (f : Option ℕ) {n m : ℕ} → n ≤ m → Below f n → Below f m
+below_wider (Some p) h b = omega arith
+below_wider None h b = tt
 
 -- one of two that are
-pub below_cond : (b : Bool) (f g : Found) (n : ℕ) → Below f n → Below g n → Below (cond b f g) n
+pub below_cond : (b : Bool) (f g : Option ℕ) (n : ℕ) → Below f n → Below g n → Below (cond b f g) n
 below_cond true f g n x y = x
 below_cond false f g n x y = y
 
@@ -41,11 +40,11 @@ pub first_below : (t : Node → Bool) (i : ℕ) (ns : List Node) → Below (firs
 unfolding first_from
 first_below t i [] = tt
 first_below t i (n ∷ ns) =
-    below_cond (t n) (At i) (first_from t (suc i) ns) (i + suc (length ns)) (omega arith)
+    below_cond (t n) (Some i) (first_from t (suc i) ns) (i + suc (length ns)) (omega arith)
     (below_wider (first_from t (suc i) ns) (omega arith) (first_below t (suc i) ns))
 
 -- a parent is one of the nodes
-pub parent_below : (depth : ℕ) (f : Found) (i : ℕ) (ns : List Node) → Below f i → Below (parent_from depth f i ns) (i + length ns)
+pub parent_below : (depth : ℕ) (f : Option ℕ) (i : ℕ) (ns : List Node) → Below f i → Below (parent_from depth f i ns) (i + length ns)
 unfolding parent_from open_at
 parent_below depth f i [] h = below_wider f (omega arith) h
 parent_below depth f i (n ∷ ns) h =
@@ -53,15 +52,15 @@ parent_below depth f i (n ∷ ns) h =
     below_wider (parent_from depth g (suc i) ns) (omega arith)
     (parent_below depth g (suc i) ns
     (below_cond (ltb n.depth depth) _ f (suc i)
-    (below_cond (eqb (n.depth + 1) depth) _ Nothing (suc i) (below_area n.entry i) tt)
+    (below_cond (eqb (n.depth + 1) depth) _ None (suc i) (below_area n.entry i) tt)
     (below_wider f (omega arith) h)))
 
 -- where an index was found, it is in range
-pub in_range_lem : {f : Found} {n p : ℕ} → Below f (0 + n) → f ≡ At p → p < n
-in_range_lem {n = n} b e = let k = subst (λ (g : Found). Below g (0 + n)) e b in omega (arith, k)
+pub in_range_lem : {f : Option ℕ} {n p : ℕ} → Below f (0 + n) → f ≡ Some p → p < n
+in_range_lem {n = n} b e = let k = subst (λ (g : Option ℕ). Below g (0 + n)) e b in omega (arith, k)
 
 -- nothing is no place
-never : {A : Type 0} {p : ℕ} → Nothing ≡ At p → A
+never : {A : Type 0} {p : ℕ} → None ≡ Some p → A
 never e = absurd (let z : ◌≡◌ {A = ℕ} 0 1 = cc in (omega arith))
 
 -- p is the first node that passes a test
@@ -89,30 +88,30 @@ FirstFrom t i ns p = (k : ℕ) × (i + k ≡ p) × First t ns k
 
 -- one node of the search
 first_step : (t : Node → Bool) (i : ℕ) (n : Node) (ns : List Node) {p : ℕ} (b : Bool) → t n ≡ b →
-    (first_from t (suc i) ns ≡ At p → FirstFrom t (suc i) ns p) → cond b (At i) (first_from t (suc i) ns) ≡ At p → FirstFrom t i (n ∷ ns) p
+    (first_from t (suc i) ns ≡ Some p → FirstFrom t (suc i) ns p) → cond b (Some i) (first_from t (suc i) ns) ≡ Some p → FirstFrom t i (n ∷ ns) p
 first_step t i n ns {p = p} true h rest e = let q : i ≡ p = cc in (0, omega arith, first_head h)
 first_step t i n ns false h rest e = let r = rest e in (suc r.0, omega (arith, r.1), first_tail h r.2)
 
 -- what a search finds is the first node that passes its test
-pub first-from : (t : Node → Bool) (i : ℕ) (ns : List Node) {p : ℕ} → first_from t i ns ≡ At p → FirstFrom t i ns p
+pub first-from : (t : Node → Bool) (i : ℕ) (ns : List Node) {p : ℕ} → first_from t i ns ≡ Some p → FirstFrom t i ns p
 unfolding first_from
 first-from t i [] e = never e
 first-from t i (n ∷ ns) e = first_step t i n ns (t n) refl (first-from t (suc i) ns) e
 
 -- the same from 0
-pub first_found : (t : Node → Bool) (ns : List Node) {p : ℕ} → first_from t 0 ns ≡ At p → First t ns p
+pub first_found : (t : Node → Bool) (ns : List Node) {p : ℕ} → first_from t 0 ns ≡ Some p → First t ns p
 first_found t ns {p = p} e =
     let r = first-from t 0 ns e in
     let q : r.0 ≡ p = omega (arith, r.1) in
     subst (First t ns) q r.2
 
 -- where a test was passed, something was found
-none_step : (b : Bool) (i : ℕ) {f : Found} → cond b (At i) f ≡ Nothing → (b ≡ false) × (f ≡ Nothing)
+none_step : (b : Bool) (i : ℕ) {f : Option ℕ} → cond b (Some i) f ≡ None → (b ≡ false) × (f ≡ None)
 none_step true i e = never (sym e)
 none_step false i e = (refl, e)
 
 -- where a search finds nothing, every node fails its test
-pub none_found : (t : Node → Bool) (i : ℕ) (ns : List Node) → first_from t i ns ≡ Nothing →
+pub none_found : (t : Node → Bool) (i : ℕ) (ns : List Node) → first_from t i ns ≡ None →
     (k : ℕ) → k < length ns → t (get_or ns k root_node) ≡ false
 unfolding first_from
 none_found t i [] e k h = absurd (omega arith)
@@ -120,7 +119,7 @@ none_found t i (n ∷ ns) e zero h = (none_step (t n) i e).0
 none_found t i (n ∷ ns) e (suc k) h = none_found t (suc i) ns (none_step (t n) i e).1 k (omega arith)
 
 -- it passes through a test
-or-cond : (b : Bool) (i : ℕ) (f g : Found) → cond b (At i) (or_else f g) ≡ or_else (cond b (At i) f) g
+or-cond : (b : Bool) (i : ℕ) (f g : Option ℕ) → cond b (Some i) (or_else f g) ≡ or_else (cond b (Some i) f) g
 or-cond true i f g = refl
 or-cond false i f g = refl
 
@@ -135,15 +134,15 @@ first-append t i (n ∷ ns) ms =
 
 module _ (t : Node → Bool) (i : ℕ) (ns ms : List Node) where
   -- so what was found stays
-  pub first-kept : {p : ℕ} → first_from t i ns ≡ At p → first_from t i (ns ++ ms) ≡ At p
+  pub first-kept : {p : ℕ} → first_from t i ns ≡ Some p → first_from t i (ns ++ ms) ≡ Some p
   first-kept e = rw (first-append t i ns ms, e)
 
   -- and where nothing was, they alone are searched
-  pub first-after : first_from t i ns ≡ Nothing → first_from t i (ns ++ ms) ≡ first_from t (i + length ns) ms
+  pub first-after : first_from t i ns ≡ None → first_from t i (ns ++ ms) ≡ first_from t (i + length ns) ms
   first-after e = rw (first-append t i ns ms, e)
 
 -- nodes added at the end go on from the parent by those before them
-pub parent_append : (depth : ℕ) (f : Found) (i : ℕ) (ns ms : List Node) →
+pub parent_append : (depth : ℕ) (f : Option ℕ) (i : ℕ) (ns ms : List Node) →
     parent_from depth f i (ns ++ ms) ≡ parent_from depth (parent_from depth f i ns) (i + length ns) ms
 unfolding parent_from
 parent_append depth f i [] ms = rw (add-zero i)
@@ -152,9 +151,9 @@ parent_append depth f i (n ∷ ns) ms =
     rw (parent_append depth (cond (ltb n.depth depth) (open_at n depth i) f) (suc i) ns ms, e)
 
 -- the place of the first true
-abbrev first_true : ℕ → List Bool → Found
-first_true i [] = Nothing
-first_true i (b ∷ bs) = cond b (At i) (first_true (suc i) bs)
+abbrev first_true : ℕ → List Bool → Option ℕ
+first_true i [] = None
+first_true i (b ∷ bs) = cond b (Some i) (first_true (suc i) bs)
 
 -- a search asks of each node only whether it passes
 first_true_lem : (t : Node → Bool) (i : ℕ) (ns : List Node) → first_from t i ns ≡ first_true i (map t ns)
@@ -207,24 +206,24 @@ module _ (code : ℕ) (ns ms : List Node) (e : map look ns ≡ map look ms) wher
       (λ n. rw (no_area n.entry)) ns ms e
 
 -- an area is found by being one
-pub area-seen : (e : Entry) (i : ℕ) → area_at e i ≡ cond (is_area e) (At i) Nothing
+pub area-seen : (e : Entry) (i : ℕ) → area_at e i ≡ cond (is_area e) (Some i) None
 area-seen (Area e) i = refl
 area-seen (Service s b l) i = refl
 
 -- the parent, by what the search looks at
-abbrev parent_seen : ℕ → Found → ℕ → List Look → Found
+abbrev parent_seen : ℕ → Option ℕ → ℕ → List Look → Option ℕ
 parent_seen depth f i [] = f
 parent_seen depth f i (l ∷ ls) =
-    parent_seen depth (cond (ltb l.depth depth) (cond (eqb (l.depth + 1) depth) (cond l.area (At i) Nothing) Nothing) f) (suc i) ls
+    parent_seen depth (cond (ltb l.depth depth) (cond (eqb (l.depth + 1) depth) (cond l.area (Some i) None) None) f) (suc i) ls
 
 -- it looks at no more
-parent_seen_lem : (depth : ℕ) (f : Found) (i : ℕ) (ns : List Node) → parent_from depth f i ns ≡ parent_seen depth f i (map look ns)
+parent_seen_lem : (depth : ℕ) (f : Option ℕ) (i : ℕ) (ns : List Node) → parent_from depth f i ns ≡ parent_seen depth f i (map look ns)
 unfolding parent_from open_at
 parent_seen_lem depth f i [] = refl
 parent_seen_lem depth f i (n ∷ ns) =
     rw (parent_seen_lem depth (cond (ltb n.depth depth) (open_at n depth i) f) (suc i) ns, area-seen n.entry i)
 
 -- and no parent tells them apart
-pub parent_look : (depth : ℕ) (f : Found) (i : ℕ) (ns ms : List Node) → map look ns ≡ map look ms →
+pub parent_look : (depth : ℕ) (f : Option ℕ) (i : ℕ) (ns ms : List Node) → map look ns ≡ map look ms →
     parent_from depth f i ns ≡ parent_from depth f i ms
 parent_look depth f i ns ms e = parent_seen_lem depth f i ns ∙ ap (parent_seen depth f i) e ∙ sym (parent_seen_lem depth f i ms)

@@ -1,7 +1,6 @@
 -- One record of a card, and what its case holds.
-use Rattle.std.specs.Prelude.{ℕ, Bool, true, false}
+use Rattle.std.specs.Prelude.{ℕ, Bool, true, false, Option, None}
 use Rattle.service_code.specs.declared.limit.Limit.{Limit}
-use Rattle.service_code.specs.declared.limit.Limit.TheVariants.{Unlimited}
 use Rattle.card_nodes.specs.declared.node.Entry.{Entry}
 use Rattle.card_nodes.specs.declared.node.Entry.TheVariants.{Area, Service}
 use Rattle.card_nodes.specs.declared.node.Node.{Node}
@@ -33,6 +32,6 @@ abbrev pub blocks_of : Entry → ℕ
 blocks_of (Area e) = 0
 blocks_of (Service s b l) = b
 
-abbrev pub limit_of : Entry → Limit
-limit_of (Area e) = Unlimited
+abbrev pub limit_of : Entry → Option Limit
+limit_of (Area e) = None
 limit_of (Service s b l) = l

@@ -1,81 +1,49 @@
 // Which node a search finds: repeated codes are accepted, and the first in tree order answers.
-ghost use Rattle.std.specs.Prelude.{◌≡◌, take};
-ghost use Rattle.card_nodes.specs.Find.{is_service_of, is_sought, first_from, service_of, area_of, shared_of};
+ghost use Rattle.std.specs.Prelude.{◌≡◌};
+ghost use Rattle.card_nodes.specs.Find.{is_service_of, is_area_of, is_sharer_of, service_of, area_of, shared_of};
 
+use crate::node;
 use crate::node::Node;
-use crate::{count, node};
 use service_code::code::ServiceCode;
-
-// The index of the node that was found, or that there is none.
-#[derive(Clone, Copy)]
-pub enum Found {
-    At(usize),
-    Nothing,
-}
-
-// What a search by a code looks for.
-#[derive(Clone, Copy)]
-enum Sought {
-    ServiceCode,
-    AreaCode,
-    ServiceNumber,
-}
 
 // Whether `node` is a service of `code`.
 pub fn is_service_of(node: Node, code: u16) -> bool
     ensures { result ≡ is_service_of code node }
 {
-    let entry = node.entry;
-    node.code == code && node::is_service(entry)
+    node.code == code && node::is_service(node.entry)
 }
 
-// Whether `node` is what a search by `code` looks for.
-fn is_sought(node: Node, sought: Sought, code: u16) -> bool
-    ensures { result ≡ is_sought sought code node }
+// Whether `node` is an area of `code`.
+fn is_area_of(node: Node, code: u16) -> bool
+    ensures { result ≡ is_area_of code node }
 {
-    let entry = node.entry;
-    match sought {
-        Sought::ServiceCode => is_service_of(node, code),
-        Sought::AreaCode => node.code == code && node::is_area(entry),
-        Sought::ServiceNumber => {
-            ServiceCode(node.code).number() == ServiceCode(code).number() && node::is_service(entry)
-        }
-    }
+    node.code == code && node::is_area(node.entry)
 }
 
-// The first of `count` nodes that is what a search by `code` looks for.
-fn find_first(nodes: [Node; 64], count: usize, sought: Sought, code: u16) -> Found
-    ensures { result ≡ first_from (is_sought sought code) 0 (take count nodes) }
+// Whether `node` is a service of the number of `code`.
+fn is_sharer_of(node: Node, code: u16) -> bool
+    ensures { result ≡ is_sharer_of code node }
 {
-    let n = count::taken(count);
-    let mut i = 0;
-    while i < n {
-        let node = nodes[i];
-        if is_sought(node, sought, code) {
-            return Found::At(i);
-        }
-        i += 1;
-    }
-    Found::Nothing
+    ServiceCode(node.code).number() == ServiceCode(code).number() && node::is_service(node.entry)
 }
 
-// The first service of `code` among `count` nodes.
-pub fn find_service(nodes: [Node; 64], count: usize, code: u16) -> Found
-    ensures { result ≡ service_of (take count nodes) code }
+// The first service of `code` among nodes.
+pub fn find_service(nodes: &[Node], code: u16) -> Option<usize>
+    ensures { result ≡ service_of nodes.now code }
 {
-    find_first(nodes, count, Sought::ServiceCode, code)
+    nodes.iter().position(|node| is_service_of(*node, code))
 }
 
-// The first area of `code` among `count` nodes.
-pub fn find_area(nodes: [Node; 64], count: usize, code: u16) -> Found
-    ensures { result ≡ area_of (take count nodes) code }
+// The first area of `code` among nodes.
+pub fn find_area(nodes: &[Node], code: u16) -> Option<usize>
+    ensures { result ≡ area_of nodes.now code }
 {
-    find_first(nodes, count, Sought::AreaCode, code)
+    nodes.iter().position(|node| is_area_of(*node, code))
 }
 
 // The first service of the number of `code`, whose store a later service of that number joins.
-pub fn find_shared(nodes: [Node; 64], count: usize, code: u16) -> Found
-    ensures { result ≡ shared_of (take count nodes) code }
+pub fn find_shared(nodes: &[Node], code: u16) -> Option<usize>
+    ensures { result ≡ shared_of nodes.now code }
 {
-    find_first(nodes, count, Sought::ServiceNumber, code)
+    nodes.iter().position(|node| is_sharer_of(*node, code))
 }

@@ -14,7 +14,7 @@ pub enum Entry {
     Service {
         start: u16,
         blocks: u16,
-        limit: Limit,
+        limit: Option<Limit>,
     },
 }
 
@@ -46,28 +46,14 @@ impl Node {
 pub fn is_area(entry: Entry) -> bool
     ensures { result ≡ is_area entry }
 {
-    match entry {
-        Entry::Area { end: _ } => true,
-        Entry::Service {
-            start: _,
-            blocks: _,
-            limit: _,
-        } => false,
-    }
+    matches!(entry, Entry::Area { .. })
 }
 
 // Whether an entry is a service's.
 pub fn is_service(entry: Entry) -> bool
     ensures { result ≡ is_service entry }
 {
-    match entry {
-        Entry::Area { end: _ } => false,
-        Entry::Service {
-            start: _,
-            blocks: _,
-            limit: _,
-        } => true,
-    }
+    matches!(entry, Entry::Service { .. })
 }
 
 // The last code of an area; 0 of a service, which has no codes under it.
@@ -76,11 +62,7 @@ pub fn end_of(entry: Entry) -> u16
 {
     match entry {
         Entry::Area { end } => end,
-        Entry::Service {
-            start: _,
-            blocks: _,
-            limit: _,
-        } => 0,
+        Entry::Service { .. } => 0,
     }
 }
 
@@ -89,12 +71,8 @@ pub fn start_of(entry: Entry) -> u16
     ensures { result ≡ start_of entry }
 {
     match entry {
-        Entry::Area { end: _ } => 0,
-        Entry::Service {
-            start,
-            blocks: _,
-            limit: _,
-        } => start,
+        Entry::Area { .. } => 0,
+        Entry::Service { start, .. } => start,
     }
 }
 
@@ -103,11 +81,7 @@ pub fn blocks_of(entry: Entry) -> u16
     ensures { result ≡ blocks_of entry }
 {
     match entry {
-        Entry::Area { end: _ } => 0,
-        Entry::Service {
-            start: _,
-            blocks,
-            limit: _,
-        } => blocks,
+        Entry::Area { .. } => 0,
+        Entry::Service { blocks, .. } => blocks,
     }
 }

@@ -1,4 +1,5 @@
 -- The directory's answer over the records of a card.
+use Rattle.std.proofs.Common.{Result, Ok, Err}
 use mathlib.Core.Path.{◌≡◌, refl, sym, ◌∙◌, ap}
 use mathlib.Core.List.{List, [], ◌∷◌, map}
 use Prim.Native.Nat.{ℕ, ◌+◌, ◌-◌, ◌*◌, ◌≤◌, ◌<◌, min}
@@ -10,16 +11,15 @@ use Rattle.answers.specs.declared.refusal.Refusal.TheVariants.{ShortOutput}
 use Rattle.card_nodes.specs.declared.node.Node.{Node}
 use Rattle.card_nodes.proofs.Scan.{over}
 use Rattle.card_nodes.proofs.Records.{Records}
-use Rattle.card_questions.specs.declared.listing.Listing.{Listing}
-use Rattle.card_questions.specs.declared.listing.Listing.TheVariants.{Listed, Refused}
 use Rattle.card_questions.specs.Directory.{directory_of, listed_of, listing_of, out_after}
 use Rattle.card_laws.proofs.UnderLaws.{take-most}
 use Rattle.card_questions.specs.declared.table.Column.TheVariants.{Depth, Code, Second}
 use Rattle.card_questions.specs.Table.{cell_of, past_of, pairs_from}
 use Rattle.card_questions.proofs.Columns.{column_take, listed_column, directory_column}
+use Rattle.answers.specs.declared.refusal.Refusal.{Refusal}
 
 -- what is answered, and the output after it
-abbrev pub Answers : List Node → ℕ → List ℕ → Listing → List ℕ → Type 0
+abbrev pub Answers : List Node → ℕ → List ℕ → Result ℕ Refusal → List ℕ → Type 0
 Answers nodes count out said after = (said ≡ listing_of (take count nodes) (length out)) × (after ≡ out_after (take count nodes) out)
 
 module _ {nodes : List Node} {count : ℕ} (r : Records nodes count) {n : ℕ} (p : n ≡ min count 64) (out : List ℕ) where
@@ -27,13 +27,13 @@ module _ {nodes : List Node} {count : ℕ} (r : Records nodes count) {n : ℕ} (
   long = simp length-take (omega (arith, r.all))
 
   -- the output has no pair per node
-  pub refused : length out < 2 * n → Answers nodes count out (Refused ShortOutput) out
+  pub refused : length out < 2 * n → Answers nodes count out (Err ShortOutput) out
   unfolding listing_of out_after
   refused h = (rw (long, lt-ltb (length out) (2 * n) h), rw (long, lt-ltb (length out) (2 * n) h))
 
   module _ (h : 2 * n ≤ length out) where
     -- there is no node
-    pub nothing : n ≡ 0 → Answers nodes count out (Listed 0) out
+    pub nothing : n ≡ 0 → Answers nodes count out (Ok 0) out
     unfolding listing_of out_after listed_of directory_of
     nothing k =
         let e = over nodes count 0 (omega (arith, r.all)) in
@@ -44,7 +44,7 @@ module _ {nodes : List Node} {count : ℕ} (r : Records nodes count) {n : ℕ} (
         depths ≡ map (cell_of Depth) nodes → codes ≡ map (cell_of Code) nodes → seconds ≡ map (cell_of Second) nodes →
         to ≡ past_of (take (n - 0) depths) 0 →
         after ≡ sets out (2 * 0) (pairs_from (take (n - 0) codes) (take (n - 0) seconds) 0 (to - 0)) →
-        Answers nodes count out (Listed to) after
+        Answers nodes count out (Ok to) after
     unfolding listing_of out_after
     listed {depths = depths} {codes = codes} {seconds = seconds} {to = to} k ds cs ss b e =
         let ns = take count nodes in
@@ -55,6 +55,6 @@ module _ {nodes : List Node} {count : ℕ} (r : Records nodes count) {n : ℕ} (
         let w : to ≡ listed_of ns = b ∙ rw (ds, m, column_take Depth n nodes, t) (listed_column ns l) in
         let d : pairs_from (take (n - 0) codes) (take (n - 0) seconds) 0 (to - 0) ≡ directory_of ns =
         rw (z, cs, ss, m, column_take Code n nodes, column_take Second n nodes, t, w) (directory_column ns l) in (
-          rw (long, le-ltb (length out) (2 * n) h) (ap Listed w),
+          rw (long, le-ltb (length out) (2 * n) h) (ap Ok w),
           rw (long, le-ltb (length out) (2 * n) h) (e ∙ ap (sets out 0) d),
         )

@@ -1,4 +1,5 @@
 -- What a card that was built answers: its directory is every node once, in order.
+use Rattle.std.proofs.Common.{Ok}
 use mathlib.Core.Path.{◌≡◌, refl, ◌∙◌, ap}
 use mathlib.Core.List.{List, [], ◌∷◌}
 use Prim.Native.Nat.{ℕ, suc, ◌*◌, ◌≤◌, ◌<◌}
@@ -13,7 +14,6 @@ use Rattle.card_build.specs.Card.{nodes_of}
 use Rattle.card_laws.specs.Built.{Built}
 use Rattle.card_laws.proofs.Built.{built_sound}
 use Rattle.card_laws.proofs.Laid.{Laid, sized, laid}
-use Rattle.card_questions.specs.declared.listing.Listing.TheVariants.{Listed}
 use Rattle.card_questions.specs.Directory.{directory_of, listed_of, listing_of, out_after, directory_answer, directory_out}
 use Rattle.card_questions.specs.ListingWorded.{pairs_of}
 use Rattle.card_questions.proofs.ListingWorded.{all_listed, all_counted_lem}
@@ -43,10 +43,10 @@ module _ {c : Card} (b : Built c) where
     fits = omega (arith, (sized b).nodes)
 
     -- with a pair of room for each node, all are listed
-    pub all-answered : directory_answer c (length out) ≡ Listed c.count
+    pub all-answered : directory_answer c (length out) ≡ Ok c.count
     unfolding directory_answer listing_of
     all-answered =
-        rw (built_sound b, le-ltb (length out) (2 * length (nodes_of c)) fits) (ap Listed (count_laid (nodes_of c) (laid b) ∙ (sized b).nodes))
+        rw (built_sound b, le-ltb (length out) (2 * length (nodes_of c)) fits) (ap Ok (count_laid (nodes_of c) (laid b) ∙ (sized b).nodes))
 
     -- and the pairs are written from the output's first number on
     pub all-written : directory_out c out ≡ sets out 0 (pairs_of (nodes_of c))

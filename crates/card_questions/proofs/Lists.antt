@@ -1,4 +1,5 @@
 -- The two list checks, entry by entry.
+use Rattle.std.proofs.Common.{Result, Ok}
 use mathlib.Core.Path.{◌≡◌, refl, sym, ◌∙◌}
 use mathlib.Core.Bool.{Bool, true, false, cond, not, ◌&&◌, ◌||◌, and-false, or-true, or-false}
 use mathlib.Core.List.{List, [], ◌∷◌}
@@ -6,11 +7,17 @@ use Prim.Native.Nat.{ℕ, ◌+◌, ◌≤◌, ◌<◌}
 use native.Mathlib.Omega.{arith}
 use lib.ListN.{length, take, drop, get_or}
 use lib.Seq.{take-length}
+use Rattle.answers.specs.declared.refusal.Refusal.{Refusal}
 use Rattle.card_nodes.specs.declared.node.Node.{Node}
 use Rattle.card_nodes.specs.Find.{area_of}
 use Rattle.card_nodes.proofs.Scan.{Left, here, turn, done}
 use Rattle.card_questions.specs.declared.keys.ListNode.TheVariants.{Keyed, KeyFree, Unknown}
-use Rattle.card_questions.specs.Keys.{is_found, area_or_system, all_areas, area_list_of, list_node_of, all_known, any_keyed, in_order, service_list_of}
+use Rattle.card_questions.specs.Keys.{is_found, area_or_system, all_areas, area_list_of, list_node_of, all_known, any_keyed, in_order, service_list_of, checked_by}
+
+-- what is said of a list that is well formed, or is not
+pub checked : (b : Bool) → ◌≡◌ {A = Result Bool Refusal} (Ok b) (checked_by b)
+checked true = refl
+checked false = refl
 
 -- at i the answer of the whole list is that of what is left
 abbrev pub InList : List ℕ → Bool → (List ℕ → Bool) → ℕ → Type 0

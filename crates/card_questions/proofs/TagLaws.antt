@@ -1,22 +1,23 @@
 -- A search by a tag finds what a search among the nodes finds.
-use mathlib.Core.Path.{◌≡◌, refl, sym, ◌∙◌}
-use mathlib.Core.Bool.{Bool, true, false, ◌&&◌, and-true, and-false}
+use Rattle.std.proofs.Common.{Option, Some, None, ltb, add-one}
+use Rattle.std.specs.Prelude.{is_some}
+use Rattle.std.specs.List.{position_from, position_or_len}
+use Rattle.std.proofs.lemmas.Iterator.Adapters.{position_from-zero}
+use mathlib.Core.Path.{◌≡◌, refl, sym, ap, ◌∙◌}
+use mathlib.Core.Bool.{Bool, true, false, cond, ◌&&◌, and-true, and-false}
 use mathlib.Core.List.{List, [], ◌∷◌, map}
 use Prim.Native.Nat.{ℕ, suc, ◌+◌, ◌*◌, ◌<◌}
 use native.Mathlib.Omega.{arith}
 use lib.Dec.{eqb}
 use lib.ListN.{length, get_or}
-use lib.Seq.{take-length}
 use borrow.Author.Tests.{eq-eqb, ne_eqb, eqb-true, eqb-false}
 use Rattle.card_nodes.specs.declared.node.Entry.{Entry}
 use Rattle.card_nodes.specs.declared.node.Entry.TheVariants.{Area, Service}
 use Rattle.card_nodes.specs.declared.node.Node.{Node}
-use Rattle.card_nodes.specs.declared.find.Found.{Found}
-use Rattle.card_nodes.specs.declared.find.Found.TheVariants.{At}
 use Rattle.card_nodes.specs.Node.{is_area, is_service}
 use Rattle.card_nodes.specs.Find.{first_from, is_service_of, is_area_of, service_of, area_of}
-use Rattle.card_nodes.proofs.Scan.{Left, here, turn}
 use Rattle.card_nodes.proofs.Searches.{Below, below_cond, in_range_lem}
+use Rattle.card_questions.specs.Keys.{is_found}
 use Rattle.card_questions.specs.Tags.{tag_as, tag_of, first_tag}
 
 -- two tags of one kind are equal where their codes are
@@ -61,23 +62,21 @@ unfolding first_tag
 tag_below t i [] = tt
 tag_below t i (x ∷ l) =
     let q : suc i + length l ≡ i + suc (length l) = omega arith in
-    below_cond (eqb x t) (At i) (first_tag t (suc i) l) (i + suc (length l)) (omega arith) (rw q at (tag_below t (suc i) l))
+    below_cond (eqb x t) (Some i) (first_tag t (suc i) l) (i + suc (length l)) (omega arith) (rw q at (tag_below t (suc i) l))
 
-pub tag_inside : (t : ℕ) (l : List ℕ) {f : Found} {i : ℕ} → f ≡ first_tag t 0 l → f ≡ At i → i < length l
+pub tag_inside : (t : ℕ) (l : List ℕ) {f : Option ℕ} {i : ℕ} → f ≡ first_tag t 0 l → f ≡ Some i → i < length l
 tag_inside t l told e = in_range_lem (tag_below t 0 l) (sym told ∙ e)
 
--- the search, place by place
-abbrev pub Sought : ℕ → List ℕ → ℕ → Type 0
-Sought t l i = Left l (length l) (length l) (first_tag t 0 l) (first_tag t) i
+-- a search of the library
+positions : (t i : ℕ) (l : List ℕ) → position_from (λ x. eqb x t) i l ≡ first_tag t i l
+unfolding first_tag
+positions t i [] = refl
+positions t i (x ∷ l) = rw add-one (ap (λ r. cond (eqb x t) (Some i) r) (positions t (suc i) l))
 
-pub none_sought : (t : ℕ) (l : List ℕ) → Sought t l 0
-none_sought t l = record { within = omega arith; all = omega arith; same = rw (take-length l) }
+pub position_tag : (t : ℕ) (l : List ℕ) → cond (ltb (position_or_len (λ x. eqb x t) l) (length l)) (Some (position_or_len (λ x. eqb x t) l)) None ≡ first_tag t 0 l
+position_tag t l = position_from-zero (λ x. eqb x t) l ∙ positions t 0 l
 
-module _ (t : ℕ) {l : List ℕ} {i : ℕ} (left : Sought t l i) (h : i < length l) where
-  pub tag_hit : get_or l i 0 ≡ t → At i ≡ first_tag t 0 l
-  unfolding first_tag
-  tag_hit e = rw (eq-eqb (get_or l i 0) t e) at (here left 0 h)
-
-  pub tag_missed : (get_or l i 0 ≡ t → ⊥) → Sought t l (i + 1)
-  unfolding first_tag
-  tag_missed e = turn left 0 (first_tag t) h (λ rest. rw (ne_eqb (get_or l i 0) t e))
+-- a place was found
+pub some_found : (f : Option ℕ) → is_some f ≡ is_found f
+some_found (Some i) = refl
+some_found None = refl

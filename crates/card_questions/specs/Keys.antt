@@ -1,29 +1,24 @@
 -- Key versions and the two list checks, on nodes and of a card.
-use Rattle.std.specs.Prelude.{ℕ, List, [], ◌∷◌, Bool, true, false, cond, not, ◌&&◌, ◌||◌, eqb, get_or}
+use Rattle.std.specs.Prelude.{ℕ, List, [], ◌∷◌, Bool, true, false, cond, not, ◌&&◌, ◌||◌, eqb, get_or, Option, Some, None, Result, Ok, Err}
 use Rattle.service_code.specs.Code.{requires_key}
 use Rattle.answers.specs.declared.refusal.Refusal.TheVariants.{NotBuilt}
-use Rattle.answers.specs.declared.refusal.Told.{Told}
-use Rattle.answers.specs.declared.refusal.Told.TheVariants.{Number, Refused as NotTold}
 use Rattle.card_nodes.specs.declared.node.Node.{Node}
-use Rattle.card_nodes.specs.declared.find.Found.{Found}
-use Rattle.card_nodes.specs.declared.find.Found.TheVariants.{At, Nothing}
 use Rattle.card_nodes.specs.Node.{root_node}
 use Rattle.card_nodes.specs.Find.{service_of, area_of}
 use Rattle.card_build.specs.declared.card.Card.{Card}
 use Rattle.card_build.specs.Card.{nodes_of, is_sound}
 use Rattle.card_questions.specs.declared.keys.ListNode.{ListNode}
 use Rattle.card_questions.specs.declared.keys.ListNode.TheVariants.{Keyed, KeyFree, Unknown}
-use Rattle.card_questions.specs.declared.keys.Checked.{Checked}
-use Rattle.card_questions.specs.declared.keys.Checked.TheVariants.{WellFormed, Malformed, Refused as NotChecked}
+use Rattle.answers.specs.declared.refusal.Refusal.{Refusal}
 
-abbrev pub is_found : Found → Bool
-is_found (At i) = true
-is_found Nothing = false
+abbrev pub is_found : Option ℕ → Bool
+is_found (Some i) = true
+is_found None = false
 
 -- the version of a node that was found, or what else is answered
-abbrev pub version_at : List Node → Found → ℕ → ℕ
-version_at ns (At i) other = (get_or ns i root_node).version
-version_at ns Nothing other = other
+abbrev pub version_at : List Node → Option ℕ → ℕ → ℕ
+version_at ns (Some i) other = (get_or ns i root_node).version
+version_at ns None other = other
 
 -- system for FFFF, else service, else area, else FFFF
 -- RULES 3.4, 6.4
@@ -89,15 +84,15 @@ unfoldable pub service_list_of : List Node → List ℕ → Bool
 service_list_of ns cs = all_known ns cs && (in_order ns cs && any_keyed ns cs)
 
 -- what a card answers, refusal 8 first
-unfoldable pub version_answer : Card → ℕ → Told
-version_answer c code = cond (not (is_sound c)) (NotTold NotBuilt) (Number (version_of (nodes_of c) c.system.version code))
+unfoldable pub version_answer : Card → ℕ → Result ℕ Refusal
+version_answer c code = cond (not (is_sound c)) (Err NotBuilt) (Ok (version_of (nodes_of c) c.system.version code))
 
-abbrev pub checked_by : Bool → Checked
-checked_by true = WellFormed
-checked_by false = Malformed
+abbrev pub checked_by : Bool → Result Bool Refusal
+checked_by true = Ok true
+checked_by false = Ok false
 
-unfoldable pub area_list_answer : Card → List ℕ → Checked
-area_list_answer c areas = cond (not (is_sound c)) (NotChecked NotBuilt) (checked_by (area_list_of (nodes_of c) areas))
+unfoldable pub area_list_answer : Card → List ℕ → Result Bool Refusal
+area_list_answer c areas = cond (not (is_sound c)) (Err NotBuilt) (checked_by (area_list_of (nodes_of c) areas))
 
-unfoldable pub service_list_answer : Card → List ℕ → Checked
-service_list_answer c services = cond (not (is_sound c)) (NotChecked NotBuilt) (checked_by (service_list_of (nodes_of c) services))
+unfoldable pub service_list_answer : Card → List ℕ → Result Bool Refusal
+service_list_answer c services = cond (not (is_sound c)) (Err NotBuilt) (checked_by (service_list_of (nodes_of c) services))

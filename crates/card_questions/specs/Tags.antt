@@ -1,8 +1,6 @@
 -- Tags of nodes, and the search by a tag.
-use Rattle.std.specs.Prelude.{ℕ, suc, ◌+◌, ◌*◌, Bool, true, false, cond, List, [], ◌∷◌, map, ◌≡◌, eqb}
+use Rattle.std.specs.Prelude.{ℕ, suc, ◌+◌, ◌*◌, Bool, true, false, cond, List, [], ◌∷◌, map, ◌≡◌, eqb, Option, Some, None}
 use Rattle.card_nodes.specs.declared.node.Node.{Node}
-use Rattle.card_nodes.specs.declared.find.Found.{Found}
-use Rattle.card_nodes.specs.declared.find.Found.TheVariants.{At, Nothing}
 use Rattle.card_nodes.specs.Node.{is_service}
 
 -- twice the code, and one more for a service
@@ -14,9 +12,9 @@ abbrev pub tag_of : Node → ℕ
 tag_of n = tag_as n.code (is_service n.entry)
 
 -- the first place of a tag, the first of all being counted i
-unfoldable pub first_tag : ℕ → ℕ → List ℕ → Found
-first_tag t i [] = Nothing
-first_tag t i (x ∷ xs) = cond (eqb x t) (At i) (first_tag t (suc i) xs)
+unfoldable pub first_tag : ℕ → ℕ → List ℕ → Option ℕ
+first_tag t i [] = None
+first_tag t i (x ∷ xs) = cond (eqb x t) (Some i) (first_tag t (suc i) xs)
 
 -- what holds of nodes, of any that have these tags
 abbrev pub OfTags : List ℕ → (List Node → Type 0) → Type 0

@@ -2,23 +2,14 @@
 ghost use Rattle.std.specs.Prelude.{◌≡◌, cond, take};
 ghost use Rattle.card_questions.specs.Tags.{OfTags};
 ghost use Rattle.card_questions.specs.declared.keys.ListNode.TheVariants.{Keyed, KeyFree};
-ghost use Rattle.card_questions.specs.Keys.{version_of, is_found, area_or_system, area_list_of, list_node_of, service_list_of, checked_by, version_answer, area_list_answer, service_list_answer};
+ghost use Rattle.card_questions.specs.Keys.{version_of, area_or_system, area_list_of, list_node_of, service_list_of, version_answer, area_list_answer, service_list_answer};
 
 use crate::tags;
-use answers::refusal::{Refusal, Told};
+use answers::refusal::Refusal;
 use card_build::card::Card;
-use card_nodes::find::Found;
 use card_nodes::node::Node;
 use card_nodes::{count, find};
 use service_code::code::ServiceCode;
-
-// Whether a list is well formed, or why that is not said.
-#[derive(Clone, Copy)]
-pub enum Checked {
-    WellFormed,
-    Malformed,
-    Refused(Refusal),
-}
 
 // What an entry of a service list names.
 #[derive(Clone, Copy)]
@@ -28,27 +19,17 @@ pub enum ListNode {
     Unknown,
 }
 
-// Whether a search found a node.
-fn is_found(found: Found) -> bool
-    ensures { result ≡ is_found found }
-{
-    match found {
-        Found::At(_) => true,
-        Found::Nothing => false,
-    }
-}
-
 // The key version of `code`: the system's for FFFF, else a service's, else an area's, else FFFF.
-fn key_version(nodes: [Node; 64], count: usize, system: u16, code: u16) -> u16
-    ensures { result ≡ version_of (take count nodes) system code }
+fn key_version(nodes: &[Node], system: u16, code: u16) -> u16
+    ensures { result ≡ version_of nodes.now system code }
 {
     if code == 0xffff {
         return system;
     }
-    if let Found::At(i) = find::find_service(nodes, count, code) {
+    if let Some(i) = find::find_service(nodes, code) {
         return nodes[i].version;
     }
-    if let Found::At(i) = find::find_area(nodes, count, code) {
+    if let Some(i) = find::find_area(nodes, code) {
         return nodes[i].version;
     }
     0xffff
@@ -58,10 +39,7 @@ fn key_version(nodes: [Node; 64], count: usize, system: u16, code: u16) -> u16
 fn area_or_system(tags: &[u32], code: u16) -> bool
     ensures { OfTags tags.now (λ ns. result ≡ area_or_system ns code) }
 {
-    if code == 0xffff {
-        return true;
-    }
-    is_found(tags::area_at(tags, code))
+    code == 0xffff || tags::area_at(tags, code).is_some()
 }
 
 // Whether an area list is well formed among nodes of these tags: first an existing area, each later one an area or FFFF.
@@ -71,15 +49,13 @@ fn areas_tagged(tags: &[u32], areas: &[u16]) -> bool
     if areas.len() == 0 {
         return false;
     }
-    if !is_found(tags::area_at(tags, areas[0])) {
+    if tags::area_at(tags, areas[0]).is_none() {
         return false;
     }
-    let mut i = 1;
-    while i < areas.len() {
+    for i in 1..areas.len() {
         if !area_or_system(tags, areas[i]) {
             return false;
         }
-        i += 1;
     }
     true
 }
@@ -113,10 +89,10 @@ fn list_node(tags: &[u32], code: u16) -> ListNode
         return ListNode::Keyed;
     }
     let keyed = ServiceCode(code).requires_key();
-    if is_found(tags::service_at(tags, code)) {
+    if tags::service_at(tags, code).is_some() {
         return listed(keyed);
     }
-    if is_found(tags::area_at(tags, code)) {
+    if tags::area_at(tags, code).is_some() {
         return listed(true);
     }
     ListNode::Unknown
@@ -129,9 +105,8 @@ fn services_tagged(tags: &[u32], services: &[u16]) -> bool
 {
     let mut has_keyed = false;
     let mut seen_free = false;
-    let mut i = 0;
-    while i < services.len() {
-        match list_node(tags, services[i]) {
+    for code in services {
+        match list_node(tags, *code) {
             ListNode::Keyed => {
                 if seen_free {
                     return false;
@@ -145,7 +120,6 @@ fn services_tagged(tags: &[u32], services: &[u16]) -> bool
                 return false;
             }
         }
-        i += 1;
     }
     has_keyed
 }
@@ -160,45 +134,39 @@ fn service_list(nodes: [Node; 64], count: usize, services: &[u16]) -> bool
 }
 
 // The key version of the node of `code`, or refusal 8.
-pub fn node_key_version(card: Card, code: u16) -> Told
+#[tactic(auto, unfolding(crate::specs::Keys::version_answer))]
+pub fn node_key_version(card: Card, code: u16) -> Result<u16, Refusal>
     ensures { result ≡ version_answer card code }
 {
-    if !card.is_sound() {
-        return Told::Refused(Refusal::NotBuilt);
-    }
-    let nodes = card.nodes;
-    Told::Number(key_version(nodes, card.count, card.system.version, code))
-}
-
-// What is said of a list that is well formed, or is not.
-fn said(well_formed: bool) -> Checked
-    ensures { result ≡ checked_by well_formed }
-{
-    if well_formed {
-        Checked::WellFormed
+    if card.is_sound() {
+        let nodes = card.nodes;
+        let taken = count::records(&nodes, card.count);
+        Ok(key_version(taken, card.system.version, code))
     } else {
-        Checked::Malformed
+        Err(Refusal::NotBuilt)
     }
 }
 
 // Whether the area list is well formed, or refusal 8.
-pub fn area_list_well_formed(card: Card, areas: &[u16]) -> Checked
+#[tactic(auto, using(crate::proofs::Lists::checked), unfolding(crate::specs::Keys::area_list_answer))]
+pub fn area_list_well_formed(card: Card, areas: &[u16]) -> Result<bool, Refusal>
     ensures { result ≡ area_list_answer card areas.now }
 {
     if !card.is_sound() {
-        return Checked::Refused(Refusal::NotBuilt);
+        return Err(Refusal::NotBuilt);
     }
     let nodes = card.nodes;
-    said(area_list(nodes, card.count, areas))
+    Ok(area_list(nodes, card.count, areas))
 }
 
 // Whether the service list is well formed, or refusal 8.
-pub fn service_list_well_formed(card: Card, services: &[u16]) -> Checked
+#[tactic(auto, using(crate::proofs::Lists::checked), unfolding(crate::specs::Keys::service_list_answer))]
+pub fn service_list_well_formed(card: Card, services: &[u16]) -> Result<bool, Refusal>
     ensures { result ≡ service_list_answer card services.now }
 {
     if !card.is_sound() {
-        return Checked::Refused(Refusal::NotBuilt);
+        return Err(Refusal::NotBuilt);
     }
     let nodes = card.nodes;
-    said(service_list(nodes, card.count, services))
+    Ok(service_list(nodes, card.count, services))
 }

@@ -11,13 +11,6 @@ use card_build::card::Card;
 use card_nodes::count;
 use card_nodes::node::Node;
 
-// How many nodes a directory lists, or why it is refused.
-#[derive(Clone, Copy)]
-pub enum Listing {
-    Listed(usize),
-    Refused(Refusal),
-}
-
 // Writes the pair of the node at an index to its place.
 fn put_pair(code: u16, second: u16, at: usize, out: &mut [u16])
     requires { 2 * at + 1 < length out.old }
@@ -53,6 +46,7 @@ fn list_children(
     ensures out_after { out.new ≡ sets out.old (2 * (at + 1)) (pairs_from codes.now seconds.now (at + 1) (result - (at + 1))) }
 {
     let mut i = at + 1;
+    // no for: past a child area the walk goes on at the index that its call gives
     while i < depths.len() {
         if depths[i] <= depths[at] {
             break;
@@ -68,31 +62,32 @@ fn list_children(
 }
 
 // Writes the directory of `count` nodes as pairs. The output needs a pair per node, and beyond the answer stays as it was.
-fn list_all(nodes: [Node; 64], count: usize, out: &mut [u16]) -> Listing
+fn list_all(nodes: [Node; 64], count: usize, out: &mut [u16]) -> Result<usize, Refusal>
     ensures value { result ≡ listing_of (take count nodes) (length out.old) }
     ensures out_after { out.new ≡ out_after (take count nodes) out.old }
 {
     let n = count::taken(count);
     // refusal 5
     if out.len() < 2 * n {
-        return Listing::Refused(Refusal::ShortOutput);
+        return Err(Refusal::ShortOutput);
     }
     if n == 0 {
-        return Listing::Listed(0);
+        return Ok(0);
     }
     let depths = table::column_of(nodes, Column::Depth);
     let codes = table::column_of(nodes, Column::Code);
     let seconds = table::column_of(nodes, Column::Second);
-    Listing::Listed(list_area(&depths[0..n], &codes[0..n], &seconds[0..n], 0, out))
+    Ok(list_area(&depths[0..n], &codes[0..n], &seconds[0..n], 0, out))
 }
 
 // Writes the directory as pairs of 16-bit numbers: area (code, end), service (code, FFFF).
-pub fn directory(card: Card, out: &mut [u16]) -> Listing
+#[tactic(auto, unfolding(crate::specs::Directory::directory_answer, crate::specs::Directory::directory_out))]
+pub fn directory(card: Card, out: &mut [u16]) -> Result<usize, Refusal>
     ensures value { result ≡ directory_answer card (length out.old) }
     ensures out_after { out.new ≡ directory_out card out.old }
 {
     if !card.is_sound() {
-        return Listing::Refused(Refusal::NotBuilt);
+        return Err(Refusal::NotBuilt);
     }
     let nodes = card.nodes;
     list_all(nodes, card.count, out)

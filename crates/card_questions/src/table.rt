@@ -7,6 +7,7 @@ use card_nodes::node;
 use card_nodes::node::{Entry, Node};
 
 // What a column has of each node: its depth, its code, the second number of its pair, the blocks of its store.
+// An enum and no closure: the laws of proofs/Columns.antt name the column, so a closure would leave this type in specs/ and ask a clause of each caller.
 #[derive(Clone, Copy)]
 pub(crate) enum Column {
     Depth,
@@ -21,11 +22,7 @@ fn second(entry: Entry) -> u16
 {
     match entry {
         Entry::Area { end } => end,
-        Entry::Service {
-            start: _,
-            blocks: _,
-            limit: _,
-        } => 0xffff,
+        Entry::Service { .. } => 0xffff,
     }
 }
 
@@ -47,11 +44,8 @@ pub(crate) fn column_of(nodes: [Node; 64], column: Column) -> [u16; 64]
     ensures { result ≡ map (cell_of column) nodes }
 {
     let mut cells = [0u16; 64];
-    let mut i = 0;
-    while i < 64 {
-        let node = nodes[i];
-        cells[i] = cell(node, column);
-        i += 1;
+    for (i, node) in nodes.iter().enumerate() {
+        cells[i] = cell(*node, column);
     }
     cells
 }

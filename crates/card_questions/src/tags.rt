@@ -2,7 +2,6 @@
 ghost use Rattle.std.specs.Prelude.{◌≡◌, true, false, map};
 ghost use Rattle.card_questions.specs.Tags.{tag_as, tag_of, first_tag};
 
-use card_nodes::find::Found;
 use card_nodes::node;
 use card_nodes::node::Node;
 
@@ -18,8 +17,7 @@ fn tag(code: u16, service: bool) -> u32
 fn tag_of(node: Node) -> u32
     ensures { result ≡ tag_of node }
 {
-    let entry = node.entry;
-    tag(node.code, node::is_service(entry))
+    tag(node.code, node::is_service(node.entry))
 }
 
 // The tags of the 64 records.
@@ -27,38 +25,28 @@ pub fn tags_of(nodes: [Node; 64]) -> [u32; 64]
     ensures { result ≡ map tag_of nodes }
 {
     let mut tags = [0u32; 64];
-    let mut i = 0;
-    while i < 64 {
-        let node = nodes[i];
-        tags[i] = tag_of(node);
-        i += 1;
+    for (i, node) in nodes.iter().enumerate() {
+        tags[i] = tag_of(*node);
     }
     tags
 }
 
 // The first place of `sought` among `tags`.
-fn first_tag(tags: &[u32], sought: u32) -> Found
+fn first_tag(tags: &[u32], sought: u32) -> Option<usize>
     ensures { result ≡ first_tag sought 0 tags.now }
 {
-    let mut i = 0;
-    while i < tags.len() {
-        if tags[i] == sought {
-            return Found::At(i);
-        }
-        i += 1;
-    }
-    Found::Nothing
+    tags.iter().position(|tag| *tag == sought)
 }
 
 // The first service of `code` among nodes, by their tags.
-pub(crate) fn service_at(tags: &[u32], code: u16) -> Found
+pub(crate) fn service_at(tags: &[u32], code: u16) -> Option<usize>
     ensures { result ≡ first_tag (tag_as code true) 0 tags.now }
 {
     first_tag(tags, tag(code, true))
 }
 
 // The first area of `code` among nodes, by their tags.
-pub fn area_at(tags: &[u32], code: u16) -> Found
+pub fn area_at(tags: &[u32], code: u16) -> Option<usize>
     ensures { result ≡ first_tag (tag_as code false) 0 tags.now }
 {
     first_tag(tags, tag(code, false))

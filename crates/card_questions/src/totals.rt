@@ -6,10 +6,9 @@ ghost use Rattle.card_questions.specs.Total.{total_of, total_answer};
 
 use crate::table::Column;
 use crate::{table, tags};
-use answers::refusal::{Refusal, Told};
+use answers::refusal::Refusal;
 use card_build::card::Card;
 use card_nodes::count;
-use card_nodes::find::Found;
 use card_nodes::node::Node;
 
 // A sum of blocks, and the index past the nodes that it covers.
@@ -28,6 +27,7 @@ fn total_at(depths: &[u16], seconds: &[u16], blocks: &[u16], at: usize) -> Sum
 {
     let mut sum = 0u32;
     let mut i = at + 1;
+    // no for: past a child area the walk goes on at the index that its call gives
     while i < depths.len() {
         if depths[i] <= depths[at] {
             break;
@@ -59,10 +59,10 @@ fn total_in(tags: &[u32], depths: &[u16], seconds: &[u16], blocks: &[u16], code:
     requires { (length depths.now ≤ 64) × (length tags.now ≡ length depths.now) × (length seconds.now ≡ length depths.now) × (length blocks.now ≡ length depths.now) }
     ensures { OfColumns tags.now depths.now seconds.now blocks.now (λ ns. result ≡ total_of ns code) }
 {
-    if let Found::At(i) = tags::service_at(tags, code) {
+    if let Some(i) = tags::service_at(tags, code) {
         return capped(blocks[i] as u32);
     }
-    let Found::At(j) = tags::area_at(tags, code) else {
+    let Some(j) = tags::area_at(tags, code) else {
         return 0;
     };
     let sum = total_at(depths, seconds, blocks, j);
@@ -81,10 +81,8 @@ fn put_totals_in(
     requires { (length depths.now ≤ 64) × (length tags.now ≡ length depths.now) × (length seconds.now ≡ length depths.now) × (length blocks.now ≡ length depths.now) × (length asked.now ≤ length to.old) }
     ensures { OfColumns tags.now depths.now seconds.now blocks.now (λ ns. to.new ≡ put to.old 0 (length asked.now) (map (total_of ns) asked.now)) }
 {
-    let mut i = 0;
-    while i < asked.len() {
-        to[i] = total_in(tags, depths, seconds, blocks, asked[i]);
-        i += 1;
+    for (i, code) in asked.iter().enumerate() {
+        to[i] = total_in(tags, depths, seconds, blocks, *code);
     }
 }
 
@@ -119,12 +117,13 @@ fn block_total(nodes: [Node; 64], count: usize, code: u16) -> u16
 }
 
 // The block total of the node of `code`, or refusal 8.
-pub fn block_count_for_node(card: Card, code: u16) -> Told
+#[tactic(auto, unfolding(crate::specs::Total::total_answer))]
+pub fn block_count_for_node(card: Card, code: u16) -> Result<u16, Refusal>
     ensures { result ≡ total_answer card code }
 {
     if !card.is_sound() {
-        return Told::Refused(Refusal::NotBuilt);
+        return Err(Refusal::NotBuilt);
     }
     let nodes = card.nodes;
-    Told::Number(block_total(nodes, card.count, code))
+    Ok(block_total(nodes, card.count, code))
 }

@@ -1,4 +1,5 @@
 -- What is kept of the records that were passed is what a search among them finds.
+use Rattle.std.proofs.Common.{Option, Some, None}
 use mathlib.Core.Path.{◌≡◌, refl, sym, ◌∙◌, ap}
 use mathlib.Core.Bool.{Bool, true, false, cond, not, ◌&&◌}
 use mathlib.Core.List.{List, [], ◌∷◌, ◌++◌}
@@ -13,12 +14,9 @@ use Rattle.service_code.specs.Code.{number_of}
 use Rattle.card_nodes.specs.declared.node.Entry.{Entry}
 use Rattle.card_nodes.specs.declared.node.Entry.TheVariants.{Area, Service}
 use Rattle.card_nodes.specs.declared.node.Node.{Node}
-use Rattle.card_nodes.specs.declared.find.Found.{Found}
-use Rattle.card_nodes.specs.declared.find.Found.TheVariants.{At, Nothing}
 use Rattle.card_nodes.specs.Node.{root_node, is_area, is_service}
 use Rattle.card_nodes.specs.Find.{first_from, or_else, shared_of, area_at, open_at, parent_from}
 use Rattle.card_nodes.proofs.Searches.{Below, first_below, first_found, first-append, parent_append}
-use Rattle.card_admit.specs.declared.First.TheVariants.{There, Missing}
 use Rattle.card_admit.specs.Admit.{is_depth, parent_at, first_in}
 use Rattle.card_admit.proofs.Growth.{depth_deep, deep_depth}
 use Rattle.card_sound.proofs.Laws.{passed}
@@ -54,7 +52,7 @@ deepest_most d (Service s b l) = omega arith
 
 -- the parents that are kept say where a new node comes
 pub record Parents (ns : List Node) (parents : List ℕ) (deepest : ℕ) : Type 0 where
-  pub says : (d : ℕ) → parent_at ns d ≡ cond (depth_open d deepest) (At (get_or parents d 0)) Nothing
+  pub says : (d : ℕ) → parent_at ns d ≡ cond (depth_open d deepest) (Some (get_or parents d 0)) None
 
 -- before the first node none may come
 pub no_parents : (parents : List ℕ) → Parents [] parents 0
@@ -62,7 +60,7 @@ unfolding parent_at parent_from depth_open
 no_parents parents = record { says = λ d. go d (is_depth d) refl }
   where
     go : (d : ℕ) (a : Bool) → is_depth d ≡ a →
-        cond (not a) Nothing Nothing ≡ cond (cond (not a) false (leb d 0)) (At (get_or parents d 0)) Nothing
+        cond (not a) None None ≡ cond (cond (not a) false (leb d 0)) (Some (get_or parents d 0)) None
     go d false e = refl
     go d true e = let t = depth_deep d e in rw (lt-leb d 0 t.low)
 
@@ -74,21 +72,21 @@ module _
     last : (d : ℕ) → 1 ≤ d → d ≤ 8 → parent_at (ns ++ (n ∷ [])) d ≡ cond (ltb n.depth d) (open_at n d (length ns)) (parent_at ns d)
     unfolding parent_at parent_from
     last d some most =
-        rw (deep_depth d some most) (rw zero-add at (parent_append d Nothing 0 ns (n ∷ [])))
+        rw (deep_depth d some most) (rw zero-add at (parent_append d None 0 ns (n ∷ [])))
 
     module _ (d : ℕ) where
       -- the next depth is open under an area alone
       under : n.depth + 1 ≡ d → (e : Entry) →
           area_at e (length ns)
-          ≡ cond (leb d (deepest_by n.depth e)) (At (get_or (set parents (n.depth + 1) (length ns)) d 0)) Nothing
+          ≡ cond (leb d (deepest_by n.depth e)) (Some (get_or (set parents (n.depth + 1) (length ns)) d 0)) None
       under e (Area x) =
           rw (le-leb d (n.depth + 1) (omega arith), sym e, get_or-set_same parents (n.depth + 1) (length ns) 0 (omega arith))
       under e (Service s b l) = rw (lt-leb d n.depth (omega arith))
 
       -- and none below it
       deeper : n.depth < d → (b : Bool) → eqb (n.depth + 1) d ≡ b →
-          cond b (area_at n.entry (length ns)) Nothing
-          ≡ cond (leb d (deepest_by n.depth n.entry)) (At (get_or (set parents (n.depth + 1) (length ns)) d 0)) Nothing
+          cond b (area_at n.entry (length ns)) None
+          ≡ cond (leb d (deepest_by n.depth n.entry)) (Some (get_or (set parents (n.depth + 1) (length ns)) d 0)) None
       deeper less true e = under (eqb-true _ _ e) n.entry
       deeper less false e =
           let x = eqb-false (n.depth + 1) d e in
@@ -97,7 +95,7 @@ module _
       -- down to its own depth all is as it was
       decided : 1 ≤ d → d ≤ 8 → (b : Bool) → ltb n.depth d ≡ b →
           cond b (open_at n d (length ns)) (parent_at ns d)
-          ≡ cond (leb d (deepest_by n.depth n.entry)) (At (get_or (set parents (n.depth + 1) (length ns)) d 0)) Nothing
+          ≡ cond (leb d (deepest_by n.depth n.entry)) (Some (get_or (set parents (n.depth + 1) (length ns)) d 0)) None
       unfolding open_at
       decided some most true e = deeper (ltb-true _ _ e) (eqb (n.depth + 1) d) refl
       decided some most false e =
@@ -112,14 +110,14 @@ module _
 
       by_depth : 1 ≤ d → d ≤ 8 →
           parent_at (ns ++ (n ∷ [])) d
-          ≡ cond (depth_open d (deepest_by n.depth n.entry)) (At (get_or (set parents (n.depth + 1) (length ns)) d 0)) Nothing
+          ≡ cond (depth_open d (deepest_by n.depth n.entry)) (Some (get_or (set parents (n.depth + 1) (length ns)) d 0)) None
       by_depth some most =
           rw (open_by d (deepest_by n.depth n.entry) some most) (last d some most ∙ decided some most (ltb n.depth d) refl)
 
       -- at any other depth none may come
       either : (a : Bool) → is_depth d ≡ a →
           parent_at (ns ++ (n ∷ [])) d
-          ≡ cond (depth_open d (deepest_by n.depth n.entry)) (At (get_or (set parents (n.depth + 1) (length ns)) d 0)) Nothing
+          ≡ cond (depth_open d (deepest_by n.depth n.entry)) (Some (get_or (set parents (n.depth + 1) (length ns)) d 0)) None
       unfolding parent_at depth_open
       either false e = rw e
       either true e = let t = depth_deep d e in by_depth t.low t.high
@@ -133,9 +131,9 @@ abbrev is_of : ℕ → Node → Bool
 is_of m n = eqb (number_of n.code) m && is_service n.entry
 
 -- an index that was found; 0, the root's, for none
-abbrev pub index_in : Found → ℕ
-index_in (At j) = j
-index_in Nothing = 0
+abbrev pub index_in : Option ℕ → ℕ
+index_in (Some j) = j
+index_in None = 0
 
 -- the first services that are kept say which is the first of a number
 pub record Firsts (ns : List Node) (firsts : List ℕ) : Type 0 where
@@ -143,17 +141,17 @@ pub record Firsts (ns : List Node) (firsts : List ℕ) : Type 0 where
 
 module _ {ns : List Node} {firsts : List ℕ} (kept : Firsts ns firsts) (n : Node) (long : length firsts ≡ 1024) where
   -- one node more is the first where there was none
-  joined : (f : Found) (e : Entry) →
-      first_after (first_in ns f) (index_in f) e (length ns) ≡ index_in (or_else f (cond (is_service e) (At (length ns)) Nothing))
-  joined (At j) e = refl
-  joined Nothing (Area e) = refl
-  joined Nothing (Service s b l) = refl
+  joined : (f : Option ℕ) (e : Entry) →
+      first_after (first_in ns f) (index_in f) e (length ns) ≡ index_in (or_else f (cond (is_service e) (Some (length ns)) None))
+  joined (Some j) e = refl
+  joined None (Area e) = refl
+  joined None (Service s b l) = refl
 
-  none : (f : Found) → f ≡ or_else f Nothing
-  none (At j) = refl
-  none Nothing = refl
+  none : (f : Option ℕ) → f ≡ or_else f None
+  none (Some j) = refl
+  none None = refl
 
-  last-first : (m : ℕ) → first_from (is_of m) 0 (ns ++ (n ∷ [])) ≡ or_else (first_from (is_of m) 0 ns) (cond (is_of m n) (At (length ns)) Nothing)
+  last-first : (m : ℕ) → first_from (is_of m) 0 (ns ++ (n ∷ [])) ≡ or_else (first_from (is_of m) 0 ns) (cond (is_of m n) (Some (length ns)) None)
   unfolding first_from
   last-first m = rw zero-add at (first-append (is_of m) 0 ns (n ∷ []))
 
@@ -183,11 +181,11 @@ module _ {ns : List Node} {firsts : List ℕ} (kept : Firsts ns firsts) (n : Nod
       firsts_next = record { says = λ m h. each m h (eqb (number_of n.code) m) refl }
 
 -- a service stands for itself, an area for none
-service-first : (n : Node) (e : Entry) → is_service e ≡ true → first_by n e ≡ There n
+service-first : (n : Node) (e : Entry) → is_service e ≡ true → first_by n e ≡ Some n
 service-first n (Area e) h = absurd (let z : ◌≡◌ {A = ℕ} 0 1 = cc in (omega arith))
 service-first n (Service s b l) h = refl
 
-area-first : (n : Node) (e : Entry) → is_area e ≡ true → first_by n e ≡ Missing
+area-first : (n : Node) (e : Entry) → is_area e ≡ true → first_by n e ≡ None
 area-first n (Area e) h = refl
 area-first n (Service s b l) h = absurd (let z : ◌≡◌ {A = ℕ} 0 1 = cc in (omega arith))
 
@@ -195,9 +193,9 @@ second : (a b : Bool) → (a && b) ≡ true → b ≡ true
 second true b e = e
 second false b e = absurd (let z : ◌≡◌ {A = ℕ} 0 1 = cc in (omega arith))
 
-index_below : (f : Found) (k : ℕ) → 0 < k → Below f (0 + k) → index_in f < k
-index_below (At j) k h b = omega arith
-index_below Nothing k h b = h
+index_below : (f : Option ℕ) (k : ℕ) → 0 < k → Below f (0 + k) → index_in f < k
+index_below (Some j) k h b = omega arith
+index_below None k h b = h
 
 module _ {ns : List Node} {firsts : List ℕ} (kept : Firsts ns firsts) (code : ℕ) (small : number_of code < 1024) where
   -- the index that is kept is that of a node
@@ -206,13 +204,13 @@ module _ {ns : List Node} {firsts : List ℕ} (kept : Firsts ns firsts) (code : 
       rw (kept.says (number_of code) small) (index_below (shared_of ns code) (length ns) h (first_below (is_of (number_of code)) 0 ns))
 
   module _ (root : is_area (get_or ns 0 root_node).entry ≡ true) where
-    stands : (f : Found) → shared_of ns code ≡ f →
+    stands : (f : Option ℕ) → shared_of ns code ≡ f →
         first_by (get_or ns (index_in f) root_node) (get_or ns (index_in f) root_node).entry ≡ first_in ns f
-    stands (At j) e =
+    stands (Some j) e =
         let t = (first_found (is_of (number_of code)) ns e).passes in
         service-first (get_or ns j root_node) (get_or ns j root_node).entry
         (second (eqb (number_of (get_or ns j root_node).code) (number_of code)) (is_service (get_or ns j root_node).entry) t)
-    stands Nothing e = area-first (get_or ns 0 root_node) (get_or ns 0 root_node).entry root
+    stands None e = area-first (get_or ns 0 root_node) (get_or ns 0 root_node).entry root
 
     -- and that node stands for the first service of the number
     pub first_there :

@@ -1,5 +1,4 @@
 pub mod Laws
-mod Roots
 mod Kept
 mod Turns
 mod Walk

@@ -1,4 +1,5 @@
 -- One turn of each loop over the records.
+use Rattle.std.proofs.Common.{Some, None}
 use mathlib.Core.Path.{◌≡◌}
 use mathlib.Core.Bool.{Bool, true, false}
 use mathlib.Core.List.{List}
@@ -9,12 +10,10 @@ use lib.Seq.{take_all, take-take, take-suc}
 use Rattle.card_nodes.specs.declared.node.Entry.{Entry}
 use Rattle.card_nodes.specs.declared.node.Entry.TheVariants.{Area, Service}
 use Rattle.card_nodes.specs.declared.node.Node.{Node}
-use Rattle.card_nodes.specs.declared.find.Found.TheVariants.{At, Nothing}
 use Rattle.card_nodes.specs.Node.{root_node}
 use Rattle.card_nodes.specs.Find.{shared_of}
 use Rattle.card_admit.specs.Admit.{parent_at, area_judged, first_in, placed_of}
 use Rattle.card_nodes.proofs.Scan.{Left, here, turn}
-use Rattle.card_sound.specs.declared.Step.TheVariants.{Goes, Stops}
 use Rattle.card_sound.specs.Sound.{is_root, all_roots, step_by, step_of, steps_from, steps_of}
 use Rattle.card_sound.specs.Walk.{step_under}
 
@@ -38,16 +37,16 @@ module _ {nodes : List Node} {whole : Bool} {i : ℕ} (z : Node) (left : Unused 
 
 module _ (before : List Node) (used : ℕ) (n : Node) where
   -- a record that has no parent stops
-  pub orphan : parent_at before n.depth ≡ Nothing → step_of before used n ≡ Stops
+  pub orphan : parent_at before n.depth ≡ None → step_of before used n ≡ None
   unfolding step_of area_judged placed_of
   orphan k = by_entry_lem n.entry
     where
-      by_entry_lem : (e : Entry) → step_by before used n e ≡ Stops
+      by_entry_lem : (e : Entry) → step_by before used n e ≡ None
       by_entry_lem (Area e) = rw k
       by_entry_lem (Service s b l) = rw k
 
   -- any other steps as it does under its parent
-  pub under : {p : ℕ} → parent_at before n.depth ≡ At p →
+  pub under : {p : ℕ} → parent_at before n.depth ≡ Some p →
       step_under (get_or before p root_node) (first_in before (shared_of before n.code)) used n.code n.entry ≡ step_of before used n
   unfolding step_of area_judged placed_of
   under {p = p} k = by_entry_lem n.entry
@@ -67,11 +66,11 @@ stepped nodes count l h k = record { within = h; all = omega arith; same = rw (t
 
 module _ {nodes : List Node} {count i : ℕ} (used : ℕ) (z : Node) (left : Stepped nodes count used i) (h : i < count) where
   -- a record that no addition makes ends the steps
-  pub stops : step_of (take i nodes) used (get_or nodes i z) ≡ Stops → Stops ≡ steps_of (take count nodes)
+  pub stops : step_of (take i nodes) used (get_or nodes i z) ≡ None → None ≡ steps_of (take count nodes)
   unfolding steps_from
   stops e = rw e at (here left z h)
 
   -- any other goes on with the blocks in use after it
-  pub goes : (u : ℕ) → step_of (take i nodes) used (get_or nodes i z) ≡ Goes u → Stepped nodes count u (i + 1)
+  pub goes : (u : ℕ) → step_of (take i nodes) used (get_or nodes i z) ≡ Some u → Stepped nodes count u (i + 1)
   unfolding steps_from
   goes u e = turn left z (λ i. steps_from (take i nodes) u) h (λ rest. rw (e, take-suc nodes i z (omega arith)))

@@ -1,4 +1,5 @@
 -- The walk over the records that a count takes: what is known on its way, and one turn of it.
+use Rattle.std.proofs.Common.{Option, Some, None}
 use mathlib.Core.Path.{◌≡◌, refl, sym, ◌∙◌, ap, subst}
 use mathlib.Core.Bool.{Bool, true, false, cond, not, ◌&&◌}
 use mathlib.Core.List.{List, [], ◌∷◌, ◌++◌}
@@ -13,16 +14,12 @@ use Rattle.service_code.specs.Code.{number_of}
 use Rattle.card_nodes.specs.declared.node.Entry.{Entry}
 use Rattle.card_nodes.specs.declared.node.Entry.TheVariants.{Area, Service}
 use Rattle.card_nodes.specs.declared.node.Node.{Node}
-use Rattle.card_nodes.specs.declared.find.Found.TheVariants.{At, Nothing}
 use Rattle.card_nodes.specs.Node.{root_node, is_area, is_service}
 use Rattle.card_nodes.specs.Find.{first_from, shared_of}
 use Rattle.card_nodes.proofs.Scan.{read}
 use Rattle.card_nodes.proofs.Searches.{in_range_lem}
-use Rattle.card_admit.specs.declared.First.{First}
 use Rattle.card_admit.specs.Admit.{parent_at, first_in}
 use Rattle.card_admit.proofs.Growth.{parent_at_below}
-use Rattle.card_sound.specs.declared.Step.{Step}
-use Rattle.card_sound.specs.declared.Step.TheVariants.{Goes, Stops}
 use Rattle.card_sound.specs.Sound.{is_root, root_end, all_roots, step_of, steps_of, ends_at, sound_of}
 use Rattle.card_sound.specs.Walk.{starting, depth_open, deepest_by, first_by, first_after, step_under}
 use Rattle.card_sound.proofs.Laws.{passed}
@@ -74,7 +71,7 @@ root_first : (n : Node) → Firsts (n ∷ []) (replicate 1024 0)
 unfolding first_from
 root_first n = record { says = λ m h. get_or-replicate 1024 m 0 0 h ∙ none (eqb (number_of n.code) m && is_service n.entry) }
   where
-    none : (b : Bool) → 0 ≡ index_in (cond b (At 0) Nothing)
+    none : (b : Bool) → 0 ≡ index_in (cond b (Some 0) None)
     none true = refl
     none false = refl
 
@@ -132,7 +129,7 @@ module _
       first-at = omega (arith, in_front_lem, size)
 
       -- and that record stands for the first service of the number
-      pub first-is : {first : First} (y : Node) → first ≡ first_by (get_or nodes (get_or firsts m 0) y) (get_or nodes (get_or firsts m 0) y).entry →
+      pub first-is : {first : Option Node} (y : Node) → first ≡ first_by (get_or nodes (get_or firsts m 0) y) (get_or nodes (get_or firsts m 0) y).entry →
           first ≡ first_in (take i nodes) (shared_of (take i nodes) (get_or nodes i z).code)
       first-is y e =
           e
@@ -140,13 +137,13 @@ module _
           ∙ rw own (first_there w.first (get_or nodes i z).code (omega arith) root_read)
 
     -- a record that may not come there ends the walk
-    pub closed : depth_open (get_or nodes i z).depth deepest ≡ false → Stops ≡ steps_of (take count nodes)
+    pub closed : depth_open (get_or nodes i z).depth deepest ≡ false → None ≡ steps_of (take count nodes)
     closed e =
         stops used z w.left h (orphan (take i nodes) used (get_or nodes i z) (w.above.says (get_or nodes i z).depth ∙ rw e))
 
     module _ (e : depth_open (get_or nodes i z).depth deepest ≡ true) where
       -- its parent is the one that is kept
-      parent : parent_at (take i nodes) (get_or nodes i z).depth ≡ At (get_or parents (get_or nodes i z).depth 0)
+      parent : parent_at (take i nodes) (get_or nodes i z).depth ≡ Some (get_or parents (get_or nodes i z).depth 0)
       parent = w.above.says (get_or nodes i z).depth ∙ rw e
 
       before : get_or parents (get_or nodes i z).depth 0 < length (take i nodes)
@@ -156,7 +153,7 @@ module _
       parent-index = omega (arith, before, size)
 
       -- so it steps as that parent and that service say
-      pub steps : {first : First} {r : Step} (y : Node) → first ≡ first_in (take i nodes) (shared_of (take i nodes) (get_or nodes i z).code) →
+      pub steps : {first : Option Node} {r : Option ℕ} (y : Node) → first ≡ first_in (take i nodes) (shared_of (take i nodes) (get_or nodes i z).code) →
           r ≡ step_under (get_or nodes (get_or parents (get_or nodes i z).depth 0) y) first used (get_or nodes i z).code (get_or nodes i z).entry →
           r ≡ step_of (take i nodes) used (get_or nodes i z)
       steps y f k =
@@ -165,11 +162,11 @@ module _
           (under (take i nodes) used (get_or nodes i z) parent)
 
       -- and the walk goes on with it among the records passed
-      pub next : {m v deep u : ℕ} {first : First} → m ≡ number_of (get_or nodes i z).code → m < 1024 →
+      pub next : {m v deep u : ℕ} {first : Option Node} → m ≡ number_of (get_or nodes i z).code → m < 1024 →
           first ≡ first_in (take i nodes) (shared_of (take i nodes) (get_or nodes i z).code) →
           v ≡ first_after first (get_or firsts m 0) (get_or nodes i z).entry i →
           deep ≡ deepest_by (get_or nodes i z).depth (get_or nodes i z).entry →
-          step_of (take i nodes) used (get_or nodes i z) ≡ Goes u →
+          step_of (take i nodes) used (get_or nodes i z) ≡ Some u →
           Walk nodes count (set parents ((get_or nodes i z).depth + 1) i) (set firsts m v) deep u (i + 1)
       next own small f k d g =
           let o = open_within (get_or nodes i z).depth deepest e in

@@ -1,16 +1,12 @@
 -- Refusal 8, as a test of the records: each must be the one that its own addition, made after those before it, would store.
-use Rattle.std.specs.Prelude.{ℕ, List, [], ◌∷◌, ◌++◌, Bool, true, false, cond, not, ◌&&◌, eqb, ltb, take, drop, get_or}
+use Rattle.std.specs.Prelude.{ℕ, List, [], ◌∷◌, ◌++◌, Bool, true, false, cond, not, ◌&&◌, eqb, ltb, take, drop, get_or, Option, Some, None, Result, Ok, Err}
 use Rattle.card_nodes.specs.declared.node.Entry.{Entry}
 use Rattle.card_nodes.specs.declared.node.Entry.TheVariants.{Area, Service}
 use Rattle.card_nodes.specs.declared.node.Node.{Node}
-use Rattle.answers.specs.declared.refusal.Answer.{Answer}
-use Rattle.answers.specs.declared.refusal.Answer.TheVariants.{Done, Refused}
 use Rattle.card_admit.specs.declared.Placed.{Placed}
-use Rattle.card_admit.specs.declared.Placed.TheVariants.{Store, Refused as NotPlaced}
 use Rattle.card_nodes.specs.Node.{root_node}
 use Rattle.card_admit.specs.Admit.{area_judged, placed_of}
-use Rattle.card_sound.specs.declared.Step.{Step}
-use Rattle.card_sound.specs.declared.Step.TheVariants.{Goes, Stops}
+use Rattle.answers.specs.declared.refusal.Refusal.{Refusal}
 
 -- the root ends at FFFE
 abbrev pub root_end : Entry → Bool
@@ -27,40 +23,40 @@ all_roots [] = true
 all_roots (n ∷ ns) = is_root n && all_roots ns
 
 -- an area puts no block more in use
-abbrev pub area_step : ℕ → Answer → Step
-area_step used (Refused r) = Stops
-area_step used Done = Goes used
+abbrev pub area_step : ℕ → Result Unit Refusal → Option ℕ
+area_step used (Err r) = None
+area_step used (Ok tt) = Some used
 
 -- a service's record holds the very store that the building gives it
-abbrev pub service_step : ℕ → ℕ → Placed → Step
-service_step start blocks (NotPlaced r) = Stops
-service_step start blocks (Store s b u) = cond (not (eqb s start)) Stops (cond (not (eqb b blocks)) Stops (Goes u))
+abbrev pub service_step : ℕ → ℕ → Result Placed Refusal → Option ℕ
+service_step start blocks (Err r) = None
+service_step start blocks (Ok placed) = cond (not (eqb placed.start start)) None (cond (not (eqb placed.blocks blocks)) None (Some placed.used))
 
 -- the step over a record, by its case, after those before it
-abbrev pub step_by : List Node → ℕ → Node → Entry → Step
+abbrev pub step_by : List Node → ℕ → Node → Entry → Option ℕ
 step_by before used n (Area e) = area_step used (area_judged before n.depth n.code e)
 step_by before used n (Service s b l) = service_step s b (placed_of before used 65536 n.depth n.code b)
 
 -- a record after those before it; its limit may be any
-unfoldable pub step_of : List Node → ℕ → Node → Step
+unfoldable pub step_of : List Node → ℕ → Node → Option ℕ
 step_of before used n = step_by before used n n.entry
 
-abbrev pub then_step : Step → (ℕ → Step) → Step
-then_step Stops more = Stops
-then_step (Goes u) more = more u
+abbrev pub then_step : Option ℕ → (ℕ → Option ℕ) → Option ℕ
+then_step None more = None
+then_step (Some u) more = more u
 
 -- all the records that follow
-unfoldable pub steps_from : List Node → ℕ → List Node → Step
-steps_from before used [] = Goes used
+unfoldable pub steps_from : List Node → ℕ → List Node → Option ℕ
+steps_from before used [] = Some used
 steps_from before used (n ∷ ns) = then_step (step_of before used n) (λ u. steps_from (before ++ (n ∷ [])) u ns)
 
 -- all after the first, with no block in use yet
-unfoldable pub steps_of : List Node → Step
+unfoldable pub steps_of : List Node → Option ℕ
 steps_of ns = steps_from (take 1 ns) 0 (drop 1 ns)
 
-abbrev pub ends_at : ℕ → Step → Bool
-ends_at used Stops = false
-ends_at used (Goes u) = eqb u used
+abbrev pub ends_at : ℕ → Option ℕ → Bool
+ends_at used None = false
+ends_at used (Some u) = eqb u used
 
 -- a root, then records that the building gives, then unused ones, and the blocks in use
 -- RULES 5.12

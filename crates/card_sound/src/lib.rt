@@ -6,72 +6,41 @@ ghost use Rattle.service_code.specs.Code.{number_of};
 ghost use Rattle.card_sound.specs.Sound.{is_root, all_roots, area_step, service_step, sound_of};
 ghost use Rattle.card_sound.specs.Walk.{starting, depth_open, deepest_by, first_by, first_after, step_under};
 
-use answers::refusal::Answer;
-use card_admit::{First, Placed};
+use answers::refusal::Refusal;
+use card_admit::Placed;
 use card_nodes::node::{Entry, Node};
 use service_code::code::ServiceCode;
 
-// The blocks in use after a record, or that no accepted addition makes it.
-#[derive(Clone, Copy)]
-pub enum Step {
-    Goes(usize),
-    Stops,
-}
-
 // Whether a record is the root's, which an unused one is too.
+#[tactic(auto, unfolding(crate::specs::Sound::is_root))]
 fn is_root(node: Node) -> bool
     ensures { result ≡ is_root node }
 {
-    if node.depth != 0 {
-        return false;
-    }
-    if node.code != 0 {
-        return false;
-    }
-    if node.version != 0 {
-        return false;
-    }
-    let entry = node.entry;
-    match entry {
-        Entry::Area { end } => end == 0xfffe,
-        Entry::Service {
-            start: _,
-            blocks: _,
-            limit: _,
-        } => false,
-    }
+    let is_whole = matches!(node.entry, Entry::Area { end: 0xfffe });
+    node.depth == 0 && node.code == 0 && node.version == 0 && is_whole
 }
 
 // The step over an area's record whose addition was judged so: no block more is in use.
-fn area_step(used: usize, answer: Answer) -> Step
+fn area_step(used: usize, answer: Result<(), Refusal>) -> Option<usize>
     ensures { result ≡ area_step used answer }
 {
     match answer {
-        Answer::Done => Step::Goes(used),
-        Answer::Refused(_) => Step::Stops,
+        Ok(()) => Some(used),
+        Err(_) => None,
     }
 }
 
 // The step over a service's record of a start and a count, which must be those of the store that the building gives it.
-fn service_step(start: u16, blocks: u16, placed: Placed) -> Step
+fn service_step(start: u16, blocks: u16, placed: Result<Placed, Refusal>) -> Option<usize>
     ensures { result ≡ service_step start blocks placed }
 {
-    match placed {
-        Placed::Store {
-            start: s,
-            blocks: b,
-            used,
-        } => {
-            if s != start {
-                return Step::Stops;
-            }
-            if b != blocks {
-                return Step::Stops;
-            }
-            Step::Goes(used)
-        }
-        Placed::Refused(_) => Step::Stops,
+    let Ok(given) = placed else {
+        return None;
+    };
+    if given.start != start || given.blocks != blocks {
+        return None;
     }
+    Some(given.used)
 }
 
 // Whether a node may come at `depth`: from 1 to 8, and no deeper than those before it leave open.
@@ -79,10 +48,7 @@ fn service_step(start: u16, blocks: u16, placed: Placed) -> Step
 fn is_open(depth: usize, deepest: usize) -> bool
     ensures { result ≡ depth_open depth deepest }
 {
-    if !card_admit::is_depth(depth) {
-        return false;
-    }
-    depth <= deepest
+    card_admit::is_depth(depth) && depth <= deepest
 }
 
 // The deepest that `node` leaves open to the next: under an area, beside a service.
@@ -91,51 +57,39 @@ fn deepest_by(node: Node) -> usize
 {
     let entry = node.entry;
     match entry {
-        Entry::Area { end: _ } => node.depth as usize + 1,
-        Entry::Service {
-            start: _,
-            blocks: _,
-            limit: _,
-        } => node.depth as usize,
+        Entry::Area { .. } => node.depth as usize + 1,
+        Entry::Service { .. } => node.depth as usize,
     }
 }
 
 // The first service of a number, which `node` is; none where the root's record stands for it.
-fn first_by(node: Node) -> First
+fn first_by(node: Node) -> Option<Node>
     ensures { result ≡ first_by node node.entry }
 {
     let entry = node.entry;
     match entry {
-        Entry::Area { end: _ } => First::Missing,
-        Entry::Service {
-            start: _,
-            blocks: _,
-            limit: _,
-        } => First::There(node),
+        Entry::Area { .. } => None,
+        Entry::Service { .. } => Some(node),
     }
 }
 
 // The index of the first service of a number after `node` of that number at `i`: `f` where there was a first, else `i` for a service.
-fn first_after(first: First, f: u8, node: Node, i: usize) -> u8
+fn first_after(first: Option<Node>, f: u8, node: Node, i: usize) -> u8
     requires { i < 64 }
     ensures { result ≡ first_after first f node.entry i }
 {
-    let First::Missing = first else {
+    let None = first else {
         return f;
     };
     let entry = node.entry;
     match entry {
-        Entry::Area { end: _ } => f,
-        Entry::Service {
-            start: _,
-            blocks: _,
-            limit: _,
-        } => i as u8,
+        Entry::Area { .. } => f,
+        Entry::Service { .. } => i as u8,
     }
 }
 
 // The step over `node` under the node `above`, after the first service of its number. The arena is the longest, so that 22 is the card's own limit.
-fn step_under(node: Node, above: Node, first: First, used: usize) -> Step
+fn step_under(node: Node, above: Node, first: Option<Node>, used: usize) -> Option<usize>
     ensures { result ≡ step_under above first used node.code node.entry }
 {
     let entry = node.entry;
@@ -161,16 +115,11 @@ fn number_of(node: Node) -> usize
 }
 
 // Whether a count takes one record or more, of at most 64, and the first is the root's.
+#[tactic(auto, unfolding(crate::specs::Walk::starting))]
 fn starts(count: usize, root: Node) -> bool
     ensures { result ≡ starting count root }
 {
-    if count == 0 {
-        return false;
-    }
-    if 64 < count {
-        return false;
-    }
-    is_root(root)
+    0 < count && count <= 64 && is_root(root)
 }
 
 // Whether every record after the first `count` is as an unused one is.
@@ -179,8 +128,7 @@ fn all_unused(nodes: [Node; 64], count: usize) -> bool
     ensures { result ≡ all_roots (drop count nodes) }
 {
     for k in count..64 {
-        let unused = nodes[k];
-        if !is_root(unused) {
+        if !is_root(nodes[k]) {
             return false;
         }
     }
@@ -212,7 +160,7 @@ pub fn sound(nodes: [Node; 64], count: usize, used: usize) -> bool
         let number = number_of(node);
         let f = firsts[number];
         let first = first_by(nodes[f as usize]);
-        let Step::Goes(after) = step_under(node, above, first, now) else {
+        let Some(after) = step_under(node, above, first, now) else {
             return false;
         };
         now = after;

@@ -21,7 +21,7 @@ pub fn bitmap_positions(value: u8) -> Positions
     let mut places = [0u8; 15];
     put_places(&mut places, value);
     Positions {
-        places: places,
+        places,
         count: count_places(value),
     }
 }
@@ -54,7 +54,7 @@ fn put_places(places: &mut [u8], value: u8)
 }
 
 // Writes the places of the set bits of `bits` from index `at` on, `place` being the lowest bit's. Trailing zeros lead from a set bit to
-// the next, so a turn is one place.
+// the next, so a turn is one place: a range of turns would have to count the set bits first.
 fn places_from(places: &mut [u8], at: usize, bits: u8, place: u8)
     requires { (at + ones bits ≤ length places.old) × (place < 248) }
     ensures { places.new ≡ sets places.old at (places_from 8 place bits) }

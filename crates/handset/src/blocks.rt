@@ -6,19 +6,18 @@ ghost use Rattle.handset_words.specs.Outcome.{answer_as};
 ghost use Rattle.handset_words.specs.Block.{unfit_after, set_answer, set_after, block_place_after};
 
 use crate::outcome;
-use answers::refusal::{Answer, Refusal};
+use answers::refusal::Refusal;
 use byte_parts::spans;
 use handset_bytes::decoding;
-use request_block::Located;
 
 // The number that setting a block of another length than sixteen returns: 30, after the refusals in `answer` that the call
 // gives for a block of sixteen.
-fn unfit(answer: Answer) -> u32
+fn unfit(answer: Result<(), Refusal>) -> u32
     ensures { result ≡ answer_as (unfit_after answer) }
 {
     match answer {
-        Answer::Done => outcome::refused(Refusal::MalformedImage),
-        Answer::Refused(refusal) => outcome::refused(refusal),
+        Ok(()) => outcome::refused(Refusal::MalformedImage),
+        Err(refusal) => outcome::refused(refusal),
     }
 }
 
@@ -66,8 +65,8 @@ pub extern "C" fn uluvoli_stored_block(
 {
     let own = decoding::decode(card);
     match request_block::find_block(own, arena.len(), code, number) {
-        Located::Refused(refusal) => outcome::refused(refusal),
-        Located::At(at) => {
+        Err(refusal) => outcome::refused(refusal),
+        Ok(at) => {
             *offset = at;
             0
         }

@@ -9,7 +9,7 @@ ghost use Rattle.handset_words.specs.Outcome.{refused_as, answer_as};
 ghost use Rattle.handset_words.specs.Kept.{card_after};
 
 use crate::outcome;
-use answers::refusal::{Answer, Refusal};
+use answers::refusal::Refusal;
 use card_build::card::{Added, Card, System};
 use handset_bytes::{decoding, encoding, layout};
 
@@ -44,8 +44,8 @@ fn kept(added: Added, card: &mut [u8]) -> u32
 {
     let answer = added.answer;
     match answer {
-        Answer::Refused(refusal) => outcome::refused(refusal),
-        Answer::Done => {
+        Err(refusal) => outcome::refused(refusal),
+        Ok(()) => {
             encoding::encode(added.card, card);
             0
         }

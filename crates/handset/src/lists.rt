@@ -5,22 +5,22 @@ ghost use Rattle.handset_bytes.specs.Card.{card_decoded};
 ghost use Rattle.handset_words.specs.Checked.{checked_as, checked_after};
 
 use crate::outcome;
+use answers::refusal::Refusal;
 use card_questions::keys;
-use card_questions::keys::Checked;
 use handset_bytes::decoding;
 
 // Writes to `out` whether a list is well formed, unless the check was refused, and gives what the call returns.
-fn checked(answer: Checked, out: &mut bool) -> u32
+fn checked(answer: Result<bool, Refusal>, out: &mut bool) -> u32
     ensures value { result ≡ checked_as answer }
     ensures out_after { out.new ≡ checked_after out.old answer }
 {
     match answer {
-        Checked::Refused(refusal) => outcome::refused(refusal),
-        Checked::WellFormed => {
+        Err(refusal) => outcome::refused(refusal),
+        Ok(true) => {
             *out = true;
             0
         }
-        Checked::Malformed => {
+        Ok(false) => {
             *out = false;
             0
         }

@@ -6,18 +6,18 @@ ghost use Rattle.handset_bytes.specs.Card.{card_decoded};
 ghost use Rattle.handset_words.specs.Message.{put_as, put_after};
 
 use crate::outcome;
+use answers::refusal::Refusal;
 use card_lists::{information, packet};
 use handset_bytes::decoding;
-use node_messages::message::Put;
 
 // Writes to `out` how many bytes a message has, unless it was refused, and gives what the call returns.
-fn sized(answer: Put, out: &mut usize) -> u32
+fn sized(answer: Result<usize, Refusal>, out: &mut usize) -> u32
     ensures value { result ≡ put_as answer }
     ensures out_after { out.new ≡ put_after out.old answer }
 {
     match answer {
-        Put::Refused(refusal) => outcome::refused(refusal),
-        Put::Bytes(many) => {
+        Err(refusal) => outcome::refused(refusal),
+        Ok(many) => {
             *out = many;
             0
         }

@@ -2,7 +2,7 @@
 ghost use Rattle.std.specs.Prelude.{◌≡◌};
 ghost use Rattle.handset_words.specs.Outcome.{refusal_as, refused_as, answer_as};
 
-use answers::refusal::{Answer, Refusal};
+use answers::refusal::Refusal;
 
 // The number that a call returns for the refusal with this number.
 pub(crate) fn numbered(number: u8) -> u32
@@ -19,11 +19,11 @@ pub fn refused(refusal: Refusal) -> u32
 }
 
 // The number that a call returns which is done or refused.
-pub(crate) fn answered(answer: Answer) -> u32
+pub(crate) fn answered(answer: Result<(), Refusal>) -> u32
     ensures { result ≡ answer_as answer }
 {
     match answer {
-        Answer::Done => 0,
-        Answer::Refused(refusal) => refused(refusal),
+        Ok(()) => 0,
+        Err(refusal) => refused(refusal),
     }
 }

@@ -7,19 +7,18 @@ ghost use Rattle.handset_bytes.specs.Card.{card_decoded};
 ghost use Rattle.handset_words.specs.Told.{told_as, told_after, listed_as, listed_after};
 
 use crate::outcome;
-use answers::refusal::Told;
-use card_questions::listing::Listing;
+use answers::refusal::Refusal;
 use card_questions::{keys, listing, totals};
 use handset_bytes::decoding;
 
 // Writes to `out` how many nodes a directory lists, unless it was refused, and gives what the call returns.
-fn listed(answer: Listing, out: &mut usize) -> u32
+fn listed(answer: Result<usize, Refusal>, out: &mut usize) -> u32
     ensures value { result ≡ listed_as answer }
     ensures out_after { out.new ≡ listed_after out.old answer }
 {
     match answer {
-        Listing::Refused(refusal) => outcome::refused(refusal),
-        Listing::Listed(many) => {
+        Err(refusal) => outcome::refused(refusal),
+        Ok(many) => {
             *out = many;
             0
         }
@@ -38,13 +37,13 @@ pub extern "C" fn uluvoli_directory(card: &[u8], out: &mut [u16], nodes: &mut us
 }
 
 // Writes to `out` the number that a question is answered with, unless it was refused, and gives what the call returns.
-fn told(answer: Told, out: &mut u16) -> u32
+fn told(answer: Result<u16, Refusal>, out: &mut u16) -> u32
     ensures value { result ≡ told_as answer }
     ensures out_after { out.new ≡ told_after out.old answer }
 {
     match answer {
-        Told::Refused(refusal) => outcome::refused(refusal),
-        Told::Number(n) => {
+        Err(refusal) => outcome::refused(refusal),
+        Ok(n) => {
             *out = n;
             0
         }

@@ -7,7 +7,7 @@ ghost use Rattle.handset_words.specs.Outcome.{answer_as};
 ghost use Rattle.handset_words.specs.Message.{told_by, numbers_told, roomed, list_read, information_read};
 
 use crate::outcome;
-use answers::refusal::{Answer, Refusal};
+use answers::refusal::Refusal;
 use node_messages::{code_list, information};
 
 // Whether two lists find room in the parts that are there for them.
@@ -21,17 +21,23 @@ fn both_fit(first: usize, room: usize, second: usize, rest: usize) -> bool
 }
 
 // A reader's answer: its own refusal, or 5 where one of its two lists finds no room.
-fn judged(answer: Answer, first: usize, room: usize, second: usize, rest: usize) -> Answer
+fn judged(
+    answer: Result<(), Refusal>,
+    first: usize,
+    room: usize,
+    second: usize,
+    rest: usize,
+) -> Result<(), Refusal>
     ensures { result ≡ roomed answer first room second rest }
 {
     let both = both_fit(first, room, second, rest);
     match answer {
-        Answer::Refused(refusal) => Answer::Refused(refusal),
-        Answer::Done => {
+        Err(refusal) => Err(refusal),
+        Ok(()) => {
             if both {
-                return Answer::Done;
+                return Ok(());
             }
-            Answer::Refused(Refusal::ShortOutput)
+            Err(Refusal::ShortOutput)
         }
     }
 }
@@ -41,11 +47,7 @@ fn fill(numbers: &[u16], n: usize, to: &mut [u16])
     requires { (n ≤ length numbers.now) × (n ≤ length to.old) }
     ensures { to.new ≡ put to.old 0 n numbers.now }
 {
-    let mut i = 0;
-    while i < n {
-        to[i] = numbers[i];
-        i += 1;
-    }
+    to[0..n].copy_from_slice(&numbers[0..n]);
 }
 
 // Reads a code list. Code and end of each area go to the front of `areas`, the codes of the services to the front of `services`;
@@ -77,8 +79,8 @@ pub extern "C" fn uluvoli_read_code_list(
         services.len(),
     );
     match answer {
-        Answer::Refused(refusal) => outcome::refused(refusal),
-        Answer::Done => {
+        Err(refusal) => outcome::refused(refusal),
+        Ok(()) => {
             let ranges = list.ranges;
             fill(&ranges[0..32], 2 * list.areas, areas);
             let codes = list.codes;
@@ -110,8 +112,8 @@ pub extern "C" fn uluvoli_read_block_information(
     let said = read.answer;
     let answer = judged(said, told.count, assigned.len(), told.count, free.len());
     match answer {
-        Answer::Refused(refusal) => outcome::refused(refusal),
-        Answer::Done => {
+        Err(refusal) => outcome::refused(refusal),
+        Ok(()) => {
             let counts = told.assigned;
             fill(&counts[0..32], told.count, assigned);
             let unused = told.free;

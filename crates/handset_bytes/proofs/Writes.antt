@@ -1,4 +1,5 @@
 -- The stores that write a record, put together.
+use Rattle.std.proofs.Common.{Option}
 use mathlib.Core.Path.{◌≡◌}
 use mathlib.Core.List.{List}
 use Prim.Native.Nat.{ℕ}
@@ -9,7 +10,6 @@ use Rattle.byte_parts.specs.Part.{put}
 use Rattle.byte_parts.specs.Word.{word_bytes, word_of}
 use Rattle.byte_parts.specs.Half.{half_bytes}
 use Rattle.service_code.specs.declared.limit.Limit.{Limit}
-use Rattle.service_code.specs.declared.limit.Limit.TheVariants.{Limited}
 use Rattle.card_nodes.specs.declared.node.Entry.{Entry}
 use Rattle.card_nodes.specs.declared.node.Entry.TheVariants.{Area, Service}
 use Rattle.card_nodes.specs.declared.node.Node.{Node}
@@ -18,12 +18,13 @@ use Rattle.handset_bytes.specs.Layout.{count_place, used_place, system_place, ke
 use Rattle.handset_bytes.specs.Field.{fields_put}
 use Rattle.handset_bytes.specs.Node.{kind_byte, limit_fields, entry_fields, node_fields}
 use Rattle.handset_bytes.specs.Card.{head_fields}
+use Rattle.service_code.specs.Limit.{limited_to}
 
 module _ (i : ℕ) where
   -- a limit
-  pub limit-put : (s t v : List ℕ) (upper lower : ℤ) (generation a b : ℕ) {l : Limit} → a ≡ word_of upper → b ≡ word_of lower →
+  pub limit-put : (s t v : List ℕ) (upper lower : ℤ) (generation a b : ℕ) {l : Option Limit} → a ≡ word_of upper → b ≡ word_of lower →
       t ≡ put (set s (generation_place i) generation) (upper_place i) 4 (word_bytes a) → v ≡ put t (lower_place i) 4 (word_bytes b) →
-      l ≡ Limited upper lower generation → v ≡ fields_put (limit_fields i l) s
+      l ≡ limited_to upper lower generation → v ≡ fields_put (limit_fields i l) s
   unfolding put word_bytes fields_put
   limit-put s t v upper lower generation a b x y p q e = rw (e, q, p, x, y)
 
@@ -33,7 +34,7 @@ module _ (i : ℕ) where
   area-put s t end p e = rw (e, p)
 
   -- a service
-  pub service-put : (s t u v : List ℕ) (start blocks : ℕ) (l : Limit) {e : Entry} → t ≡ put s (start_place i) 2 (half_bytes start) →
+  pub service-put : (s t u v : List ℕ) (start blocks : ℕ) (l : Option Limit) {e : Entry} → t ≡ put s (start_place i) 2 (half_bytes start) →
       u ≡ put t (blocks_place i) 2 (half_bytes blocks) → v ≡ fields_put (limit_fields i l) u → e ≡ Service start blocks l → v ≡ fields_put (entry_fields i e) s
   unfolding half_bytes fields_put
   service-put s t u v start blocks l p q r e = rw (e, r, q, p)

@@ -1,8 +1,7 @@
 -- The cards that bytes hold: their numbers fit the fields, and records past the count are unused.
-use Rattle.std.specs.Prelude.{ℕ, ◌-◌, ◌≤◌, ◌<◌, ◌^◌, ◌≡◌, length, get_or, drop, replicate}
+use Rattle.std.specs.Prelude.{ℕ, ◌-◌, ◌≤◌, ◌<◌, ◌^◌, ◌≡◌, length, get_or, drop, replicate, Option, Some, None}
 use Rattle.std.specs.Int.Signed.{mag}
 use Rattle.service_code.specs.declared.limit.Limit.{Limit}
-use Rattle.service_code.specs.declared.limit.Limit.TheVariants.{Unlimited, Limited}
 use Rattle.card_nodes.specs.declared.node.Entry.{Entry}
 use Rattle.card_nodes.specs.declared.node.Entry.TheVariants.{Area, Service}
 use Rattle.card_nodes.specs.declared.node.Node.{Node}
@@ -10,9 +9,9 @@ use Rattle.card_nodes.specs.Node.{root_node}
 use Rattle.card_build.specs.declared.card.System.{System}
 use Rattle.card_build.specs.declared.card.Card.{Card}
 
-abbrev pub LimitFits : Limit → Type 0
-LimitFits Unlimited = Unit
-LimitFits (Limited upper lower generation) = (mag upper < 2 ^ 31) × (mag lower < 2 ^ 31) × (generation < 2 ^ 8)
+abbrev pub LimitFits : Option Limit → Type 0
+LimitFits None = Unit
+LimitFits (Some limit) = (mag limit.upper < 2 ^ 31) × (mag limit.lower < 2 ^ 31) × (limit.generation < 2 ^ 8)
 
 abbrev pub EntryFits : Entry → Type 0
 EntryFits (Area end) = end < 2 ^ 16

@@ -27,19 +27,14 @@ fn none() -> Card
 }
 
 // Whether there are as many bytes as a card takes, of this layout, with 0 or 1 where they say whether it joins, and at most 64 records.
+#[tactic(auto, unfolding(crate::specs::Card::is_headed))]
 fn is_headed(bytes: &[u8]) -> bool
     ensures { result ≡ is_headed bytes.now }
 {
-    if bytes.len() != layout::SIZE {
-        return false;
-    }
-    if half::half(bytes, layout::LAYOUT) != layout::NUMBER {
-        return false;
-    }
-    if 1 < half::half(bytes, layout::FLAGS) {
-        return false;
-    }
-    half::half(bytes, layout::COUNT) <= 64
+    bytes.len() == layout::SIZE
+        && half::half(bytes, layout::LAYOUT) == layout::NUMBER
+        && half::half(bytes, layout::FLAGS) <= 1
+        && half::half(bytes, layout::COUNT) <= 64
 }
 
 // The system that the header names.
@@ -65,13 +60,11 @@ pub fn decode(bytes: &[u8]) -> Card
     let count = half::half(bytes, layout::COUNT) as usize;
     let root = Node::root();
     let mut nodes = [root; 64];
-    let mut i = 0;
-    while i < count {
+    for i in 0..count {
         if !node::is_record(bytes, i) {
             return none();
         }
         nodes[i] = node::read(bytes, i);
-        i += 1;
     }
     Card {
         nodes,

@@ -14,7 +14,7 @@ use card_nodes::count;
 fn flag(yes: bool) -> usize
     ensures { result ≡ flag_of yes }
 {
-    if yes { 1 } else { 0 }
+    usize::from(yes)
 }
 
 // Makes all bytes 0.
@@ -47,9 +47,7 @@ pub fn encode(card: Card, bytes: &mut [u8])
     clear(bytes);
     write_head(card, bytes);
     let taken = count::taken(card.count);
-    let mut i = 0;
-    while i < taken {
+    for i in 0..taken {
         node::write(card.nodes[i], bytes, i);
-        i += 1;
     }
 }

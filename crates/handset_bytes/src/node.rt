@@ -11,6 +11,7 @@ use card_nodes::node::{Entry, Node};
 use service_code::limit::Limit;
 
 // Whether record i of `bytes` is of a kind that there is.
+#[tactic(auto, unfolding(crate::specs::Node::is_record))]
 pub(crate) fn is_record(bytes: &[u8], i: usize) -> bool
     requires { (length bytes.now ≡ card_size) × (i < 64) }
     ensures { result ≡ is_record bytes.now i }
@@ -19,18 +20,18 @@ pub(crate) fn is_record(bytes: &[u8], i: usize) -> bool
 }
 
 // Reads the limit of a service, record i.
-fn read_limit(bytes: &[u8], i: usize) -> Limit
+fn read_limit(bytes: &[u8], i: usize) -> Option<Limit>
     requires { (length bytes.now ≡ card_size) × (i < 64) }
     ensures { result ≡ limit_in bytes.now i }
 {
     if bytes[layout::KIND + layout::HALF * i] != 2 {
-        return Limit::Unlimited;
+        return None;
     }
-    Limit::Limited {
+    Some(Limit {
         upper: word::signed32(word::word(bytes, layout::UPPER + layout::WORD * i)),
         lower: word::signed32(word::word(bytes, layout::LOWER + layout::WORD * i)),
         generation: bytes[layout::GENERATION + i],
-    }
+    })
 }
 
 // Reads the entry of record i: what only an area has, or only a service.
@@ -68,19 +69,9 @@ fn kind(entry: Entry) -> u8
     ensures { result ≡ kind_byte entry }
 {
     match entry {
-        Entry::Area { end: _ } => 0,
-        Entry::Service {
-            start: _,
-            blocks: _,
-            limit,
-        } => match limit {
-            Limit::Unlimited => 1,
-            Limit::Limited {
-                upper: _,
-                lower: _,
-                generation: _,
-            } => 2,
-        },
+        Entry::Area { .. } => 0,
+        Entry::Service { limit: None, .. } => 1,
+        Entry::Service { limit: Some(_), .. } => 2,
     }
 }
 
@@ -92,21 +83,14 @@ fn bits(bound: i32) -> u32
 }
 
 // Writes the fields of `limit` to record i.
-fn write_limit(limit: Limit, bytes: &mut [u8], i: usize)
+fn write_limit(limit: Option<Limit>, bytes: &mut [u8], i: usize)
     requires { (length bytes.old ≡ card_size) × (i < 64) }
     ensures { bytes.new ≡ fields_put (limit_fields i limit) bytes.old }
 {
-    match limit {
-        Limit::Unlimited => {}
-        Limit::Limited {
-            upper,
-            lower,
-            generation,
-        } => {
-            bytes[layout::GENERATION + i] = generation;
-            word::put_word(bytes, layout::UPPER + layout::WORD * i, bits(upper));
-            word::put_word(bytes, layout::LOWER + layout::WORD * i, bits(lower));
-        }
+    if let Some(limit) = limit {
+        bytes[layout::GENERATION + i] = limit.generation;
+        word::put_word(bytes, layout::UPPER + layout::WORD * i, bits(limit.upper));
+        word::put_word(bytes, layout::LOWER + layout::WORD * i, bits(limit.lower));
     }
 }
 

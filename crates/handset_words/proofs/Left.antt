@@ -1,5 +1,6 @@
 -- A refusal leaves all that a call was lent as it was: the card's bytes, the arena, output and staging, and what the call answers
 -- through its last reference, whatever stood there.
+use Rattle.std.proofs.Common.{Result, Ok, Err}
 use mathlib.Core.Path.{◌≡◌, refl, ap}
 use mathlib.Core.Bool.{Bool, true, false, not, cond}
 use mathlib.Core.List.{List, []}
@@ -10,28 +11,17 @@ use lib.ListN.{length, take, replicate}
 use lib.Seq.{sets}
 use Rattle.answers.specs.declared.refusal.Refusal.{Refusal}
 use Rattle.answers.specs.declared.refusal.Refusal.TheVariants.{TableFull, ShortArena, NotBuilt, ShortOutput}
-use Rattle.answers.specs.declared.refusal.Answer.{Answer}
-use Rattle.answers.specs.declared.refusal.Answer.TheVariants.{Done as Accepted, Refused}
-use Rattle.answers.specs.declared.refusal.Told.{Told}
-use Rattle.answers.specs.declared.refusal.Told.TheVariants.{Number, Refused as NotTold}
 use Rattle.byte_parts.specs.Part.{put}
 use Rattle.byte_parts.proofs.Part.{put_zero}
 use Rattle.block_list.specs.declared.element.BlockListElement.{BlockListElement}
 use Rattle.card_admit.specs.declared.Placed.{Placed}
-use Rattle.card_admit.specs.declared.Placed.TheVariants.{Store, Refused as NotPlaced}
 use Rattle.card_admit.specs.Admit.{placed_of, agreed}
 use Rattle.card_build.specs.declared.card.Card.{Card}
 use Rattle.card_build.specs.declared.card.Added.{Added}
 use Rattle.card_build.specs.Card.{nodes_of, is_sound, refused}
 use Rattle.card_build.specs.Grow.{add_service, service_by}
 use Rattle.card_build.specs.Build.{service_added, arena_added}
-use Rattle.card_questions.specs.declared.listing.Listing.{Listing}
-use Rattle.card_questions.specs.declared.listing.Listing.TheVariants.{Listed, Refused as NotListed}
-use Rattle.card_questions.specs.declared.keys.Checked.{Checked}
-use Rattle.card_questions.specs.declared.keys.Checked.TheVariants.{WellFormed, Malformed, Refused as NotChecked}
 use Rattle.card_questions.specs.Directory.{directory_of, listed_of, listing_of, out_after, directory_answer, directory_out}
-use Rattle.node_messages.specs.declared.message.Put.{Put}
-use Rattle.node_messages.specs.declared.message.Put.TheVariants.{Bytes, Refused as NotPut}
 use Rattle.node_messages.specs.Message.{message_put, message_after}
 use Rattle.node_messages.specs.CodeList.{code_list_bytes}
 use Rattle.node_messages.specs.Information.{information_bytes}
@@ -58,28 +48,28 @@ use Rattle.handset_words.specs.Board.{refreshed_as, board_room, board_made, reco
 use Rattle.handset_words.specs.Block.{unfit_after, set_answer, set_after, place_by, block_place_after}
 
 -- the number of a question
-pub told-left : (old : ℕ) (a : Told) → (told_as a ≡ 0 → ⊥) → told_after old a ≡ old
-told-left old (Number n) h = absurd (h refl)
-told-left old (NotTold r) h = refl
+pub told-left : (old : ℕ) (a : Result ℕ Refusal) → (told_as a ≡ 0 → ⊥) → told_after old a ≡ old
+told-left old (Ok n) h = absurd (h refl)
+told-left old (Err r) h = refl
 
 -- how many nodes a directory lists
-pub listed-left : (old : ℕ) (a : Listing) → (listed_as a ≡ 0 → ⊥) → listed_after old a ≡ old
-listed-left old (Listed n) h = absurd (h refl)
-listed-left old (NotListed r) h = refl
+pub listed-left : (old : ℕ) (a : Result ℕ Refusal) → (listed_as a ≡ 0 → ⊥) → listed_after old a ≡ old
+listed-left old (Ok n) h = absurd (h refl)
+listed-left old (Err r) h = refl
 
 -- whether a list is well formed
-pub checked_left : (old : Bool) (a : Checked) → (checked_as a ≡ 0 → ⊥) → checked_after old a ≡ old
-checked_left old WellFormed h = absurd (h refl)
-checked_left old Malformed h = absurd (h refl)
-checked_left old (NotChecked r) h = refl
+pub checked_left : (old : Bool) (a : Result Bool Refusal) → (checked_as a ≡ 0 → ⊥) → checked_after old a ≡ old
+checked_left old (Ok true) h = absurd (h refl)
+checked_left old (Ok false) h = absurd (h refl)
+checked_left old (Err r) h = refl
 
 -- the card's bytes
 pub card-left : (s : List ℕ) (a : Added) → (answer_as a.answer ≡ 0 → ⊥) → card_after s a ≡ s
 card-left s a h = by a.answer h
   where
-    by : (x : Answer) → (answer_as x ≡ 0 → ⊥) → card_by s a x ≡ s
-    by Accepted h = absurd (h refl)
-    by (Refused r) h = refl
+    by : (x : Result Unit Refusal) → (answer_as x ≡ 0 → ⊥) → card_by s a x ≡ s
+    by (Ok tt) h = absurd (h refl)
+    by (Err r) h = refl
 
 -- where a block lies
 pub place-left : (old : ℕ) (c : Card) (arena_len code number : ℕ) →
@@ -87,9 +77,9 @@ pub place-left : (old : ℕ) (c : Card) (arena_len code number : ℕ) →
 unfolding block_place_after
 place-left old c arena_len code number h = by (block_judged c arena_len code number) h
   where
-    by : (x : Answer) → (answer_as x ≡ 0 → ⊥) → place_by old (block_place (row_of (nodes_of c) code) number) x ≡ old
-    by Accepted h = absurd (h refl)
-    by (Refused r) h = refl
+    by : (x : Result Unit Refusal) → (answer_as x ≡ 0 → ⊥) → place_by old (block_place (row_of (nodes_of c) code) number) x ≡ old
+    by (Ok tt) h = absurd (h refl)
+    by (Err r) h = refl
 
 -- the arena, of a block that is not set
 pub set-left : (c : Card) (arena : List ℕ) (code number : ℕ) (block : List ℕ) →
@@ -97,11 +87,11 @@ pub set-left : (c : Card) (arena : List ℕ) (code number : ℕ) (block : List �
 unfolding set_answer set_after arena_set
 set-left c arena code number block h = by (eqb (length block) 16) (block_judged c (length arena) code number) h
   where
-    by : (t : Bool) (x : Answer) → (answer_as (cond t x (unfit_after x)) ≡ 0 → ⊥) →
+    by : (t : Bool) (x : Result Unit Refusal) → (answer_as (cond t x (unfit_after x)) ≡ 0 → ⊥) →
         cond t (set_by c arena code number block x) arena ≡ arena
     by false x h = refl
-    by true Accepted h = absurd (h refl)
-    by true (Refused r) h = refl
+    by true (Ok tt) h = absurd (h refl)
+    by true (Err r) h = refl
 
 -- the records of a board
 pub board-left : (c : Card) (arena : List ℕ) (code : ℕ) (old : List ℕ) → (refreshed_as (board_made c arena code old) ≡ 0 → ⊥) →
@@ -115,17 +105,17 @@ board-left c arena code old h = by (board_made c arena code old) h
     by (ByCard reply) h = refl
 
 -- how many bytes a message has
-pub put-left : (old : ℕ) (a : Put) → (put_as a ≡ 0 → ⊥) → put_after old a ≡ old
-put-left old (Bytes n) h = absurd (h refl)
-put-left old (NotPut r) h = refl
+pub put-left : (old : ℕ) (a : Result ℕ Refusal) → (put_as a ≡ 0 → ⊥) → put_after old a ≡ old
+put-left old (Ok n) h = absurd (h refl)
+put-left old (Err r) h = refl
 
 -- the output of a message
-answered-left : (a : Answer) (message out : List ℕ) → (put_as (put_answered a message (length out)) ≡ 0 → ⊥) → out_answered a message out ≡ out
+answered-left : (a : Result Unit Refusal) (message out : List ℕ) → (put_as (put_answered a message (length out)) ≡ 0 → ⊥) → out_answered a message out ≡ out
 unfolding message_put message_after
-answered-left (Refused r) message out h = refl
-answered-left Accepted message out h = by (ltb (length out) (length message)) h
+answered-left (Err r) message out h = refl
+answered-left (Ok tt) message out h = by (ltb (length out) (length message)) h
   where
-    by : (t : Bool) → (put_as (cond t (NotPut ShortOutput) (Bytes (length message))) ≡ 0 → ⊥) → cond t out (put out 0 (length message) message) ≡ out
+    by : (t : Bool) → (put_as (cond t (Err ShortOutput) (Ok (length message))) ≡ 0 → ⊥) → cond t out (put out 0 (length message) message) ≡ out
     by true h = refl
     by false h = absurd (h refl)
 
@@ -138,20 +128,20 @@ unfolding blocks_put blocks_out
 information_left c arena_len asked out h = answered-left (blocks_told c arena_len asked).answer (information_bytes (blocks_told c arena_len asked).told) out h
 
 -- what a reader tells, beside its lists and in them
-pub read_left : {A : Type 0} (a : Answer) (old new : A) → (answer_as a ≡ 0 → ⊥) → told_by a old new ≡ old
-read_left Accepted old new h = absurd (h refl)
-read_left (Refused r) old new h = refl
+pub read_left : {A : Type 0} (a : Result Unit Refusal) (old new : A) → (answer_as a ≡ 0 → ⊥) → told_by a old new ≡ old
+read_left (Ok tt) old new h = absurd (h refl)
+read_left (Err r) old new h = refl
 
-pub numbers_left_lem : (a : Answer) (old : List ℕ) (n : ℕ) (new : List ℕ) → (answer_as a ≡ 0 → ⊥) → numbers_told a old n new ≡ old
-numbers_left_lem Accepted old n new h = absurd (h refl)
-numbers_left_lem (Refused r) old n new h = put_zero old 0 new
+pub numbers_left_lem : (a : Result Unit Refusal) (old : List ℕ) (n : ℕ) (new : List ℕ) → (answer_as a ≡ 0 → ⊥) → numbers_told a old n new ≡ old
+numbers_left_lem (Ok tt) old n new h = absurd (h refl)
+numbers_left_lem (Err r) old n new h = put_zero old 0 new
 
 -- the output of a directory
 pub directory-left : (c : Card) (out : List ℕ) → (listed_as (directory_answer c (length out)) ≡ 0 → ⊥) → directory_out c out ≡ out
 unfolding directory_answer directory_out listing_of out_after
 directory-left c out h = by (not (is_sound c)) (ltb (length out) (2 * length (nodes_of c))) h
   where
-    by : (s t : Bool) → (listed_as (cond s (NotListed NotBuilt) (cond t (NotListed ShortOutput) (Listed (listed_of (nodes_of c))))) ≡ 0 → ⊥) →
+    by : (s t : Bool) → (listed_as (cond s (Err NotBuilt) (cond t (Err ShortOutput) (Ok (listed_of (nodes_of c))))) ≡ 0 → ⊥) →
         cond s out (cond t out (sets out 0 (directory_of (nodes_of c)))) ≡ out
     by true t h = refl
     by false true h = refl
@@ -168,13 +158,13 @@ store-left c arena depth code blocks version h =
     kept : (a : Added) → a.card ≡ c → put arena (16 * c.used) (16 * (a.card.used - c.used)) (replicate (16 * (a.card.used - c.used)) 0) ≡ arena
     kept a e = let z : 16 * (a.card.used - c.used) ≡ 0 = rw e (omega arith) in rw z (put_zero arena (16 * c.used) [])
 
-    by : (s t f : Bool) (p : Placed) → let x = cond t (refused c ShortArena) (cond f (refused c TableFull) (service_by c depth code version p)) in
+    by : (s t f : Bool) (p : Result Placed Refusal) → let x = cond t (refused c ShortArena) (cond f (refused c TableFull) (service_by c depth code version p)) in
         (answer_as (cond s (refused c NotBuilt) x).answer ≡ 0 → ⊥) → arena_added c (cond s (refused c NotBuilt) x) arena ≡ arena
     by true t f p h = kept (refused c NotBuilt) refl
     by false true f p h = kept (refused c ShortArena) refl
     by false false true p h = kept (refused c TableFull) refl
-    by false false false (NotPlaced r) h = kept (refused c r) refl
-    by false false false (Store s b u) h = absurd (h refl)
+    by false false false (Err r) h = kept (refused c r) refl
+    by false false false (Ok placed) h = absurd (h refl)
 
 -- how many status pairs a reply has
 abbrev pairs : Reply → ℕ

@@ -1,4 +1,5 @@
 -- What a reader of messages tells, whatever the bytes: its counts are small, and its lists find room.
+use Rattle.std.proofs.Common.{Result, Ok, Err}
 use Prim.Native.Nat.{ℕ, ◌+◌, ◌*◌, ◌≤◌}
 use native.Mathlib.Omega.{arith}
 use mathlib.Core.Path.{◌≡◌, refl, sym, ◌∙◌, ap}
@@ -8,8 +9,6 @@ use lib.Dec.{leb}
 use lib.ListN.{length, take}
 use lib.Seq.{take-take}
 use borrow.Author.Tests.{leb-true}
-use Rattle.answers.specs.declared.refusal.Answer.{Answer}
-use Rattle.answers.specs.declared.refusal.Answer.TheVariants.{Done, Refused}
 use Rattle.answers.specs.declared.refusal.Refusal.{Refusal}
 use Rattle.answers.specs.declared.refusal.Refusal.TheVariants.{NotAMessage}
 use Rattle.node_messages.specs.CodeList.{is_code_list, code_list_in, list_told, list_refused, read_code_list}
@@ -54,17 +53,17 @@ counts-long s = by (is_information s)
     by false = (refl, refl)
 
 -- both lists find room
-both-roomed : (a : Answer) (n room m rest : ℕ) → (told_by (roomed a n room m rest) 0 n ≤ room) × (told_by (roomed a n room m rest) 0 m ≤ rest)
+both-roomed : (a : Result Unit Refusal) (n room m rest : ℕ) → (told_by (roomed a n room m rest) 0 n ≤ room) × (told_by (roomed a n room m rest) 0 m ≤ rest)
 unfolding roomed
-both-roomed (Refused r) n room m rest = (omega arith, omega arith)
-both-roomed Done n room m rest = by (leb n room) (leb m rest) refl refl
+both-roomed (Err r) n room m rest = (omega arith, omega arith)
+both-roomed (Ok tt) n room m rest = by (leb n room) (leb m rest) refl refl
   where
-    by : (t u : Bool) → leb n room ≡ t → leb m rest ≡ u → (told_by (roomed_by Done (t && u)) 0 n ≤ room) × (told_by (roomed_by Done (t && u)) 0 m ≤ rest)
+    by : (t u : Bool) → leb n room ≡ t → leb m rest ≡ u → (told_by (roomed_by (Ok tt) (t && u)) 0 n ≤ room) × (told_by (roomed_by (Ok tt) (t && u)) 0 m ≤ rest)
     by true true e f = (leb-true n room e, leb-true m rest f)
     by true false e f = (omega arith, omega arith)
     by false u e f = (omega arith, omega arith)
 
-pub both_find_room : (a : Answer) (n room m rest : ℕ) {b : Answer} → b ≡ roomed a n room m rest → (told_by b 0 n ≤ room) × (told_by b 0 m ≤ rest)
+pub both_find_room : (a : Result Unit Refusal) (n room m rest : ℕ) {b : Result Unit Refusal} → b ≡ roomed a n room m rest → (told_by b 0 n ≤ room) × (told_by b 0 m ≤ rest)
 both_find_room a n room m rest e = rw e (both-roomed a n room m rest)
 
 -- no more of a list is written than there is of it
@@ -73,18 +72,18 @@ unfolding put
 put-within d n m t h = rw (take-take n m t h)
 
 -- what a reader makes of its message x, told by the definitions of y, which is the same
-module _ {Y : Type 0} {x y : Y} (e : x ≡ y) (ask : Y → Answer) {a : Answer} (j : a ≡ ask x) where
-  pub as_told : {B : Type 0} (f : Y → Answer → B) → f x a ≡ f y (ask y)
+module _ {Y : Type 0} {x y : Y} (e : x ≡ y) (ask : Y → Result Unit Refusal) {a : Result Unit Refusal} (j : a ≡ ask x) where
+  pub as_told : {B : Type 0} (f : Y → Result Unit Refusal → B) → f x a ≡ f y (ask y)
   as_told f = ap (f x) j ∙ ap (λ (z : Y). f z (ask z)) e
 
 -- a reader that is done has written the numbers of its list
-pub list-told : {Y : Type 0} {x y : Y} (e : x ≡ y) (ask : Y → Answer) (j : Done ≡ ask x) (old : List ℕ) (m : ℕ) (count : Y → ℕ) (list : Y → List ℕ) {after : List ℕ} →
+pub list-told : {Y : Type 0} {x y : Y} (e : x ≡ y) (ask : Y → Result Unit Refusal) (j : (Ok tt) ≡ ask x) (old : List ℕ) (m : ℕ) (count : Y → ℕ) (list : Y → List ℕ) {after : List ℕ} →
     count x ≤ m → after ≡ put old 0 (count x) (take m (list x)) → after ≡ numbers_told (ask y) old (count y) (list y)
 list-told {Y = Y} {x = x} e ask j old m count list h q =
-    q ∙ put-within old (count x) m (list x) h ∙ as_told e ask j (λ (z : Y) (b : Answer). numbers_told b old (count z) (list z))
+    q ∙ put-within old (count x) m (list x) h ∙ as_told e ask j (λ (z : Y) (b : Result Unit Refusal). numbers_told b old (count z) (list z))
 
 -- one that refuses has left them
-pub list-kept : {Y : Type 0} {x y : Y} (e : x ≡ y) (ask : Y → Answer) {r : Refusal} (j : Refused r ≡ ask x) (old : List ℕ) (count : Y → ℕ) (list : Y → List ℕ) →
+pub list-kept : {Y : Type 0} {x y : Y} (e : x ≡ y) (ask : Y → Result Unit Refusal) {r : Refusal} (j : Err r ≡ ask x) (old : List ℕ) (count : Y → ℕ) (list : Y → List ℕ) →
     old ≡ numbers_told (ask y) old (count y) (list y)
 list-kept {Y = Y} {x = x} e ask j old count list =
-    sym (put_zero old 0 (list x)) ∙ as_told e ask j (λ (z : Y) (b : Answer). numbers_told b old (count z) (list z))
+    sym (put_zero old 0 (list x)) ∙ as_told e ask j (λ (z : Y) (b : Result Unit Refusal). numbers_told b old (count z) (list z))

@@ -1,4 +1,6 @@
 -- What stands at the front of a buffer that was lent. Assumes nothing.
+use Rattle.std.specs.Prelude.{Err, Ok}
+use Rattle.std.proofs.Common.{Result}
 use Prim.Native.Nat.{ℕ, ◌-◌, ◌≤◌, min}
 use native.Mathlib.Omega.{arith}
 use native.Mathlib.Decide.{dec_lt}
@@ -7,11 +9,8 @@ use mathlib.Core.List.{List}
 use lib.ListN.{length, take, drop, replicate, length-take, length-replicate}
 use lib.Seq.{take-length, take_all}
 use borrow.Author.Tests.{lt-ltb, le-ltb}
-use Rattle.answers.specs.declared.refusal.Answer.{Answer}
-use Rattle.answers.specs.declared.refusal.Answer.TheVariants as answers
 use Rattle.byte_parts.specs.Part.{part}
 use Rattle.text_numbers.specs.Hex.{hex_text}
-use Rattle.node_messages.specs.declared.message.Put.{Put}
 use Rattle.node_messages.specs.Message.{message_put, message_after}
 use Rattle.node_messages.proofs.Beyond.{stands}
 use Rattle.card_build.specs.declared.card.Card.{Card}
@@ -21,9 +20,10 @@ use Rattle.request_block.specs.Block.{block_place, block_judged, block_by, store
 use Rattle.card_lists.specs.Packet.{put_answered, out_answered}
 use Rattle.text_print.specs.Print.{closed}
 use Rattle.inspect_answer.specs.Fields.{put_fields, size_of}
+use Rattle.answers.specs.declared.refusal.Refusal.{Refusal}
 
 -- What a writer says has room in its output, and what it wrote there is printed as these fields.
-abbrev pub Tells : Put → List ℕ → ℕ → List ℕ → Type 0
+abbrev pub Tells : Result ℕ Refusal → List ℕ → ℕ → List ℕ → Type 0
 Tells put after room fields = (size_of put ≤ room) × (put_fields (take (size_of put) after) put ≡ fields)
 
 put-shown : (message out : List ℕ) → let put = message_put message (length out) in Tells put (message_after message out) (length out) (put_fields message put)
@@ -37,13 +37,13 @@ put-shown message out =
     ]
 
 answer-shown
-    : (x : Answer) (message out : List ℕ) → let put = put_answered x message (length out) in
+    : (x : Result Unit Refusal) (message out : List ℕ) → let put = put_answered x message (length out) in
     Tells put (out_answered x message out) (length out) (put_fields message put)
-answer-shown answers.Done message out = put-shown message out
-answer-shown (answers.Refused r) message out = (omega arith, refl)
+answer-shown (Ok tt) message out = put-shown message out
+answer-shown (Err r) message out = (omega arith, refl)
 
 pub shown
-    : (x : Answer) (message out : List ℕ) {put : Put} {after : List ℕ} → put ≡ put_answered x message (length out) → after ≡ out_answered x message out
+    : (x : Result Unit Refusal) (message out : List ℕ) {put : Result ℕ Refusal} {after : List ℕ} → put ≡ put_answered x message (length out) → after ≡ out_answered x message out
     → Tells put after (length out) (put_fields message (put_answered x message (length out)))
 shown x message out p q = rw (p, q) (answer-shown x message out)
 
@@ -59,10 +59,10 @@ first_lent n arena =
     ]
 
 -- A stored block has sixteen bytes at most.
-block-long : (c : Card) (a : List ℕ) (code number : ℕ) (x : Answer) → length (block_by c a code number x) ≤ 16
+block-long : (c : Card) (a : List ℕ) (code number : ℕ) (x : Result Unit Refusal) → length (block_by c a code number x) ≤ 16
 unfolding part
-block-long c a code number answers.Done = omega (arith, length-take 16 (drop (block_place (row_of (nodes_of c) code) number) a))
-block-long c a code number (answers.Refused r) = omega arith
+block-long c a code number (Ok tt) = omega (arith, length-take 16 (drop (block_place (row_of (nodes_of c) code) number) a))
+block-long c a code number (Err r) = omega arith
 
 pub stored-long : (c : Card) (a : List ℕ) (code number : ℕ) → length (stored_block c a code number) ≤ 16
 unfolding stored_block

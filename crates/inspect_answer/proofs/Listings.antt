@@ -1,4 +1,5 @@
 -- The pairs of a directory stand at the front of its output. Assumes nothing.
+use Rattle.std.proofs.Common.{Result, Ok, Err}
 use Prim.Native.Nat.{ℕ, suc, ◌+◌, ◌-◌, ◌*◌, ◌≤◌}
 use native.Mathlib.Omega.{arith}
 use mathlib.Core.Path.{◌≡◌, refl, sym, ap}
@@ -13,12 +14,11 @@ use Rattle.byte_parts.specs.Part.{put}
 use Rattle.card_nodes.specs.declared.node.Node.{Node}
 use Rattle.card_build.specs.declared.card.Card.{Card}
 use Rattle.card_build.specs.Card.{nodes_of, is_sound}
-use Rattle.card_questions.specs.declared.listing.Listing.{Listing}
-use Rattle.card_questions.specs.declared.listing.Listing.TheVariants.{Listed, Refused}
 use Rattle.card_laws.specs.Under.{span_under}
 use Rattle.card_questions.specs.Directory.{pair_of, pairs_under, directory_of, listed_of, listing_of, out_after, directory_answer, directory_out}
 use Rattle.card_laws.proofs.UnderLaws.{span_most}
 use Rattle.inspect_fields.proofs.Lines.{front_put}
+use Rattle.answers.specs.declared.refusal.Refusal.{Refusal}
 
 -- there are two numbers for each node
 one_pair : (t : Bool) (n : Node) (rest : List ℕ) (k : ℕ) → length rest ≡ 2 * k → length (cond t [] (pair_of n rest)) ≡ 2 * cond t 0 (suc k)
@@ -47,18 +47,18 @@ pub record Stands (pairs after : List ℕ) (room n : ℕ) : Type 0 where
   pub front : take (n - 0) after ≡ pairs
 
 -- a listing is no refusal
-abbrev counted : Listing → ℕ
-counted (Listed n) = 1 + n
-counted (Refused r) = 0
+abbrev counted : Result ℕ Refusal → ℕ
+counted (Ok n) = 1 + n
+counted (Err r) = 0
 
 pub directory_stands
-    : (c : Card) (out : List ℕ) {n : ℕ} → directory_answer c (length out) ≡ Listed n
+    : (c : Card) (out : List ℕ) {n : ℕ} → directory_answer c (length out) ≡ Ok n
     → Stands (directory_of (nodes_of c)) (directory_out c out) (length out) (2 * n)
 unfolding directory_answer directory_out listing_of out_after put
 directory_stands c out {n} e = by (not (is_sound c)) (ltb (length out) (2 * length (nodes_of c))) refl e
   where
     by : (s t : Bool) → ltb (length out) (2 * length (nodes_of c)) ≡ t
-        → cond s (Refused NotBuilt) (cond t (Refused ShortOutput) (Listed (listed_of (nodes_of c)))) ≡ Listed n
+        → cond s (Err NotBuilt) (cond t (Err ShortOutput) (Ok (listed_of (nodes_of c)))) ≡ Ok n
         → Stands (directory_of (nodes_of c)) (cond s out (cond t out (sets out 0 (directory_of (nodes_of c))))) (length out) (2 * n)
     by true t h x = absurd (let z : ◌≡◌ {A = ℕ} 0 (1 + n) = ap counted x in omega arith)
     by false true h x = absurd (let z : ◌≡◌ {A = ℕ} 0 (1 + n) = ap counted x in omega arith)

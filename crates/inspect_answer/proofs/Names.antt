@@ -1,4 +1,5 @@
 -- The first field of a question's line is its name. Assumes nothing.
+use Rattle.std.proofs.Common.{Option, Some, None}
 use Prim.{Unit, tt}
 use Prim.Native.Nat.{ℕ, ◌≤◌}
 use native.Mathlib.Omega.{arith}
@@ -19,17 +20,17 @@ use Rattle.inspect_ask.specs.declared.Asked.{Asked}
 use Rattle.inspect_ask.specs.declared.Asked.TheVariants as asks
 use Rattle.inspect_ask.specs.declared.Single.TheVariants as singles
 use Rattle.inspect_ask.specs.declared.Question.{Question}
-use Rattle.inspect_ask.specs.declared.Question.TheVariants.{Unknown, Of, Room, Arena}
+use Rattle.inspect_ask.specs.declared.Question.TheVariants.{Of, Room, Arena}
 use Rattle.inspect_ask.specs.Question.{list_name, info_name, readlist_name, readinfo_name, total_name, ver_name, dir_name, areas_name, svcs_name, block_name, used_name, attr_name, room_name, arena_name, list_line, block_question, code_line, codes_line, bytes_line, room_line, arena_line, lent_asked, stored_asked, lists_asked, card_asked, bytes_asked, message_asked, question_of}
 use Rattle.inspect_ask.proofs.Asking.{asked_short}
 use Rattle.inspect_answer.specs.Answer.{field_zero, name_of}
 
 -- a field is the name of the question, if there is one
-abbrev Named : List ℕ → Question → Type 0
-Named f Unknown = Unit {0}
-Named f (Of asked) = f ≡ name_of asked
-Named f (Room n) = Unit {0}
-Named f (Arena n) = Unit {0}
+abbrev Named : List ℕ → Option Question → Type 0
+Named f None = Unit {0}
+Named f (Some (Of asked)) = f ≡ name_of asked
+Named f (Some (Room n)) = Unit {0}
+Named f (Some (Arena n)) = Unit {0}
 
 module _ (fs : List (List ℕ)) where
   abbrev first : List ℕ
@@ -40,29 +41,29 @@ module _ (fs : List (List ℕ)) where
   unfolding form named
   formed name n e = same_equal first name ((and-eq-true_iff (same_bytes first name) (eqb (length fs) n)).0 e).0
 
-  by : (name : List ℕ) (n : ℕ) (x y : Question) → (first ≡ name → Named first x) → Named first y → Named first (cond (form name n fs) x y)
+  by : (name : List ℕ) (n : ℕ) (x y : Option Question) → (first ≡ name → Named first x) → Named first y → Named first (cond (form name n fs) x y)
   by name n x y p q = go (form name n fs) refl
     where
       go : (t : Bool) → form name n fs ≡ t → Named first (cond t x y)
       go true e = p (formed name n e)
       go false e = q
 
-  tested : (t : Bool) (asked : Asked) → first ≡ name_of asked → Named first (cond t (Of asked) Unknown)
+  tested : (t : Bool) (asked : Asked) → first ≡ name_of asked → Named first (cond t (Some (Of asked)) None)
   tested true asked e = e
   tested false asked e = tt
 
   on_lent : Named first (lent_asked fs)
   unfolding lent_asked room_line arena_line
   on_lent =
-      by room_name 2 (room_line fs) _ (λ e. on_number (Named first) Unknown tt (number_at fs 1 4096) Room (λ n. tt))
-      (by arena_name 2 (arena_line fs) Unknown (λ e. on_number (Named first) Unknown tt (number_at fs 1 65536) Arena (λ n. tt)) tt)
+      by room_name 2 (room_line fs) _ (λ e. on_number (Named first) None tt (number_at fs 1 4096) (λ n. Some (Room n)) (λ n. tt))
+      (by arena_name 2 (arena_line fs) None (λ e. on_number (Named first) None tt (number_at fs 1 65536) (λ n. Some (Arena n)) (λ n. tt)) tt)
 
   on_stored : Named first (stored_asked fs)
   unfolding stored_asked block_question code_line
   on_stored =
-      by block_name 3 (block_question fs) _ (λ e. on_code (Named first) Unknown tt (code_at fs 1) _ (λ n. on_number (Named first) Unknown tt (number_at fs 2 4294967295) _ (λ m. e)))
-      (by used_name 1 (Of asks.Used) _ (λ e. e)
-      (by attr_name 2 (code_line singles.Attribute fs) (lent_asked fs) (λ e. on_code (Named first) Unknown tt (code_at fs 1) _ (λ n. e)) on_lent))
+      by block_name 3 (block_question fs) _ (λ e. on_code (Named first) None tt (code_at fs 1) _ (λ n. on_number (Named first) None tt (number_at fs 2 4294967295) _ (λ m. e)))
+      (by used_name 1 (Some (Of asks.Used)) _ (λ e. e)
+      (by attr_name 2 (code_line singles.Attribute fs) (lent_asked fs) (λ e. on_code (Named first) None tt (code_at fs 1) _ (λ n. e)) on_lent))
 
   on_lists : Named first (lists_asked fs)
   unfolding lists_asked codes_line
@@ -73,9 +74,9 @@ module _ (fs : List (List ℕ)) where
   on_card : Named first (card_asked fs)
   unfolding card_asked code_line
   on_card =
-      by total_name 2 (code_line singles.Total fs) _ (λ e. on_code (Named first) Unknown tt (code_at fs 1) _ (λ n. e))
-      (by ver_name 2 (code_line singles.Version fs) _ (λ e. on_code (Named first) Unknown tt (code_at fs 1) _ (λ n. e))
-      (by dir_name 1 (Of asks.Directory) (lists_asked fs) (λ e. e) on_lists))
+      by total_name 2 (code_line singles.Total fs) _ (λ e. on_code (Named first) None tt (code_at fs 1) _ (λ n. e))
+      (by ver_name 2 (code_line singles.Version fs) _ (λ e. on_code (Named first) None tt (code_at fs 1) _ (λ n. e))
+      (by dir_name 1 (Some (Of asks.Directory)) (lists_asked fs) (λ e. e) on_lists))
 
   on_bytes : Named first (bytes_asked fs)
   unfolding bytes_asked bytes_line
@@ -86,14 +87,14 @@ module _ (fs : List (List ℕ)) where
   on_message : Named first (message_asked fs)
   unfolding message_asked list_line codes_line
   on_message =
-      by list_name 3 (list_line fs) _ (λ e. on_code (Named first) Unknown tt (code_at fs 1) _ (λ n. on_number (Named first) Unknown tt (number_at fs 2 4294967295) _ (λ m. e)))
+      by list_name 3 (list_line fs) _ (λ e. on_code (Named first) None tt (code_at fs 1) _ (λ n. on_number (Named first) None tt (number_at fs 2 4294967295) _ (λ m. e)))
       (by info_name 2 (codes_line asks.Info fs) (bytes_asked fs) (λ e. tested (codes_field (get_or fs 1 [])) asks.Info e) on_bytes)
 
 -- A line that asks has the question's name in its first field.
-pub asked_name : (line : List ℕ) (asked : Asked) → question_of line ≡ Of asked → field_zero line ≡ name_of asked
+pub asked_name : (line : List ℕ) (asked : Asked) → question_of line ≡ Some (Of asked) → field_zero line ≡ name_of asked
 unfolding question_of
 asked_name line asked e =
-    let x : message_asked (split 9 line) ≡ Of asked = rw (le-ltb 32768 (length line) (asked_short line asked e)) at e in
+    let x : message_asked (split 9 line) ≡ Some (Of asked) = rw (le-ltb 32768 (length line) (asked_short line asked e)) at e in
     rw x at (on_message (split 9 line))
 
 -- No name has more than eight bytes.

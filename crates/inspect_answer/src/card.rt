@@ -6,17 +6,15 @@ ghost use Rattle.text_print.specs.Print.{closed};
 ghost use Rattle.inspect_answer.specs.Fields.{told_answer, count_text, told_fields, directory_fields, list_answer, checked_fields, block_fields, used_fields};
 ghost use Rattle.inspect_fields.specs.Fields.{most_fields, field_one};
 
-use answers::refusal::Told;
+use answers::refusal::Refusal;
 use card_build::card::Card;
-use card_questions::keys::Checked;
-use card_questions::listing::Listing;
 use card_questions::{keys, listing, totals};
 use inspect_fields::line::read_codes;
 use inspect_fields::put::put_refusal;
 use text_print::{put_hex, put_number, put_numbers, put_word};
 
 // What is told of a code: its key version, or its total.
-fn told_of(card: Card, version: bool, code: u16) -> Told
+fn told_of(card: Card, version: bool, code: u16) -> Result<u16, Refusal>
     ensures { result ≡ told_answer version card code }
 {
     if version {
@@ -45,8 +43,8 @@ pub(crate) fn put_told(card: Card, version: bool, code: u16, out: &mut [u8], at:
     ensures upper_bound { result ≤ at + most_fields }
 {
     match told_of(card, version, code) {
-        Told::Number(n) => put_counted(version, n, out, at),
-        Told::Refused(refusal) => put_refusal(refusal, out, at),
+        Ok(n) => put_counted(version, n, out, at),
+        Err(refusal) => put_refusal(refusal, out, at),
     }
 }
 
@@ -57,8 +55,8 @@ fn put_pairs(card: Card, pairs: &mut [u16], out: &mut [u8], at: usize) -> usize
     ensures upper_bound { result ≤ at + most_fields }
 {
     match listing::directory(card, pairs) {
-        Listing::Listed(n) => put_numbers(&pairs[0..2 * n], b'\n', out, at),
-        Listing::Refused(refusal) => put_refusal(refusal, out, at),
+        Ok(n) => put_numbers(&pairs[0..2 * n], b'\n', out, at),
+        Err(refusal) => put_refusal(refusal, out, at),
     }
 }
 
@@ -74,20 +72,20 @@ pub(crate) fn put_directory(card: Card, room: usize, out: &mut [u8], at: usize) 
 }
 
 // Puts whether a list is well formed into `out` from `at` on, and answers the place after it.
-fn put_checked(checked: Checked, out: &mut [u8], at: usize) -> usize
+fn put_checked(checked: Result<bool, Refusal>, out: &mut [u8], at: usize) -> usize
     requires { at + most_fields ≤ length out.old }
     ensures written { Written out.old at (checked_fields checked) result out.new }
     ensures upper_bound { result ≤ at + most_fields }
 {
     match checked {
-        Checked::WellFormed => put_word(b"yes", b'\n', out, at),
-        Checked::Malformed => put_word(b"no", b'\n', out, at),
-        Checked::Refused(refusal) => put_refusal(refusal, out, at),
+        Ok(true) => put_word(b"yes", b'\n', out, at),
+        Ok(false) => put_word(b"no", b'\n', out, at),
+        Err(refusal) => put_refusal(refusal, out, at),
     }
 }
 
 // Whether codes are a well formed list, of areas or of services.
-fn list_check(card: Card, areas: bool, codes: &[u16]) -> Checked
+fn list_check(card: Card, areas: bool, codes: &[u16]) -> Result<bool, Refusal>
     ensures { result ≡ list_answer areas card codes.now }
 {
     if areas {

@@ -4,7 +4,7 @@
 mod card;
 mod message;
 
-ghost use Rattle.std.specs.Prelude.{◌≡◌, ◌+◌, ◌≤◌, length};
+ghost use Rattle.std.specs.Prelude.{◌≡◌, Some, ◌+◌, ◌≤◌, length};
 ghost use Rattle.byte_parts.specs.Sizes.{most_printed};
 ghost use Rattle.text_stream.specs.Stream.{Written};
 ghost use Rattle.text_print.specs.Print.{closed};
@@ -38,7 +38,7 @@ fn put_fields(
     out: &mut [u8],
     at: usize,
 ) -> usize
-    requires { (question_of line.now ≡ Of asked) × (room ≤ most_room) × (at + most_fields ≤ length out.old) }
+    requires { (question_of line.now ≡ Some (Of asked)) × (room ≤ most_room) × (at + most_fields ≤ length out.old) }
     ensures written { Written out.old at (fields_of card arena.now room line.now asked) result out.new }
     ensures upper_bound { result ≤ at + most_fields }
 {
@@ -70,7 +70,7 @@ pub fn put_answer(
     out: &mut [u8],
     at: usize,
 ) -> usize
-    requires { (question_of line.now ≡ Of asked) × (at + most_printed ≤ length out.old) }
+    requires { (question_of line.now ≡ Some (Of asked)) × (at + most_printed ≤ length out.old) }
     ensures { Written out.old at (told_text card arena.now lent room line.now asked) result out.new × (result ≤ at + most_printed) }
 {
     let next = put_name(line, out, at);

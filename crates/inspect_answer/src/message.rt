@@ -5,22 +5,22 @@ ghost use Rattle.text_stream.specs.Stream.{Written};
 ghost use Rattle.inspect_answer.specs.Fields.{put_fields, size_of, list_fields, info_fields};
 ghost use Rattle.inspect_fields.specs.Fields.{most_fields, field_one};
 
+use answers::refusal::Refusal;
 use card_build::card::Card;
 use card_lists::{information, packet};
 use inspect_fields::line::read_codes;
 use inspect_fields::put::put_refusal;
-use node_messages::message::Put;
 use text_print::put_hex;
 
 // Puts the message that a writer has written to the front of `work`, or its refusal, into `out` from `at` on, and answers the place after it.
-fn put_message(put: Put, work: &[u8], out: &mut [u8], at: usize) -> usize
+fn put_message(put: Result<usize, Refusal>, work: &[u8], out: &mut [u8], at: usize) -> usize
     requires { (size_of put ≤ length work.now) × (length work.now ≤ 4096) × (at + most_fields ≤ length out.old) }
     ensures written { Written out.old at (put_fields (take (size_of put) work.now) put) result out.new }
     ensures upper_bound { result ≤ at + most_fields }
 {
     match put {
-        Put::Bytes(n) => put_hex(&work[0..n], b'\n', out, at),
-        Put::Refused(refusal) => put_refusal(refusal, out, at),
+        Ok(n) => put_hex(&work[0..n], b'\n', out, at),
+        Err(refusal) => put_refusal(refusal, out, at),
     }
 }
 

@@ -1,4 +1,5 @@
 -- A question that was read has what it wants in its line: codes or bytes in field 1, and no more than 32,768 bytes. Assumes nothing.
+use Rattle.std.proofs.Common.{Option, Some, None}
 use Prim.{Unit, tt}
 use Prim.Native.Nat.{ℕ, ◌≤◌}
 use native.Mathlib.Omega.{arith}
@@ -17,7 +18,7 @@ use Rattle.inspect_ask.specs.declared.Asked.{Asked}
 use Rattle.inspect_ask.specs.declared.Asked.TheVariants as asks
 use Rattle.inspect_ask.specs.declared.Single.TheVariants as singles
 use Rattle.inspect_ask.specs.declared.Question.{Question}
-use Rattle.inspect_ask.specs.declared.Question.TheVariants.{Unknown, Of, Room, Arena}
+use Rattle.inspect_ask.specs.declared.Question.TheVariants.{Of, Room, Arena}
 use Rattle.inspect_ask.specs.Question.{list_name, info_name, readlist_name, readinfo_name, total_name, ver_name, dir_name, areas_name, svcs_name, block_name, used_name, attr_name, room_name, arena_name, list_line, block_question, code_line, codes_line, bytes_line, room_line, arena_line, lent_asked, stored_asked, lists_asked, card_asked, bytes_asked, message_asked, question_of}
 
 -- whether field 1 is codes, and whether it is bytes
@@ -35,14 +36,14 @@ Wants c b (asks.Block code number) = Unit {0}
 Wants c b asks.Used = Unit {0}
 Wants c b (asks.Attribute code) = Unit {0}
 
-abbrev Has : Bool → Bool → Question → Type 0
-Has c b Unknown = Unit {0}
-Has c b (Of asked) = Wants c b asked
-Has c b (Room n) = Unit {0}
-Has c b (Arena n) = Unit {0}
+abbrev Has : Bool → Bool → Option Question → Type 0
+Has c b None = Unit {0}
+Has c b (Some (Of asked)) = Wants c b asked
+Has c b (Some (Room n)) = Unit {0}
+Has c b (Some (Arena n)) = Unit {0}
 
 -- a test that the question wants
-tested : (c b t : Bool) (asked : Asked) → (t ≡ true → Wants c b asked) → Has c b (cond t (Of asked) Unknown)
+tested : (c b t : Bool) (asked : Asked) → (t ≡ true → Wants c b asked) → Has c b (cond t (Some (Of asked)) None)
 tested c b true asked p = p refl
 tested c b false asked p = tt
 
@@ -62,21 +63,21 @@ module _ (fs : List (List ℕ)) where
   on_bytes asked p = tested are_codes are_bytes_lem are_bytes_lem asked p
 
   -- what a question has in its line
-  abbrev Its : Question → Type 0
+  abbrev Its : Option Question → Type 0
   Its = Has are_codes are_bytes_lem
 
   on_lent : Its (lent_asked fs)
   unfolding lent_asked room_line arena_line
   on_lent =
-      either Its (form room_name 2 fs) (room_line fs) _ (on_number Its Unknown tt (number_at fs 1 4096) Room (λ n. tt))
-      (either Its (form arena_name 2 fs) (arena_line fs) Unknown (on_number Its Unknown tt (number_at fs 1 65536) Arena (λ n. tt)) tt)
+      either Its (form room_name 2 fs) (room_line fs) _ (on_number Its None tt (number_at fs 1 4096) (λ n. Some (Room n)) (λ n. tt))
+      (either Its (form arena_name 2 fs) (arena_line fs) None (on_number Its None tt (number_at fs 1 65536) (λ n. Some (Arena n)) (λ n. tt)) tt)
 
   on_stored : Its (stored_asked fs)
   unfolding stored_asked block_question code_line
   on_stored =
-      either Its (form block_name 3 fs) (block_question fs) _ (on_code Its Unknown tt (code_at fs 1) _ (λ n. on_number Its Unknown tt (number_at fs 2 4294967295) _ (λ m. tt)))
-      (either Its (form used_name 1 fs) (Of asks.Used) _ tt
-      (either Its (form attr_name 2 fs) (code_line singles.Attribute fs) (lent_asked fs) (on_code Its Unknown tt (code_at fs 1) _ (λ n. tt)) on_lent))
+      either Its (form block_name 3 fs) (block_question fs) _ (on_code Its None tt (code_at fs 1) _ (λ n. on_number Its None tt (number_at fs 2 4294967295) _ (λ m. tt)))
+      (either Its (form used_name 1 fs) (Some (Of asks.Used)) _ tt
+      (either Its (form attr_name 2 fs) (code_line singles.Attribute fs) (lent_asked fs) (on_code Its None tt (code_at fs 1) _ (λ n. tt)) on_lent))
 
   on_lists : Its (lists_asked fs)
   unfolding lists_asked
@@ -87,9 +88,9 @@ module _ (fs : List (List ℕ)) where
   on_card : Its (card_asked fs)
   unfolding card_asked code_line
   on_card =
-      either Its (form total_name 2 fs) (code_line singles.Total fs) _ (on_code Its Unknown tt (code_at fs 1) _ (λ n. tt))
-      (either Its (form ver_name 2 fs) (code_line singles.Version fs) _ (on_code Its Unknown tt (code_at fs 1) _ (λ n. tt))
-      (either Its (form dir_name 1 fs) (Of asks.Directory) (lists_asked fs) tt on_lists))
+      either Its (form total_name 2 fs) (code_line singles.Total fs) _ (on_code Its None tt (code_at fs 1) _ (λ n. tt))
+      (either Its (form ver_name 2 fs) (code_line singles.Version fs) _ (on_code Its None tt (code_at fs 1) _ (λ n. tt))
+      (either Its (form dir_name 1 fs) (Some (Of asks.Directory)) (lists_asked fs) tt on_lists))
 
   on_read : Its (bytes_asked fs)
   unfolding bytes_asked
@@ -100,23 +101,23 @@ module _ (fs : List (List ℕ)) where
   on_message : Its (message_asked fs)
   unfolding message_asked list_line
   on_message =
-      either Its (form list_name 3 fs) (list_line fs) _ (on_code Its Unknown tt (code_at fs 1) _ (λ n. on_number Its Unknown tt (number_at fs 2 4294967295) _ (λ m. tt)))
+      either Its (form list_name 3 fs) (list_line fs) _ (on_code Its None tt (code_at fs 1) _ (λ n. on_number Its None tt (number_at fs 2 4294967295) _ (λ m. tt)))
       (either Its (form info_name 2 fs) (codes_line asks.Info fs) (bytes_asked fs) (on_codes asks.Info (λ e. e)) on_read)
 
 -- a question of the card is not unknown
-known : Question → ℕ
-known Unknown = 0
-known (Of asked) = 1
-known (Room n) = 1
-known (Arena n) = 1
+known : Option Question → ℕ
+known None = 0
+known (Some (Of asked)) = 1
+known (Some (Room n)) = 1
+known (Some (Arena n)) = 1
 
-module _ (line : List ℕ) (asked : Asked) (e : question_of line ≡ Of asked) where
+module _ (line : List ℕ) (asked : Asked) (e : question_of line ≡ Some (Of asked)) where
   -- The line is short enough.
   pub asked_short : length line ≤ 32768
   unfolding question_of known
   asked_short =
       elim (dec_lt 32768 (length line)) [
-        | yes h ↦ absurd (let x : question_of line ≡ Unknown = rw (lt-ltb 32768 (length line) h) in let z : ◌≡◌ {A = ℕ} 0 1 = sym (ap known x) ∙ ap known e in omega arith)
+        | yes h ↦ absurd (let x : question_of line ≡ None = rw (lt-ltb 32768 (length line) h) in let z : ◌≡◌ {A = ℕ} 0 1 = sym (ap known x) ∙ ap known e in omega arith)
         | no h ↦ omega arith
       ]
 
@@ -125,5 +126,5 @@ module _ (line : List ℕ) (asked : Asked) (e : question_of line ≡ Of asked) w
   unfolding question_of
   asked_wants =
       let h = asked_short in
-      let x : message_asked (split 9 line) ≡ Of asked = rw (le-ltb 32768 (length line) h) at e in
+      let x : message_asked (split 9 line) ≡ Some (Of asked) = rw (le-ltb 32768 (length line) h) at e in
       rw x at (on_message (split 9 line))

@@ -1,5 +1,5 @@
 -- What a question line asks, by its name and its fields; exactly so many, and no more than 32,768 bytes in all.
-use Rattle.std.specs.Prelude.{ℕ, cond, List, [], ◌∷◌, ltb, length, get_or}
+use Rattle.std.specs.Prelude.{ℕ, cond, List, [], ◌∷◌, ltb, length, get_or, Option, Some, None}
 use Rattle.byte_parts.specs.Letters.{tab, a, b, c, d, e, f, i, k, l, m, n, o, r, s, t, u, v}
 use Rattle.byte_parts.specs.Sizes.{longest_line}
 use Rattle.text_fields.specs.Field.{split}
@@ -11,7 +11,7 @@ use Rattle.inspect_ask.specs.declared.Asked.TheVariants as asks
 use Rattle.inspect_ask.specs.declared.Single.{Single}
 use Rattle.inspect_ask.specs.declared.Single.TheVariants as singles
 use Rattle.inspect_ask.specs.declared.Question.{Question}
-use Rattle.inspect_ask.specs.declared.Question.TheVariants.{Unknown, Of, Room, Arena}
+use Rattle.inspect_ask.specs.declared.Question.TheVariants.{Of, Room, Arena}
 
 -- the names of the questions, as bytes
 abbrev pub list_name : List ℕ
@@ -64,18 +64,18 @@ abbrev pub most_arena : ℕ
 most_arena = 65536
 
 -- `list` parent packet, of 32 bits
-unfoldable pub list_line : List (List ℕ) → Question
+unfoldable pub list_line : List (List ℕ) → Option Question
 list_line fs =
-    with_code Unknown (code_at fs 1) (λ parent.
-    with_number Unknown (number_at fs 2 4294967295) (λ packet.
-    Of (asks.List parent packet)))
+    with_code None (code_at fs 1) (λ parent.
+    with_number None (number_at fs 2 4294967295) (λ packet.
+    Some (Of (asks.List parent packet))))
 
 -- `block` code number, of 32 bits
-unfoldable pub block_question : List (List ℕ) → Question
+unfoldable pub block_question : List (List ℕ) → Option Question
 block_question fs =
-    with_code Unknown (code_at fs 1) (λ code.
-    with_number Unknown (number_at fs 2 4294967295) (λ number.
-    Of (asks.Block code number)))
+    with_code None (code_at fs 1) (λ code.
+    with_number None (number_at fs 2 4294967295) (λ number.
+    Some (Of (asks.Block code number))))
 
 -- `total`, `ver`, `attr` code
 abbrev pub single_of : Single → ℕ → Asked
@@ -83,60 +83,60 @@ single_of singles.Total code = asks.Total code
 single_of singles.Version code = asks.Version code
 single_of singles.Attribute code = asks.Attribute code
 
-unfoldable pub code_line : Single → List (List ℕ) → Question
-code_line single fs = with_code Unknown (code_at fs 1) (λ code. Of (single_of single code))
+unfoldable pub code_line : Single → List (List ℕ) → Option Question
+code_line single fs = with_code None (code_at fs 1) (λ code. Some (Of (single_of single code)))
 
 -- codes joined, or bytes in hex, in field 1
-unfoldable pub codes_line : Asked → List (List ℕ) → Question
-codes_line asked fs = cond (codes_field (get_or fs 1 [])) (Of asked) Unknown
+unfoldable pub codes_line : Asked → List (List ℕ) → Option Question
+codes_line asked fs = cond (codes_field (get_or fs 1 [])) (Some (Of asked)) None
 
-unfoldable pub bytes_line : Asked → List (List ℕ) → Question
-bytes_line asked fs = cond (hex_field (get_or fs 1 [])) (Of asked) Unknown
+unfoldable pub bytes_line : Asked → List (List ℕ) → Option Question
+bytes_line asked fs = cond (hex_field (get_or fs 1 [])) (Some (Of asked)) None
 
 -- `room` and `arena` length
-unfoldable pub room_line : List (List ℕ) → Question
-room_line fs = with_number Unknown (number_at fs 1 most_room) Room
+unfoldable pub room_line : List (List ℕ) → Option Question
+room_line fs = with_number None (number_at fs 1 most_room) (λ x. Some (Room x))
 
-unfoldable pub arena_line : List (List ℕ) → Question
-arena_line fs = with_number Unknown (number_at fs 1 most_arena) Arena
+unfoldable pub arena_line : List (List ℕ) → Option Question
+arena_line fs = with_number None (number_at fs 1 most_arena) (λ x. Some (Arena x))
 
 -- each name with its number of fields; what has none of them is unknown
 -- RULES 19.2
-unfoldable pub lent_asked : List (List ℕ) → Question
+unfoldable pub lent_asked : List (List ℕ) → Option Question
 lent_asked fs =
     cond (form room_name 2 fs) (room_line fs)
-    (cond (form arena_name 2 fs) (arena_line fs) Unknown)
+    (cond (form arena_name 2 fs) (arena_line fs) None)
 
-unfoldable pub stored_asked : List (List ℕ) → Question
+unfoldable pub stored_asked : List (List ℕ) → Option Question
 stored_asked fs =
     cond (form block_name 3 fs) (block_question fs)
-    (cond (form used_name 1 fs) (Of asks.Used)
+    (cond (form used_name 1 fs) (Some (Of asks.Used))
     (cond (form attr_name 2 fs) (code_line singles.Attribute fs) (lent_asked fs)))
 
-unfoldable pub lists_asked : List (List ℕ) → Question
+unfoldable pub lists_asked : List (List ℕ) → Option Question
 lists_asked fs =
     cond (form areas_name 2 fs) (codes_line asks.Areas fs)
     (cond (form svcs_name 2 fs) (codes_line asks.Services fs) (stored_asked fs))
 
 -- RULES 19.2
-unfoldable pub card_asked : List (List ℕ) → Question
+unfoldable pub card_asked : List (List ℕ) → Option Question
 card_asked fs =
     cond (form total_name 2 fs) (code_line singles.Total fs)
     (cond (form ver_name 2 fs) (code_line singles.Version fs)
-    (cond (form dir_name 1 fs) (Of asks.Directory) (lists_asked fs)))
+    (cond (form dir_name 1 fs) (Some (Of asks.Directory)) (lists_asked fs)))
 
-unfoldable pub bytes_asked : List (List ℕ) → Question
+unfoldable pub bytes_asked : List (List ℕ) → Option Question
 bytes_asked fs =
     cond (form readlist_name 2 fs) (bytes_line asks.ReadList fs)
     (cond (form readinfo_name 2 fs) (bytes_line asks.ReadInfo fs) (card_asked fs))
 
 -- RULES 19.2
-unfoldable pub message_asked : List (List ℕ) → Question
+unfoldable pub message_asked : List (List ℕ) → Option Question
 message_asked fs =
     cond (form list_name 3 fs) (list_line fs)
     (cond (form info_name 2 fs) (codes_line asks.Info fs) (bytes_asked fs))
 
 -- a line of at most 32,768 bytes, its fields parted by tabs (9)
 -- RULES 19.1
-unfoldable pub question_of : List ℕ → Question
-question_of line = cond (ltb longest_line (length line)) Unknown (message_asked (split tab line))
+unfoldable pub question_of : List ℕ → Option Question
+question_of line = cond (ltb longest_line (length line)) None (message_asked (split tab line))

@@ -2,14 +2,11 @@
 #![tactic(auto)]
 
 ghost use Rattle.std.specs.Prelude.{◌≡◌};
-ghost use Rattle.text_fields.specs.Field.{split, ends_of};
+ghost use Rattle.text_fields.specs.Field.{split};
 ghost use Rattle.inspect_ask.specs.Question.{list_line, block_question, single_of, code_line, codes_line, bytes_line, room_line, arena_line, lent_asked, stored_asked, lists_asked, card_asked, bytes_asked, message_asked, question_of};
 
 use byte_parts::sizes::LONGEST_LINE;
-use line_fields::{code_at, has_codes, has_hex, is_form, number_at};
-use text_fields::Ends;
-use text_numbers::codes::Code;
-use text_numbers::decimals::Number;
+use line_fields::Fields;
 
 // What is asked of a card. Codes and bytes of a question stand in the line's field 1.
 #[derive(Clone, Copy)]
@@ -36,44 +33,36 @@ pub enum Single {
     Attribute,
 }
 
-// What a line asks: something of the card, that other lengths be lent from here on, or nothing that is known.
+// What a line asks: something of the card, or that other lengths be lent from here on.
 #[derive(Clone, Copy)]
 pub enum Question {
-    Unknown,
     Of(Asked),
     Room(u32),
     Arena(u32),
 }
 
 // Reads a line `list`: parent, packet.
-fn list_line(line: &[u8], ends: Ends) -> Question
-    requires { ends ≡ ends_of 9 line.now }
-    ensures { result ≡ list_line (split 9 line.now) }
+#[tactic(auto, unfolding(crate::specs::Question::list_line))]
+fn list_line(fields: Fields) -> Option<Question>
+    ensures { result ≡ list_line (split 9 fields.entry.line.now) }
 {
-    let Code::Is(parent) = code_at(line, ends, 1) else {
-        return Question::Unknown;
-    };
-    let Number::Is(packet) = number_at(line, ends, 2, u32::MAX) else {
-        return Question::Unknown;
-    };
-    Question::Of(Asked::List { parent, packet })
+    let parent = fields.code_at(1)?;
+    let packet = fields.number_at(2, u32::MAX)?;
+    Some(Question::Of(Asked::List { parent, packet }))
 }
 
 // Reads a line `block`: code, number.
-fn block_line(line: &[u8], ends: Ends) -> Question
-    requires { ends ≡ ends_of 9 line.now }
-    ensures { result ≡ block_question (split 9 line.now) }
+#[tactic(auto, unfolding(crate::specs::Question::block_question))]
+fn block_line(fields: Fields) -> Option<Question>
+    ensures { result ≡ block_question (split 9 fields.entry.line.now) }
 {
-    let Code::Is(code) = code_at(line, ends, 1) else {
-        return Question::Unknown;
-    };
-    let Number::Is(number) = number_at(line, ends, 2, u32::MAX) else {
-        return Question::Unknown;
-    };
-    Question::Of(Asked::Block { code, number })
+    let code = fields.code_at(1)?;
+    let number = fields.number_at(2, u32::MAX)?;
+    Some(Question::Of(Asked::Block { code, number }))
 }
 
 // What is asked of this code.
+#[tactic(auto, unfolding(crate::specs::Question::single_of))]
 fn asked_of(single: Single, code: u16) -> Asked
     ensures { result ≡ single_of single code }
 {
@@ -85,157 +74,146 @@ fn asked_of(single: Single, code: u16) -> Asked
 }
 
 // Reads a line that asks of one code.
-fn code_line(line: &[u8], ends: Ends, single: Single) -> Question
-    requires { ends ≡ ends_of 9 line.now }
-    ensures { result ≡ code_line single (split 9 line.now) }
+#[tactic(auto, unfolding(crate::specs::Question::code_line))]
+fn code_line(fields: Fields, single: Single) -> Option<Question>
+    ensures { result ≡ code_line single (split 9 fields.entry.line.now) }
 {
-    let Code::Is(code) = code_at(line, ends, 1) else {
-        return Question::Unknown;
-    };
-    Question::Of(asked_of(single, code))
+    let code = fields.code_at(1)?;
+    Some(Question::Of(asked_of(single, code)))
 }
 
 // Reads a line that asks of codes.
-fn codes_line(line: &[u8], ends: Ends, asked: Asked) -> Question
-    requires { ends ≡ ends_of 9 line.now }
-    ensures { result ≡ codes_line asked (split 9 line.now) }
+#[tactic(auto, unfolding(crate::specs::Question::codes_line))]
+fn codes_line(fields: Fields, asked: Asked) -> Option<Question>
+    ensures { result ≡ codes_line asked (split 9 fields.entry.line.now) }
 {
-    if has_codes(line, ends, 1) {
-        return Question::Of(asked);
-    }
-    Question::Unknown
+    fields.has_codes(1).then_some(Question::Of(asked))
 }
 
 // Reads a line that asks of a message's bytes.
-fn bytes_line(line: &[u8], ends: Ends, asked: Asked) -> Question
-    requires { ends ≡ ends_of 9 line.now }
-    ensures { result ≡ bytes_line asked (split 9 line.now) }
+#[tactic(auto, unfolding(crate::specs::Question::bytes_line))]
+fn bytes_line(fields: Fields, asked: Asked) -> Option<Question>
+    ensures { result ≡ bytes_line asked (split 9 fields.entry.line.now) }
 {
-    if has_hex(line, ends, 1) {
-        return Question::Of(asked);
-    }
-    Question::Unknown
+    fields.has_hex(1).then_some(Question::Of(asked))
 }
 
 // Reads a line `room`: the bytes of the output.
-fn room_line(line: &[u8], ends: Ends) -> Question
-    requires { ends ≡ ends_of 9 line.now }
-    ensures { result ≡ room_line (split 9 line.now) }
+#[tactic(auto, unfolding(crate::specs::Question::room_line))]
+fn room_line(fields: Fields) -> Option<Question>
+    ensures { result ≡ room_line (split 9 fields.entry.line.now) }
 {
-    let Number::Is(room) = number_at(line, ends, 1, 4096) else {
-        return Question::Unknown;
-    };
-    Question::Room(room)
+    let room = fields.number_at(1, 4096)?;
+    Some(Question::Room(room))
 }
 
 // Reads a line `arena`: the bytes of the arena.
-fn arena_line(line: &[u8], ends: Ends) -> Question
-    requires { ends ≡ ends_of 9 line.now }
-    ensures { result ≡ arena_line (split 9 line.now) }
+#[tactic(auto, unfolding(crate::specs::Question::arena_line))]
+fn arena_line(fields: Fields) -> Option<Question>
+    ensures { result ≡ arena_line (split 9 fields.entry.line.now) }
 {
-    let Number::Is(arena) = number_at(line, ends, 1, 65536) else {
-        return Question::Unknown;
-    };
-    Question::Arena(arena)
+    let arena = fields.number_at(1, 65536)?;
+    Some(Question::Arena(arena))
 }
 
 // Reads a line by what it has lent from here on.
-fn lent_asked(line: &[u8], ends: Ends) -> Question
-    requires { ends ≡ ends_of 9 line.now }
-    ensures { result ≡ lent_asked (split 9 line.now) }
+#[tactic(auto, unfolding(crate::specs::Question::lent_asked))]
+fn lent_asked(fields: Fields) -> Option<Question>
+    ensures { result ≡ lent_asked (split 9 fields.entry.line.now) }
 {
-    if is_form(line, ends, b"room", 2) {
-        return room_line(line, ends);
+    if fields.is_form(b"room", 2) {
+        return room_line(fields);
     }
-    if is_form(line, ends, b"arena", 2) {
-        return arena_line(line, ends);
+    if fields.is_form(b"arena", 2) {
+        return arena_line(fields);
     }
-    Question::Unknown
+    None
 }
 
 // Reads a line by what it asks of blocks, or of a code alone.
-fn stored_asked(line: &[u8], ends: Ends) -> Question
-    requires { ends ≡ ends_of 9 line.now }
-    ensures { result ≡ stored_asked (split 9 line.now) }
+#[tactic(auto, unfolding(crate::specs::Question::stored_asked))]
+fn stored_asked(fields: Fields) -> Option<Question>
+    ensures { result ≡ stored_asked (split 9 fields.entry.line.now) }
 {
-    if is_form(line, ends, b"block", 3) {
-        return block_line(line, ends);
+    if fields.is_form(b"block", 3) {
+        return block_line(fields);
     }
-    if is_form(line, ends, b"used", 1) {
-        return Question::Of(Asked::Used);
+    if fields.is_form(b"used", 1) {
+        return Some(Question::Of(Asked::Used));
     }
-    if is_form(line, ends, b"attr", 2) {
-        return code_line(line, ends, Single::Attribute);
+    if fields.is_form(b"attr", 2) {
+        return code_line(fields, Single::Attribute);
     }
-    lent_asked(line, ends)
+    lent_asked(fields)
 }
 
-// Reads a line by what it asks of a list of areas or services.
-fn lists_asked(line: &[u8], ends: Ends) -> Question
-    requires { ends ≡ ends_of 9 line.now }
-    ensures { result ≡ lists_asked (split 9 line.now) }
+// Reads a line by what it asks of a list of areas or services. (One function a definition: this and `bytes_asked` differ in each name, and
+// a function of four names and two questions would be no plainer.)
+#[tactic(auto, unfolding(crate::specs::Question::lists_asked))]
+fn lists_asked(fields: Fields) -> Option<Question>
+    ensures { result ≡ lists_asked (split 9 fields.entry.line.now) }
 {
-    if is_form(line, ends, b"areas", 2) {
-        return codes_line(line, ends, Asked::Areas);
+    if fields.is_form(b"areas", 2) {
+        return codes_line(fields, Asked::Areas);
     }
-    if is_form(line, ends, b"svcs", 2) {
-        return codes_line(line, ends, Asked::Services);
+    if fields.is_form(b"svcs", 2) {
+        return codes_line(fields, Asked::Services);
     }
-    stored_asked(line, ends)
+    stored_asked(fields)
 }
 
 // Reads a line by what it asks of the card.
-fn card_asked(line: &[u8], ends: Ends) -> Question
-    requires { ends ≡ ends_of 9 line.now }
-    ensures { result ≡ card_asked (split 9 line.now) }
+#[tactic(auto, unfolding(crate::specs::Question::card_asked))]
+fn card_asked(fields: Fields) -> Option<Question>
+    ensures { result ≡ card_asked (split 9 fields.entry.line.now) }
 {
-    if is_form(line, ends, b"total", 2) {
-        return code_line(line, ends, Single::Total);
+    if fields.is_form(b"total", 2) {
+        return code_line(fields, Single::Total);
     }
-    if is_form(line, ends, b"ver", 2) {
-        return code_line(line, ends, Single::Version);
+    if fields.is_form(b"ver", 2) {
+        return code_line(fields, Single::Version);
     }
-    if is_form(line, ends, b"dir", 1) {
-        return Question::Of(Asked::Directory);
+    if fields.is_form(b"dir", 1) {
+        return Some(Question::Of(Asked::Directory));
     }
-    lists_asked(line, ends)
+    lists_asked(fields)
 }
 
 // Reads a line by what it asks of a message's bytes.
-fn bytes_asked(line: &[u8], ends: Ends) -> Question
-    requires { ends ≡ ends_of 9 line.now }
-    ensures { result ≡ bytes_asked (split 9 line.now) }
+#[tactic(auto, unfolding(crate::specs::Question::bytes_asked))]
+fn bytes_asked(fields: Fields) -> Option<Question>
+    ensures { result ≡ bytes_asked (split 9 fields.entry.line.now) }
 {
-    if is_form(line, ends, b"readlist", 2) {
-        return bytes_line(line, ends, Asked::ReadList);
+    if fields.is_form(b"readlist", 2) {
+        return bytes_line(fields, Asked::ReadList);
     }
-    if is_form(line, ends, b"readinfo", 2) {
-        return bytes_line(line, ends, Asked::ReadInfo);
+    if fields.is_form(b"readinfo", 2) {
+        return bytes_line(fields, Asked::ReadInfo);
     }
-    card_asked(line, ends)
+    card_asked(fields)
 }
 
 // Reads a line by what it asks of a message.
-fn message_asked(line: &[u8], ends: Ends) -> Question
-    requires { ends ≡ ends_of 9 line.now }
-    ensures { result ≡ message_asked (split 9 line.now) }
+#[tactic(auto, unfolding(crate::specs::Question::message_asked))]
+fn message_asked(fields: Fields) -> Option<Question>
+    ensures { result ≡ message_asked (split 9 fields.entry.line.now) }
 {
-    if is_form(line, ends, b"list", 3) {
-        return list_line(line, ends);
+    if fields.is_form(b"list", 3) {
+        return list_line(fields);
     }
-    if is_form(line, ends, b"info", 2) {
-        return codes_line(line, ends, Asked::Info);
+    if fields.is_form(b"info", 2) {
+        return codes_line(fields, Asked::Info);
     }
-    bytes_asked(line, ends)
+    bytes_asked(fields)
 }
 
 // Reads what a line asks: one over the longest size asks nothing that is known, whatever it says.
-pub fn question_of(line: &[u8]) -> Question
+#[tactic(auto, unfolding(crate::specs::Question::question_of))]
+pub fn question_of(line: &[u8]) -> Option<Question>
     ensures { result ≡ question_of line.now }
 {
     if LONGEST_LINE < line.len() {
-        return Question::Unknown;
+        return None;
     }
-    let ends = text_fields::find_ends(line, b'\t');
-    message_asked(line, ends)
+    message_asked(Fields::new(line))
 }

@@ -1,12 +1,10 @@
 -- The fields that answer `attr`: number, kind, right, and whether a key is needed.
-use Rattle.std.specs.Prelude.{ℕ, Bool, true, false, List, [], ◌∷◌, ◌++◌}
+use Rattle.std.specs.Prelude.{ℕ, Bool, true, false, List, [], ◌∷◌, ◌++◌, Option, Some, None}
 use Rattle.byte_parts.specs.Letters.{dash, lf, tab, a, b, c, d, e, f, h, i, k, l, m, n, o, p, r, s, t, u, w, y}
 use Rattle.service_code.specs.declared.code.ServiceKind.{ServiceKind}
 use Rattle.service_code.specs.declared.code.ServiceKind.TheVariants.{Random, Cyclic, Purse}
 use Rattle.service_code.specs.declared.code.ServiceAttribute.{ServiceAttribute}
 use Rattle.service_code.specs.declared.code.ServiceAttribute.TheVariants.{RandomReadWrite, RandomReadOnly, CyclicReadWrite, CyclicReadOnly, PurseDirect, PurseCashback, PurseDecrement, PurseReadOnly}
-use Rattle.service_code.specs.declared.code.Decoded.{Decoded}
-use Rattle.service_code.specs.declared.code.Decoded.TheVariants.{Defined, Undefined}
 use Rattle.service_code.specs.Code.{number_of, attribute_of, kind_of, requires_key}
 use Rattle.text_numbers.specs.Decimal.{dec_text}
 use Rattle.text_print.specs.Print.{closed}
@@ -43,9 +41,9 @@ abbrev pub defined_fields : ServiceAttribute → Bool → List ℕ
 defined_fields a keyed = closed tab (kind_text (kind_of a)) ++ closed tab (right_text a) ++ closed lf (key_text keyed)
 
 -- an undefined attribute has `-` (45) three times
-abbrev pub rights_fields : ℕ → Decoded → List ℕ
-rights_fields code (Defined a) = defined_fields a (requires_key code)
-rights_fields code Undefined = closed tab (dash ∷ []) ++ closed tab (dash ∷ []) ++ closed lf (dash ∷ [])
+abbrev pub rights_fields : ℕ → Option ServiceAttribute → List ℕ
+rights_fields code (Some a) = defined_fields a (requires_key code)
+rights_fields code None = closed tab (dash ∷ []) ++ closed tab (dash ∷ []) ++ closed lf (dash ∷ [])
 
 -- RULES 19.2
 unfoldable pub attribute_fields : ℕ → List ℕ

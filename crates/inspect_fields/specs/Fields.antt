@@ -1,9 +1,7 @@
 -- Fields that answer a question and need no card: parted by tabs (9) and ended by LF (10).
-use Rattle.std.specs.Prelude.{ℕ, Bool, true, false, List, [], ◌∷◌, ◌++◌, take, get_or}
+use Rattle.std.specs.Prelude.{ℕ, Bool, true, false, List, [], ◌∷◌, ◌++◌, take, get_or, Result, Err, Ok}
 use Rattle.byte_parts.specs.Letters.{bang, lf, tab}
 use Rattle.answers.specs.declared.refusal.Refusal.{Refusal}
-use Rattle.answers.specs.declared.refusal.Answer.{Answer}
-use Rattle.answers.specs.declared.refusal.Answer.TheVariants as answers
 use Rattle.answers.specs.Refusal.{refusal_number}
 use Rattle.text_fields.specs.Field.{split}
 use Rattle.text_numbers.specs.Decimal.{dec_text}
@@ -34,9 +32,9 @@ flag_text false = 48 ∷ []
 abbrev pub code_list_fields : CodeList → List ℕ
 code_list_fields m = closed tab (flag_text m.more) ++ closed tab (four_digits (ranges_of m)) ++ closed lf (four_digits (codes_listed m))
 
-abbrev pub listed_fields : CodeList → Answer → List ℕ
-listed_fields m answers.Done = code_list_fields m
-listed_fields m (answers.Refused refusal) = refusal_told refusal
+abbrev pub listed_fields : CodeList → Result Unit Refusal → List ℕ
+listed_fields m (Ok tt) = code_list_fields m
+listed_fields m (Err refusal) = refusal_told refusal
 
 -- RULES 19.3
 unfoldable pub read_list_fields : List ℕ → List ℕ
@@ -46,9 +44,9 @@ read_list_fields s = listed_fields (read_code_list s).list (read_code_list s).an
 abbrev pub information_fields : BlockInformation → List ℕ
 information_fields m = closed tab (four_digits (take (node_count m) m.assigned)) ++ closed lf (four_digits (take (node_count m) m.free))
 
-abbrev pub informed_fields : BlockInformation → Answer → List ℕ
-informed_fields m answers.Done = information_fields m
-informed_fields m (answers.Refused refusal) = refusal_told refusal
+abbrev pub informed_fields : BlockInformation → Result Unit Refusal → List ℕ
+informed_fields m (Ok tt) = information_fields m
+informed_fields m (Err refusal) = refusal_told refusal
 
 -- RULES 19.3
 unfoldable pub read_info_fields : List ℕ → List ℕ

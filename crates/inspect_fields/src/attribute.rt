@@ -5,7 +5,7 @@ ghost use Rattle.text_print.specs.Print.{closed};
 ghost use Rattle.inspect_fields.specs.Attribute.{kind_text, right_text, key_text, defined_fields, attribute_fields};
 ghost use Rattle.inspect_fields.specs.Fields.{most_fields};
 
-use service_code::code::{Decoded, ServiceAttribute, ServiceCode, ServiceKind};
+use service_code::code::{ServiceAttribute, ServiceCode, ServiceKind};
 use text_print::{put_number, put_word};
 
 // Puts the name of a kind and a tab into `out` from `at` on, and answers the place after them.
@@ -28,14 +28,15 @@ fn put_right(attribute: ServiceAttribute, out: &mut [u8], at: usize) -> usize
     ensures upper_bound { result ≤ at + 11 }
 {
     match attribute {
-        ServiceAttribute::RandomReadWrite => put_word(b"read-write", b'\t', out, at),
-        ServiceAttribute::RandomReadOnly => put_word(b"read-only", b'\t', out, at),
-        ServiceAttribute::CyclicReadWrite => put_word(b"read-write", b'\t', out, at),
-        ServiceAttribute::CyclicReadOnly => put_word(b"read-only", b'\t', out, at),
+        ServiceAttribute::RandomReadWrite | ServiceAttribute::CyclicReadWrite => {
+            put_word(b"read-write", b'\t', out, at)
+        }
         ServiceAttribute::PurseDirect => put_word(b"direct", b'\t', out, at),
         ServiceAttribute::PurseCashback => put_word(b"cashback", b'\t', out, at),
         ServiceAttribute::PurseDecrement => put_word(b"decrement", b'\t', out, at),
-        ServiceAttribute::PurseReadOnly => put_word(b"read-only", b'\t', out, at),
+        ServiceAttribute::RandomReadOnly
+        | ServiceAttribute::CyclicReadOnly
+        | ServiceAttribute::PurseReadOnly => put_word(b"read-only", b'\t', out, at),
     }
 }
 
@@ -72,7 +73,7 @@ pub fn put_attribute(code: u16, out: &mut [u8], at: usize) -> usize
     let keyed = ServiceCode(code).requires_key();
     let next = put_number(number as u64, b'\t', out, at);
     match ServiceCode(code).attribute() {
-        Decoded::Defined(attribute) => put_defined(attribute, keyed, out, next),
-        Decoded::Undefined => put_word(b"-\t-\t-", b'\n', out, next),
+        Some(attribute) => put_defined(attribute, keyed, out, next),
+        None => put_word(b"-\t-\t-", b'\n', out, next),
     }
 }

@@ -5,14 +5,15 @@ ghost use Rattle.text_numbers.specs.Hex.{hex_field, unhex};
 ghost use Rattle.text_numbers.specs.Codes.{codes_field, codes_of};
 ghost use Rattle.inspect_fields.specs.Fields.{field_one};
 
+use line_fields::Fields;
+
 // Puts the codes of a question to the front of `codes`, and answers how many.
 pub fn read_codes(line: &[u8], codes: &mut [u16]) -> usize
     requires { (codes_field (field_one line.now) ≡ true) × (length line.now ≤ 32768) × (length codes.old ≡ 8192) }
     ensures value { (result ≡ length (codes_of (field_one line.now))) × (result ≤ 8192) }
     ensures codes_after { codes.new ≡ put codes.old 0 (length (codes_of (field_one line.now))) (codes_of (field_one line.now)) }
 {
-    let ends = text_fields::find_ends(line, b'\t');
-    line_fields::read_codes(line, ends, 1, codes)
+    Fields::new(line).read_codes(1, codes)
 }
 
 // Puts the bytes of a question to the front of `bytes`, and answers how many.
@@ -21,6 +22,5 @@ pub fn read_bytes(line: &[u8], bytes: &mut [u8]) -> usize
     ensures value { (result ≡ length (unhex (field_one line.now))) × (result ≤ 16384) }
     ensures bytes_after { bytes.new ≡ put bytes.old 0 (length (unhex (field_one line.now))) (unhex (field_one line.now)) }
 {
-    let ends = text_fields::find_ends(line, b'\t');
-    line_fields::put_field(line, ends, 1, bytes, 0)
+    Fields::new(line).put_field(1, bytes, 0)
 }

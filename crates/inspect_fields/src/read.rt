@@ -7,7 +7,6 @@ ghost use Rattle.inspect_fields.specs.Fields.{most_fields, field_one, flag_text,
 
 use crate::line::read_bytes;
 use crate::put::put_refusal;
-use answers::refusal::Answer;
 use byte_parts::spans::least;
 use node_messages::code_list::CodeList;
 use node_messages::information::BlockInformation;
@@ -50,8 +49,8 @@ fn put_listed(bytes: &[u8], out: &mut [u8], at: usize) -> usize
     let listed = code_list::read_code_list(bytes);
     let answer = listed.answer;
     match answer {
-        Answer::Done => put_code_list(listed.list, out, at),
-        Answer::Refused(refusal) => put_refusal(refusal, out, at),
+        Ok(()) => put_code_list(listed.list, out, at),
+        Err(refusal) => put_refusal(refusal, out, at),
     }
 }
 
@@ -77,8 +76,8 @@ fn put_informed(bytes: &[u8], out: &mut [u8], at: usize) -> usize
     let informed = information::read_information(bytes);
     let answer = informed.answer;
     match answer {
-        Answer::Done => put_information(informed.told, out, at),
-        Answer::Refused(refusal) => put_refusal(refusal, out, at),
+        Ok(()) => put_information(informed.told, out, at),
+        Err(refusal) => put_refusal(refusal, out, at),
     }
 }
 

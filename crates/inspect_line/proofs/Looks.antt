@@ -1,4 +1,5 @@
 -- What a line comes to, by what it is taken for. Assumes nothing.
+use Rattle.std.proofs.Common.{Option}
 use Prim.Native.Nat.{ℕ}
 use mathlib.Core.Path.{◌≡◌, ap}
 use mathlib.Core.List.{List}
@@ -17,7 +18,7 @@ replayed_seen_lem p e l a = rw (a, l) (ap (replayed_seen p) e)
 
 -- So does a question, which takes no ordinal.
 pub question_seen_lem
-    : (p : Inspect) (q : Question) (arena : List ℕ) {replay : Replay} {n room lent : ℕ} → n ≡ one_more p.replay.lines
+    : (p : Inspect) (q : Option Question) (arena : List ℕ) {replay : Replay} {n room lent : ℕ} → n ≡ one_more p.replay.lines
     → replay ≡ numbered n p.replay → room ≡ room_after q p.room → lent ≡ lent_after q p.lent
     → seen (record { replay = replay; room = room; lent = lent }) arena ≡ question_seen (seen p arena) q
 question_seen_lem p q arena l a r e = rw (a, l, r, e)

@@ -1,5 +1,5 @@
 -- Inspection: from the bytes of a text to the bytes printed, by way of the state between two lines.
-use Rattle.std.specs.Prelude.{ℕ, List, [], replicate}
+use Rattle.std.specs.Prelude.{ℕ, List, [], replicate, Option, Some, None}
 use Rattle.card_build.specs.declared.card.Card.{Card}
 use Rattle.text_stream.specs.Stream.{Machine, says_of}
 use Rattle.replay_state.specs.declared.Replay.{Replay}
@@ -39,44 +39,44 @@ replayed_seen p h =
 
 -- `room` and `arena` set what is lent from here on
 -- RULES 19.3
-abbrev pub room_after : Question → ℕ → ℕ
-room_after questions.Unknown room = room
-room_after (questions.Of asked) room = room
-room_after (questions.Room n) room = n
-room_after (questions.Arena n) room = room
+abbrev pub room_after : Option Question → ℕ → ℕ
+room_after None room = room
+room_after (Some (questions.Of asked)) room = room
+room_after (Some (questions.Room n)) room = n
+room_after (Some (questions.Arena n)) room = room
 
 -- RULES 19.3
-abbrev pub lent_after : Question → ℕ → ℕ
-lent_after questions.Unknown lent = lent
-lent_after (questions.Of asked) lent = lent
-lent_after (questions.Room n) lent = lent
-lent_after (questions.Arena n) lent = n
+abbrev pub lent_after : Option Question → ℕ → ℕ
+lent_after None lent = lent
+lent_after (Some (questions.Of asked)) lent = lent
+lent_after (Some (questions.Room n)) lent = lent
+lent_after (Some (questions.Arena n)) lent = n
 
 -- a question takes no ordinal; card and arena stay
 -- RULES 19.4
-abbrev pub question_seen : Seen → Question → Seen
+abbrev pub question_seen : Seen → Option Question → Seen
 question_seen s q =
     let p = s.inspect in
     seen (record { replay = numbered (one_more p.replay.lines) p.replay; room = room_after q p.room; lent = lent_after q p.lent }) s.arena
 
 -- what it prints
-abbrev pub question_text : Card → List ℕ → ℕ → ℕ → ℕ → List ℕ → Question → List ℕ
-question_text c arena lent room number line questions.Unknown = unknown_text number
-question_text c arena lent room number line (questions.Of asked) = told_text c arena lent room line asked
-question_text c arena lent room number line (questions.Room n) = []
-question_text c arena lent room number line (questions.Arena n) = []
+abbrev pub question_text : Card → List ℕ → ℕ → ℕ → ℕ → List ℕ → Option Question → List ℕ
+question_text c arena lent room number line None = unknown_text number
+question_text c arena lent room number line (Some (questions.Of asked)) = told_text c arena lent room line asked
+question_text c arena lent room number line (Some (questions.Room n)) = []
+question_text c arena lent room number line (Some (questions.Arena n)) = []
 
 -- the state after a line, by what it is taken for, and what the line prints
-abbrev pub seen_by : Sort → Seen → List ℕ → Seen
-seen_by (sorts.Replayed kind) s line = replayed_seen s.inspect (held_by kind (held s.inspect.replay s.arena) line)
-seen_by (sorts.Asked q) s line = question_seen s q
-seen_by sorts.Nothing s line = s
+abbrev pub seen_by : Option Sort → Seen → List ℕ → Seen
+seen_by (Some (sorts.Replayed kind)) s line = replayed_seen s.inspect (held_by (Some kind) (held s.inspect.replay s.arena) line)
+seen_by (Some (sorts.Asked q)) s line = question_seen s q
+seen_by None s line = s
 
-abbrev pub said_by : Sort → Seen → List ℕ → List ℕ
-said_by (sorts.Replayed kind) s line = text_by kind (held s.inspect.replay s.arena) line
-said_by (sorts.Asked q) s line =
+abbrev pub said_by : Option Sort → Seen → List ℕ → List ℕ
+said_by (Some (sorts.Replayed kind)) s line = text_by (Some kind) (held s.inspect.replay s.arena) line
+said_by (Some (sorts.Asked q)) s line =
     question_text s.inspect.replay.card s.arena s.inspect.lent s.inspect.room (one_more s.inspect.replay.lines) line q
-said_by sorts.Nothing s line = []
+said_by None s line = []
 
 unfoldable pub line_seen : Seen → List ℕ → Seen
 line_seen s line = seen_by (sort_of s.inspect.replay.phase line) s line
@@ -101,15 +101,15 @@ unfoldable pub inspect_of : List ℕ → List ℕ
 inspect_of text = says_of inspect_machine seen_at_start text
 
 -- the buffers lent to a request, after a line
-abbrev pub sort_work : Sort → Seen → List ℕ → List ℕ → List ℕ
-sort_work (sorts.Replayed kind) s work line = work_taken kind (held s.inspect.replay s.arena) work line
-sort_work (sorts.Asked q) s work line = work
-sort_work sorts.Nothing s work line = work
+abbrev pub sort_work : Option Sort → Seen → List ℕ → List ℕ → List ℕ
+sort_work (Some (sorts.Replayed kind)) s work line = work_taken (Some kind) (held s.inspect.replay s.arena) work line
+sort_work (Some (sorts.Asked q)) s work line = work
+sort_work None s work line = work
 
-abbrev pub sort_bytes : Sort → List ℕ → List ℕ → List ℕ
-sort_bytes (sorts.Replayed kind) bytes line = bytes_by kind bytes line
-sort_bytes (sorts.Asked q) bytes line = bytes
-sort_bytes sorts.Nothing bytes line = bytes
+abbrev pub sort_bytes : Option Sort → List ℕ → List ℕ → List ℕ
+sort_bytes (Some (sorts.Replayed kind)) bytes line = bytes_by (Some kind) bytes line
+sort_bytes (Some (sorts.Asked q)) bytes line = bytes
+sort_bytes None bytes line = bytes
 
 unfoldable pub work_seen : Seen → List ℕ → List ℕ → List ℕ
 work_seen s work line = sort_work (sort_of s.inspect.replay.phase line) s work line

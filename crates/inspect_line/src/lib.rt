@@ -1,7 +1,7 @@
 // Inspection, line by line: an image, requests as in replay, and questions, mixed after line 1.
 #![tactic(auto)]
 
-ghost use Rattle.std.specs.Prelude.{◌≡◌, ℕ, ◌+◌, ◌≤◌, length};
+ghost use Rattle.std.specs.Prelude.{◌≡◌, Some, ℕ, ◌+◌, ◌≤◌, length};
 ghost use Rattle.byte_parts.specs.Sizes.{most_printed};
 ghost use Rattle.text_stream.specs.Stream.{Written};
 ghost use Rattle.line_serve.specs.Text.{most_spelled};
@@ -58,26 +58,26 @@ fn numbered_to(replay: Replay, lines: u64) -> Replay
 }
 
 // The length of the output after a question.
-fn room_after(question: Question, room: usize) -> usize
+fn room_after(question: Option<Question>, room: usize) -> usize
     ensures { result ≡ room_after question room }
 {
     match question {
-        Question::Unknown => room,
-        Question::Of(_) => room,
-        Question::Room(n) => n as usize,
-        Question::Arena(_) => room,
+        None => room,
+        Some(Question::Of(_)) => room,
+        Some(Question::Room(n)) => n as usize,
+        Some(Question::Arena(_)) => room,
     }
 }
 
 // The length of the arena after a question.
-fn lent_after(question: Question, lent: usize) -> usize
+fn lent_after(question: Option<Question>, lent: usize) -> usize
     ensures { result ≡ lent_after question lent }
 {
     match question {
-        Question::Unknown => lent,
-        Question::Of(_) => lent,
-        Question::Room(_) => lent,
-        Question::Arena(n) => n as usize,
+        None => lent,
+        Some(Question::Of(_)) => lent,
+        Some(Question::Room(_)) => lent,
+        Some(Question::Arena(n)) => n as usize,
     }
 }
 
@@ -93,14 +93,14 @@ fn replayed_line(
     at: usize,
 ) -> Looked
     requires { (length work.old ≡ lent_bytes) × (most_spelled ≤ length bytes.old) × (at + most_printed ≤ length out.old) }
-    ensures arena_after { seen result.inspect arena.new ≡ replayed_seen inspect (held_by kind (held inspect.replay arena.old) line.now) }
-    ensures written { Written out.old at (text_by kind (held inspect.replay arena.old) line.now) result.at out.new × (result.at ≤ at + most_printed) }
-    ensures work_after { work.new ≡ work_taken kind (held inspect.replay arena.old) work.old line.now }
-    ensures bytes_after { bytes.new ≡ bytes_by kind bytes.old line.now }
+    ensures arena_after { seen result.inspect arena.new ≡ replayed_seen inspect (held_by (Some kind) (held inspect.replay arena.old) line.now) }
+    ensures written { Written out.old at (text_by (Some kind) (held inspect.replay arena.old) line.now) result.at out.new × (result.at ≤ at + most_printed) }
+    ensures work_after { work.new ≡ work_taken (Some kind) (held inspect.replay arena.old) work.old line.now }
+    ensures bytes_after { bytes.new ≡ bytes_by (Some kind) bytes.old line.now }
 {
     let replay = inspect.replay;
     let lines = replay_line::one_more(replay.lines);
-    let taken = replay_line::take(replay, kind, arena, work, bytes, line, out, at);
+    let taken = replay_line::take(replay, Some(kind), arena, work, bytes, line, out, at);
     let after = taken.replay;
     Looked {
         inspect: Inspect {
@@ -114,7 +114,7 @@ fn replayed_line(
 
 // Puts what a question of this line number prints into `out` from `at` on, and answers the place after it.
 fn put_question(
-    question: Question,
+    question: Option<Question>,
     card: Card,
     arena: &[u8],
     lent: usize,
@@ -127,8 +127,10 @@ fn put_question(
     requires { (question_of line.now ≡ question) × (at + most_printed ≤ length out.old) }
     ensures { Written out.old at (question_text card arena.now lent room number line.now question) result out.new × (result ≤ at + most_printed) }
 {
+    let Some(question) = question else {
+        return inspect_answer::put_unknown(number, out, at);
+    };
     match question {
-        Question::Unknown => inspect_answer::put_unknown(number, out, at),
         Question::Of(asked) => {
             inspect_answer::put_answer(asked, card, arena, lent, room, line, out, at)
         }
@@ -140,7 +142,7 @@ fn put_question(
 // Takes a question: it takes no ordinal, and card and arena stay.
 fn question_line(
     inspect: Inspect,
-    question: Question,
+    question: Option<Question>,
     arena: &[u8],
     line: &[u8],
     out: &mut [u8],
@@ -185,8 +187,10 @@ pub fn line(
     let replay = inspect.replay;
     let phase = replay.phase;
     match sort_of(phase, line) {
-        Sort::Replayed(kind) => replayed_line(inspect, kind, arena, work, bytes, line, out, at),
-        Sort::Asked(question) => question_line(inspect, question, arena, line, out, at),
-        Sort::Nothing => Looked { inspect, at },
+        Some(Sort::Replayed(kind)) => replayed_line(
+            inspect, kind, arena, work, bytes, line, out, at,
+        ),
+        Some(Sort::Asked(question)) => question_line(inspect, question, arena, line, out, at),
+        None => Looked { inspect, at },
     }
 }

@@ -1,4 +1,5 @@
 -- A line that is taken for a question asks it. Assumes nothing.
+use Rattle.std.proofs.Common.{Option, Some, None}
 use Prim.Native.Nat.{ℕ}
 use mathlib.Core.Path.{◌≡◌, refl, sym, ap, ◌∙◌}
 use mathlib.Core.Bool.{Bool, true, false, cond}
@@ -17,22 +18,22 @@ use Rattle.inspect_sort.specs.declared.Sort.TheVariants as sorts
 use Rattle.inspect_sort.specs.Sort.{later_sort, sort_of}
 
 -- the question that a line is taken for; of a line that is taken for none, another one
-abbrev asked_of : Question → Sort → Question
-asked_of other (sorts.Replayed kind) = other
-asked_of other (sorts.Asked q) = q
-asked_of other sorts.Nothing = other
+abbrev asked_of : Option Question → Option Sort → Option Question
+asked_of other (Some (sorts.Replayed kind)) = other
+asked_of other (Some (sorts.Asked q)) = q
+asked_of other None = other
 
 -- whatever the first field is found to say
 field_asked
-    : (a b c : Bool) (q : Question)
-    → asked_of q (cond a (sorts.Replayed (kinds.Image false))
-    (cond b (sorts.Replayed kinds.Request) (cond c (sorts.Replayed kinds.Board) (sorts.Asked q)))) ≡ q
+    : (a b c : Bool) (q : Option Question)
+    → asked_of q (Some (cond a (sorts.Replayed (kinds.Image false))
+    (cond b (sorts.Replayed kinds.Request) (cond c (sorts.Replayed kinds.Board) (sorts.Asked q))))) ≡ q
 field_asked true b c q = refl
 field_asked false true c q = refl
 field_asked false false true q = refl
 field_asked false false false q = refl
 
-later_asked : (line : List ℕ) → asked_of (question_of line) (later_sort line) ≡ question_of line
+later_asked : (line : List ℕ) → asked_of (question_of line) (Some (later_sort line)) ≡ question_of line
 unfolding later_sort
 later_asked line = field_asked (image_named (split 9 line)) (request_line line) (board_line line) (question_of line)
 
@@ -44,5 +45,5 @@ sort_asked Requests line = later_asked line
 sort_asked Ended line = refl
 
 -- A line that is taken for a question asks it.
-pub asked_of_lem : (phase : Phase) (line : List ℕ) {q : Question} → sort_of phase line ≡ sorts.Asked q → question_of line ≡ q
+pub asked_of_lem : (phase : Phase) (line : List ℕ) {q : Option Question} → sort_of phase line ≡ Some (sorts.Asked q) → question_of line ≡ q
 asked_of_lem phase line e = sym (sort_asked phase line) ∙ ap (asked_of (question_of line)) e

@@ -1,4 +1,5 @@
 -- What a line is taken for goes by its first 32,769 bytes: one over the longest line. Assumes nothing.
+use Rattle.std.proofs.Common.{None, Some}
 use Prim.Native.Nat.{ℕ, zero, suc, ◌<◌}
 use native.Mathlib.Omega.{arith}
 use native.Mathlib.Decide.{dec_lt}
@@ -15,8 +16,8 @@ use Rattle.line_image.specs.Line.{card_word, area_word, svc_word, lim_word, blk_
 use Rattle.replay_state.specs.declared.Phase.{Phase}
 use Rattle.replay_state.specs.declared.Phase.TheVariants.{First, Image, Requests, Ended}
 use Rattle.replay_kind.proofs.Blind.{first_cut, request_blind, board_blind, cut_long_lem}
-use Rattle.inspect_ask.specs.declared.Question.TheVariants as questions
 use Rattle.inspect_ask.specs.Question.{question_of}
+use Rattle.inspect_sort.specs.declared.Sort.{Sort}
 use Rattle.inspect_sort.specs.Sort.{later_sort, sort_of}
 
 -- A word is told from a field by fewer bytes than are kept.
@@ -43,7 +44,7 @@ image-named_blind l =
     )
 
 -- A line that is too long asks nothing that is known, whatever it says.
-pub long_question : (l : List ℕ) → 32768 < length l → question_of l ≡ questions.Unknown
+pub long_question : (l : List ℕ) → 32768 < length l → question_of l ≡ None
 unfolding question_of
 long_question l h = rw (lt-ltb 32768 (length l) h)
 
@@ -61,6 +62,6 @@ later_blind l = rw (image-named_blind l, request_blind l, board_blind l, questio
 pub sort_blind : (x : Phase) (l : List ℕ) → sort_of x (take 32769 l) ≡ sort_of x l
 unfolding sort_of
 sort_blind First l = refl
-sort_blind Image l = later_blind l
-sort_blind Requests l = later_blind l
+sort_blind Image l = ap (λ (k : Sort). Some k) (later_blind l)
+sort_blind Requests l = ap (λ (k : Sort). Some k) (later_blind l)
 sort_blind Ended l = refl

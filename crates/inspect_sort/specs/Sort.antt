@@ -1,5 +1,5 @@
 -- What a line of an inspection is taken for, by where the inspection is and by the line's first field.
-use Rattle.std.specs.Prelude.{ℕ, true, false, cond, List}
+use Rattle.std.specs.Prelude.{ℕ, true, false, cond, List, Option, Some, None}
 use Rattle.byte_parts.specs.Letters.{tab}
 use Rattle.text_fields.specs.Field.{split}
 use Rattle.line_image.specs.Line.{image_named}
@@ -22,8 +22,8 @@ later_sort line =
 
 -- line 1 is an image line, whatever it says; a refused image line has ended the run, and what comes after it is nothing
 -- RULES 19.1
-unfoldable pub sort_of : Phase → List ℕ → Sort
-sort_of First line = sorts.Replayed (kinds.Image true)
-sort_of Image line = later_sort line
-sort_of Requests line = later_sort line
-sort_of Ended line = sorts.Nothing
+unfoldable pub sort_of : Phase → List ℕ → Option Sort
+sort_of First line = Some (sorts.Replayed (kinds.Image true))
+sort_of Image line = Some (later_sort line)
+sort_of Requests line = Some (later_sort line)
+sort_of Ended line = None

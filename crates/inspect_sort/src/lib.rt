@@ -8,15 +8,15 @@ use inspect_ask::Question;
 use replay_kind::Kind;
 use replay_state::Phase;
 
-// What a line is taken for: a line of a replay, a question, or nothing, after the end of the run.
+// What a line is taken for: a line of a replay, or a question, which may ask nothing that is known.
 #[derive(Clone, Copy)]
 pub enum Sort {
     Replayed(Kind),
-    Asked(Question),
-    Nothing,
+    Asked(Option<Question>),
 }
 
 // What a line after line 1 is taken for, by its first field.
+#[tactic(auto, unfolding(crate::specs::Sort::later_sort))]
 fn later_sort(line: &[u8]) -> Sort
     ensures { result ≡ later_sort line.now }
 {
@@ -32,15 +32,15 @@ fn later_sort(line: &[u8]) -> Sort
     Sort::Asked(inspect_ask::question_of(line))
 }
 
-// What a line is taken for where an inspection is.
-pub fn sort_of(phase: Phase, line: &[u8]) -> Sort
+// What a line is taken for where an inspection is; nothing, after the end of the run.
+#[tactic(auto, unfolding(crate::specs::Sort::sort_of))]
+pub fn sort_of(phase: Phase, line: &[u8]) -> Option<Sort>
     ensures { result ≡ sort_of phase line.now }
 {
-    let later = later_sort(line);
     match phase {
-        Phase::First => Sort::Replayed(Kind::Image(true)),
-        Phase::Image => later,
-        Phase::Requests => later,
-        Phase::Ended => Sort::Nothing,
+        Phase::First => Some(Sort::Replayed(Kind::Image(true))),
+        Phase::Image => Some(later_sort(line)),
+        Phase::Requests => Some(later_sort(line)),
+        Phase::Ended => None,
     }
 }

@@ -1,4 +1,5 @@
 -- A card that takes a node or a limit keeps what its blocks hold.
+use Rattle.std.proofs.Common.{Ok}
 use Prim.Native.Nat.{ℕ, zero, suc, ◌+◌, ◌-◌, ◌*◌, ◌≤◌, ◌<◌}
 use native.Mathlib.Omega.{arith}
 use mathlib.Core.Path.{◌≡◌, refl, sym, ap, ◌∙◌}
@@ -7,8 +8,6 @@ use mathlib.Core.List.{List, [], ◌∷◌}
 use mathlib.Core.Logic.{inl}
 use lib.IntN.{ℤ}
 use lib.ListN.{length, replicate}
-use Rattle.answers.specs.declared.refusal.Answer.{Answer}
-use Rattle.answers.specs.declared.refusal.Answer.TheVariants.{Done, Refused}
 use Rattle.byte_parts.specs.Part.{part}
 use Rattle.byte_parts.proofs.Part.{part-put_apart}
 use Rattle.card_nodes.specs.declared.node.Entry.{Entry}
@@ -63,12 +62,12 @@ grown {c} {c'} h built kept e =
     }
 
 -- an addition that is done is accepted
-done-accepted : (x : Added) → x.answer ≡ Done → x ≡ accepted x.card
+done-accepted : (x : Added) → x.answer ≡ Ok tt → x ≡ accepted x.card
 done-accepted x e = λ i. record { card = x.card; answer = e i }
 
 module _ (c : Card) (z : length c.nodes ≡ 64) {n k : ℕ} {d a : List ℕ} (h : BlockHolds c n k d a) where
   -- an area
-  pub area_leaves : (depth code end version : ℕ) → (area_added c depth code end version).answer ≡ Done →
+  pub area_leaves : (depth code end version : ℕ) → (area_added c depth code end version).answer ≡ Ok tt →
       BlockHolds (area_added c depth code end version).card n k d a
   unfolding area_added
   area_leaves depth code end version e =
@@ -76,7 +75,7 @@ module _ (c : Card) (z : length c.nodes ≡ 64) {n k : ℕ} {d a : List ℕ} (h 
       grown h (area depth code end version b q) (area-kept b depth code end version q) refl
 
   -- a service, whose new blocks lie behind all others
-  pub service_leaves : (arena_len depth code blocks version : ℕ) → (service_added c arena_len depth code blocks version).answer ≡ Done →
+  pub service_leaves : (arena_len depth code blocks version : ℕ) → (service_added c arena_len depth code blocks version).answer ≡ Ok tt →
       let x = service_added c arena_len depth code blocks version in
       BlockHolds x.card n k d (arena_added c x a)
   unfolding service_added arena_added
@@ -91,7 +90,7 @@ module _ (c : Card) (z : length c.nodes ≡ 64) {n k : ℕ} {d a : List ℕ} (h 
       (part-put_apart a (16 * c.used) l (replicate l 0) (16 * h.row.start + 16 * k) 16 (inl fits))
 
   -- a limit
-  pub limit_leaves : (upper lower : ℤ) (generation : ℕ) → (limit_added c upper lower generation).answer ≡ Done →
+  pub limit_leaves : (upper lower : ℤ) (generation : ℕ) → (limit_added c upper lower generation).answer ≡ Ok tt →
       BlockHolds (limit_added c upper lower generation).card n k d a
   unfolding limit_added
   limit_leaves upper lower generation e =

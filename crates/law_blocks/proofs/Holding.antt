@@ -1,5 +1,6 @@
 -- A block of a random store holds what an accepted write or a set block brought to it, and whatever names it in no accepted write and in
 -- no set block leaves it so; a read of it gives it.
+use Rattle.std.proofs.Common.{Some, Result, Ok, Err}
 use Prim.Native.Nat.{ℕ, ◌+◌, ◌*◌, ◌≤◌, ◌<◌}
 use native.Mathlib.Omega.{arith}
 use native.Mathlib.Decide.{ℕ_discrete, dec_lt}
@@ -13,10 +14,7 @@ use lib.Seq.{take_all}
 use borrow.Author.Tests.{ltb-false, leb-false, not-false}
 use Rattle.answers.specs.declared.refusal.Refusal.{Refusal}
 use Rattle.answers.specs.declared.refusal.Refusal.TheVariants.{ShortArena, NoSuchBlock, NotBuilt}
-use Rattle.answers.specs.declared.refusal.Answer.{Answer}
-use Rattle.answers.specs.declared.refusal.Answer.TheVariants.{Done as Found, Refused}
 use Rattle.service_code.specs.declared.code.ServiceKind.TheVariants.{Random}
-use Rattle.service_code.specs.declared.code.DecodedKind.TheVariants.{Defined as OfKind}
 use Rattle.service_code.specs.Code.{number_of, code_kind_of}
 use Rattle.byte_parts.specs.Part.{part, put}
 use Rattle.byte_parts.proofs.Part.{part-put, part-put_apart}
@@ -41,6 +39,7 @@ use Rattle.law_terminals.proofs.Written.{wrote}
 use Rattle.law_terminals.proofs.Given.{given}
 use Rattle.law_terminals.proofs.Last.{one_kept}
 use Rattle.law_blocks.specs.Deed.{Deed, requested, block_set, neither, DeedDone, DeedNames, DeedBrings}
+use Rattle.card_build.proofs.Accepted.{not_done}
 
 -- Block k of the random store of number n holds the bytes d, in the arena a.
 pub record BlockHolds (c : Card) (n k : ℕ) (d a : List ℕ) : Type 0 where
@@ -50,7 +49,7 @@ pub record BlockHolds (c : Card) (n k : ℕ) (d a : List ℕ) : Type 0 where
   pub row : Row
   pub service : ServiceRow (nodes_of c) own row
   pub number : number_of own ≡ n
-  pub random : code_kind_of own ≡ OfKind Random
+  pub random : code_kind_of own ≡ Some Random
   pub here : k < row.blocks
   pub block : part a (16 * row.start + 16 * k) 16 ≡ d
 
@@ -73,10 +72,6 @@ write_holds c z {k = k} a w t e m =
       block = wrote b o m.names.number m.random h a w t e m.place m.names m.last ∙ m.bytes;
     }
 
--- a refusal is not done
-not_done : {r : Refusal} → Refused r ≡ Found → ⊥
-not_done e = let z : ◌≡◌ {A = ℕ} 0 1 = cc in omega arith
-
 -- what is known of a block that is found
 record Block (c : Card) (arena_len code number : ℕ) : Type 0 where
   pub built : Built c
@@ -84,13 +79,13 @@ record Block (c : Card) (arena_len code number : ℕ) : Type 0 where
   pub here : number < (row_of (nodes_of c) code).blocks
   pub inside : block_place (row_of (nodes_of c) code) number + 16 ≤ arena_len
 
-found_block : (c : Card) → length c.nodes ≡ 64 → (arena_len code number : ℕ) → block_judged c arena_len code number ≡ Found →
+found_block : (c : Card) → length c.nodes ≡ 64 → (arena_len code number : ℕ) → block_judged c arena_len code number ≡ Ok tt →
     Block c arena_len code number
 unfolding block_judged
 found_block c z arena_len code number e =
     let s = passed_over (not_done {r = NotBuilt}) (not (is_sound c)) _ e in
     let a = passed_over (not_done {r = ShortArena}) (ltb arena_len (16 * c.used)) _ s.1 in
-    let b = passed_over (not_done {r = NoSuchBlock}) (lacks_block (row_of (nodes_of c) code) number) Found a.1 in
+    let b = passed_over (not_done {r = NoSuchBlock}) (lacks_block (row_of (nodes_of c) code) number) (Ok tt) a.1 in
     let n : number < (row_of (nodes_of c) code).blocks = leb-false (row_of (nodes_of c) code).blocks number b.0 in
     let l : 16 * c.used ≤ arena_len = ltb-false arena_len (16 * c.used) a.0 in
     let t : Built c = sound_built c z (not-false (is_sound c) s.0) in
@@ -104,7 +99,7 @@ place_is start number = omega arith
 
 -- and after the block was set to them
 pub set_holds : (c : Card) → length c.nodes ≡ 64 → {n k : ℕ} {d : List ℕ} (a : List ℕ) (code number : ℕ) (bytes : List ℕ) →
-    block_judged c (length a) code number ≡ Found → DeedBrings n k d (block_set code number bytes) →
+    block_judged c (length a) code number ≡ Ok tt → DeedBrings n k d (block_set code number bytes) →
     BlockHolds c n k d (arena_set c a code number bytes)
 unfolding arena_set
 set_holds c z {k = k} a code number bytes e (numbered, same, random, l, brings) =
@@ -175,15 +170,15 @@ module _ (c : Card) {n k : ℕ} {d a : List ℕ} (h : BlockHolds c n k d a) wher
         ]
 
     -- a set block that is not it leaves it
-    pub set_leaves : (bytes : List ℕ) → (block_judged c (length a) code number ≡ Found → (number_of code ≡ n) × (number ≡ k) → ⊥) →
+    pub set_leaves : (bytes : List ℕ) → (block_judged c (length a) code number ≡ Ok tt → (number_of code ≡ n) × (number ≡ k) → ⊥) →
         BlockHolds c n k d (arena_set c a code number bytes)
     unfolding arena_set
     set_leaves bytes f = same_block (by_judged (block_judged c (length a) code number) refl)
       where
-        by_judged : (x : Answer) → block_judged c (length a) code number ≡ x →
+        by_judged : (x : Result Unit Refusal) → block_judged c (length a) code number ≡ x →
             part (arena_set c a code number bytes) (16 * h.row.start + 16 * k) 16 ≡ part a (16 * h.row.start + 16 * k) 16
-        by_judged (Refused r) e = rw e
-        by_judged Found e =
+        by_judged (Err r) e = rw e
+        by_judged (Ok tt) e =
             let b = found_block c z (length a) code number e in
             rw e
             (part-put_apart a (block_place (row_of (nodes_of c) code) number) 16 bytes (16 * h.row.start + 16 * k) 16 (elsewhere b (f e)))

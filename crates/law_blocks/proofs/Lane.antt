@@ -1,5 +1,7 @@
 -- A refresh shows what a block holds, and so what was written last. Read specs/Lane.antt for the statement: `BoardShows c`. The last law
 -- says that it holds of every card.
+use Rattle.std.specs.Prelude.{Err, Ok}
+use Rattle.std.proofs.Common.{Result}
 use Prim.Native.Nat.{ℕ, zero, suc, ◌+◌, ◌<◌}
 use native.Mathlib.Omega.{arith}
 use native.Mathlib.Decide.{ℕ_discrete}
@@ -14,12 +16,11 @@ use Rattle.card_build.specs.declared.card.Card.{Card}
 use Rattle.request_plan.specs.declared.Reply.TheVariants.{Done}
 use Rattle.law_terminals.specs.Last.{element_at, NamesBlock, arena_then}
 use Rattle.law_terminals.proofs.Last.{tower_given}
-use Rattle.board_lanes.specs.declared.lanes.Judged.{Judged}
-use Rattle.board_lanes.specs.declared.lanes.Judged.TheVariants as judged
 use Rattle.board_lanes.specs.Board.{block_at, Lane, empty, lane_of, lanes_from, lanes_of, lanes, board_judged, board_by, board_of}
 use Rattle.board_read.specs.Refresh.{board_request, board_served}
 use Rattle.law_blocks.specs.Lane.{Shows, BoardShows}
 use Rattle.law_blocks.proofs.Holding.{BlockHolds, read_gives}
+use Rattle.board_lanes.specs.declared.refusal.BoardRefusal.{BoardRefusal}
 
 -- what holds of each number below n
 abbrev Each : (ℕ → Type 0) → ℕ → Type 0
@@ -63,11 +64,11 @@ pub board-lane : (bytes : List ℕ) (k : ℕ) (ls : List Lane) → k < 8 → boa
 unfolding board_of
 board-lane bytes k ls h = by_judged (board_judged bytes)
   where
-    by_judged : (j : Judged) → board_by bytes j ≡ lanes ls → get_or ls k empty ≡ lane_of (block_at bytes k)
-    by_judged judged.Sound e =
+    by_judged : (j : Result Unit BoardRefusal) → board_by bytes j ≡ lanes ls → get_or ls k empty ≡ lane_of (block_at bytes k)
+    by_judged (Ok tt) e =
         let same : lanes_of bytes ≡ ls = cc in
         rw (← same) (rw (zero-add k) at (lane_at_lem bytes 8 0 k h))
-    by_judged (judged.Refused x) e = absurd (let z : ◌≡◌ {A = ℕ} 0 1 = cc in (omega arith))
+    by_judged (Err x) e = absurd (let z : ◌≡◌ {A = ℕ} 0 1 = cc in (omega arith))
 
 -- a lane shows what is read as its block
 lane-shows : (c : Card) (a : List ℕ) (code : ℕ) {k : ℕ} {d : List ℕ} → k < 8 → block_at (board_served c a code 128).read k ≡ d →

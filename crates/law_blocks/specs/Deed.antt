@@ -1,10 +1,8 @@
 -- What a call or a line does that can change a block of a store: it makes a request, or it sets a block. And which block it names for that,
 -- and what it brings.
-use Rattle.std.specs.Prelude.{ℕ, true, List, ◌≡◌, length}
+use Rattle.std.specs.Prelude.{ℕ, true, List, ◌≡◌, length, Some, Ok}
 use Rattle.service_code.specs.declared.code.ServiceKind.TheVariants.{Random}
-use Rattle.service_code.specs.declared.code.DecodedKind.TheVariants.{Defined as OfKind}
 use Rattle.service_code.specs.Code.{number_of, code_kind_of}
-use Rattle.answers.specs.declared.refusal.Answer.TheVariants.{Done as Found}
 use Rattle.card_build.specs.declared.card.Card.{Card}
 use Rattle.request_plan.specs.declared.Reply.TheVariants.{Done}
 use Rattle.request_plan.specs.Request.{Request}
@@ -20,7 +18,7 @@ pub data Deed : Type 0 where
 -- the request is accepted; the block is there
 abbrev pub DeedDone : Card → List ℕ → Deed → Type 0
 DeedDone c a (requested r) = (serve c a r).reply ≡ Done
-DeedDone c a (block_set code number bytes) = block_judged c (length a) code number ≡ Found
+DeedDone c a (block_set code number bytes) = block_judged c (length a) code number ≡ Ok tt
 DeedDone c a neither = Unit {0}
 
 -- block k of number n is named for writing: by an element of a write, or by code and number
@@ -33,5 +31,5 @@ DeedNames n k neither = ⊥
 abbrev pub DeedBrings : ℕ → ℕ → List ℕ → Deed → Type 0
 DeedBrings n k d (requested r) = (r.write ≡ true) × LastBrings n k d r
 DeedBrings n k d (block_set code number bytes) =
-    (number_of code ≡ n) × (number ≡ k) × (code_kind_of code ≡ OfKind Random) × (length bytes ≡ 16) × (bytes ≡ d)
+    (number_of code ≡ n) × (number ≡ k) × (code_kind_of code ≡ Some Random) × (length bytes ≡ 16) × (bytes ≡ d)
 DeedBrings n k d neither = ⊥

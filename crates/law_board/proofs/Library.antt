@@ -1,4 +1,6 @@
 -- The library's board. Read specs/Library.antt for the statements: `BoardCall` and `LibraryShows`.
+use Rattle.std.specs.Prelude.{Err, Ok}
+use Rattle.std.proofs.Common.{Result}
 use Prim.Native.Nat.{ℕ, zero, suc, ◌+◌, ◌*◌, ◌≤◌, ◌<◌}
 use native.Mathlib.Omega.{arith}
 use native.Mathlib.Nat.{add-zero, zero-add}
@@ -11,16 +13,12 @@ use lib.Seq.{take_at, take_all, length-take-le, drop-append-add}
 use borrow.Author.Tests.{ltb-true, ltb-false, eq-eqb}
 use Rattle.byte_parts.specs.Part.{part, put, padded}
 use Rattle.byte_parts.proofs.Part.{part-part, part-put}
-use Rattle.answers.specs.declared.refusal.Answer.{Answer as Setting}
-use Rattle.answers.specs.declared.refusal.Answer.TheVariants as settings
 use Rattle.card_build.specs.declared.card.Card.{Card}
 use Rattle.request_block.specs.Block.{block_judged, arena_set}
 use Rattle.request_plan.specs.declared.Reply.{Reply}
 use Rattle.request_plan.specs.declared.Reply.TheVariants as replies
 use Rattle.board_lanes.specs.declared.refusal.BoardRefusal.{BoardRefusal}
 use Rattle.board_lanes.specs.declared.refusal.BoardRefusal.TheVariants.{RacesDiffer, WrongLane, BadCrew, TailNotZero}
-use Rattle.board_lanes.specs.declared.lanes.Judged.{Judged}
-use Rattle.board_lanes.specs.declared.lanes.Judged.TheVariants as judged
 use Rattle.board_lanes.specs.Board.{block_at, board_number, Lane, empty, filled, lane_of, lanes_from, lanes_of, lanes, board_judged, board_of}
 use Rattle.board_lanes.specs.Records.{lane_record, lanes_records}
 use Rattle.board_read.specs.Refresh.{board_served, refreshed_by, refreshed_after, refreshed}
@@ -39,6 +37,7 @@ use Rattle.law_blocks.proofs.Lane.{holds_shows}
 use Rattle.law_lines.specs.Shown.{eight_of}
 use Rattle.law_lines.proofs.Shown.{eight-read}
 use Rattle.law_board.specs.Library.{BoardCall, LibraryCall, requests, boards, sets, call_left, call_arena, call_deed, CallsRan, LibraryShows}
+use Rattle.answers.specs.declared.refusal.Refusal.{Refusal}
 
 -- no refusal of the board returns 0
 numbered : (x : BoardRefusal) → 65536 * board_number x ≡ 0 → ⊥
@@ -48,18 +47,18 @@ numbered BadCrew e = omega arith
 numbered TailNotZero e = omega arith
 
 -- so 0 is returned of a board alone
-zero_judged : (j : Judged) → refreshed_as (refreshed_by j) ≡ 0 → j ≡ judged.Sound
-zero_judged judged.Sound e = refl
-zero_judged (judged.Refused x) e = absurd (numbered x e)
+zero_judged : (j : Result Unit BoardRefusal) → refreshed_as (refreshed_by j) ≡ 0 → j ≡ (Ok tt)
+zero_judged (Ok tt) e = refl
+zero_judged (Err x) e = absurd (numbered x e)
 
 module _ (c : Card) (a : List ℕ) (code room : ℕ) where
   zero_board : refreshed_as (refreshed c a code room) ≡ 0 →
-      ((board_served c a code room).reply ≡ replies.Done) × (board_judged (board_served c a code room).read ≡ judged.Sound)
+      ((board_served c a code room).reply ≡ replies.Done) × (board_judged (board_served c a code room).read ≡ (Ok tt))
   unfolding refreshed
   zero_board = by_reply (board_served c a code room).reply
     where
       by_reply : (x : Reply) → refreshed_as (refreshed_after (board_served c a code room) x) ≡ 0 →
-          (x ≡ replies.Done) × (board_judged (board_served c a code room).read ≡ judged.Sound)
+          (x ≡ replies.Done) × (board_judged (board_served c a code room).read ≡ (Ok tt))
       by_reply (replies.Refused r) e = absurd (let z = zero_done (replies.Refused r) e in let y : ◌≡◌ {A = ℕ} 0 1 = cc in omega arith)
       by_reply replies.Done e = (refl, zero_judged (board_judged (board_served c a code room).read) e)
       by_reply replies.ShortData e = absurd (let z = zero_done replies.ShortData e in let y : ◌≡◌ {A = ℕ} 0 1 = cc in omega arith)
@@ -80,7 +79,7 @@ module _ (c : Card) (z : length c.nodes ≡ 64) (a : List ℕ) (code : ℕ) (old
   room = board_room (length old)
 
   -- the card answers 00 00, and the blocks make a board
-  done : ((board_served c a code room).reply ≡ replies.Done) × (board_judged (board_served c a code room).read ≡ judged.Sound)
+  done : ((board_served c a code room).reply ≡ replies.Done) × (board_judged (board_served c a code room).read ≡ (Ok tt))
   done = zero_board c a code room e
 
   -- all 128 bytes were lent
@@ -94,7 +93,7 @@ module _ (c : Card) (z : length c.nodes ≡ 64) (a : List ℕ) (code : ℕ) (old
   read-eight : (board_served c a code room).read ≡ eight_of c a code
   read-eight = ap (λ (n : ℕ). (board_served c a code n).read) wide.0 ∙ eight-read c a code done-eight
 
-  sound : board_judged (eight_of c a code) ≡ judged.Sound
+  sound : board_judged (eight_of c a code) ≡ (Ok tt)
   sound = ap board_judged (sym read-eight) ∙ done.1
 
   -- so there is a board
@@ -163,14 +162,14 @@ module _ (c : Card) where
   returned (writes «open» codes count list «data» staging) x = refl
 
 -- a set block that returns 0 was found
-zero_found : (x : Setting) → answer_as x ≡ 0 → x ≡ settings.Done
-zero_found settings.Done e = refl
-zero_found (settings.Refused r) e = absurd (let z = zero_done (replies.Refused r) e in let y : ◌≡◌ {A = ℕ} 0 1 = cc in omega arith)
+zero_found : (x : Result Unit Refusal) → answer_as x ≡ 0 → x ≡ (Ok tt)
+zero_found (Ok tt) e = refl
+zero_found (Err r) e = absurd (let z = zero_done (replies.Refused r) e in let y : ◌≡◌ {A = ℕ} 0 1 = cc in omega arith)
 
 -- and a block of another length returns no 0
-unfit_found : (x : Setting) → answer_as (unfit_after x) ≡ 0 → ⊥
-unfit_found settings.Done e = omega arith
-unfit_found (settings.Refused r) e = let z = zero_found (settings.Refused r) e in let y : ◌≡◌ {A = ℕ} 0 1 = cc in omega arith
+unfit_found : (x : Result Unit Refusal) → answer_as (unfit_after x) ≡ 0 → ⊥
+unfit_found (Ok tt) e = omega arith
+unfit_found (Err r) e = let z = zero_found (Err r) e in let y : ◌≡◌ {A = ℕ} 0 1 = cc in omega arith
 
 module _ (c : Card) (z : length c.nodes ≡ 64) {n k : ℕ} {d : List ℕ} (a : List ℕ) where
   -- a call that returned 0 leaves what it brings

@@ -1,16 +1,15 @@
 -- An `L` line of a replay shows what was written last. Read specs/Redraw.antt for the statement: `LineShows s`. The last law says that it
 -- holds of every state whose card has 64 records.
+use Rattle.std.proofs.Common.{Option, Some, None}
 use Prim.Native.Nat.{ℕ}
 use mathlib.Core.Path.{◌≡◌, refl, sym, ap, ap₂, ◌∙◌}
 use mathlib.Core.Bool.{Bool, true, false}
 use mathlib.Core.List.{List, [], ◌∷◌, map}
 use lib.ListN.{length}
 use Rattle.card_build.specs.declared.card.Card.{Card}
-use Rattle.text_numbers.specs.declared.codes.Code.{Code}
-use Rattle.text_numbers.specs.declared.codes.Code.TheVariants.{Is, Bad}
 use Rattle.request_plan.proofs.Accepted.{read_leaves}
 use Rattle.line_request.specs.declared.Ask.{Ask}
-use Rattle.line_request.specs.declared.Ask.TheVariants.{Malformed, Read, Write}
+use Rattle.line_request.specs.declared.Ask.TheVariants.{Read, Write}
 use Rattle.line_request.specs.Ask.{ask_of}
 use Rattle.line_serve.specs.Line.{ask_served, line_served}
 use Rattle.law_terminals.specs.Orders.{after}
@@ -28,15 +27,15 @@ use Rattle.law_board.specs.Redraw.{refresh_by, request_in, LineShows}
 
 module _ (c : Card) (a line : List ℕ) where
   -- a refresh leaves the arena, as its request does
-  refresh_arena : (x : Code) → arena_after c a (refresh_by x) ≡ a
-  refresh_arena Bad = read_leaves c a (refresh_by Bad) refl
-  refresh_arena (Is code) = read_leaves c a (refresh_by (Is code)) refl
+  refresh_arena : (x : Option ℕ) → arena_after c a (refresh_by x) ≡ a
+  refresh_arena None = read_leaves c a (refresh_by None) refl
+  refresh_arena (Some code) = read_leaves c a (refresh_by (Some code)) refl
 
   -- a request line leaves what its request does
-  pub request-arena : (x : Ask) → (ask_served c a lent_bytes line x).arena ≡ arena_after c a (request_by lent_bytes line x)
-  request-arena Malformed = sym (read_leaves c a (request_by lent_bytes line Malformed) refl)
-  request-arena (Read «open» count) = refl
-  request-arena (Write «open» count) = refl
+  pub request-arena : (x : Option Ask) → (ask_served c a lent_bytes line x).arena ≡ arena_after c a (request_by lent_bytes line x)
+  request-arena None = sym (read_leaves c a (request_by lent_bytes line None) refl)
+  request-arena (Some (Read «open» count)) = refl
+  request-arena (Some (Write «open» count)) = refl
 
 -- a line leaves the card, and the arena that its request leaves
 pub line_leaves : (s : Held) (line : List ℕ) → Taken s.replay.phase (line ∷ []) →

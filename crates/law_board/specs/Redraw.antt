@@ -1,8 +1,6 @@
 -- An `L` line of a replay shows what was written last: the statement.
-use Rattle.std.specs.Prelude.{ℕ, ◌<◌, true, cond, List, [], ◌∷◌, map, ◌≡◌}
+use Rattle.std.specs.Prelude.{ℕ, ◌<◌, true, cond, List, [], ◌∷◌, map, ◌≡◌, Option, Some, None}
 use Rattle.service_code.specs.Code.{number_of}
-use Rattle.text_numbers.specs.declared.codes.Code.{Code}
-use Rattle.text_numbers.specs.declared.codes.Code.TheVariants.{Is, Bad}
 use Rattle.request_plan.specs.Request.{Request, read_request}
 use Rattle.line_request.specs.Ask.{ask_of}
 use Rattle.law_terminals.specs.Last.{Redrawn}
@@ -17,9 +15,9 @@ use Rattle.law_lines.specs.Shown.{board_text}
 use Rattle.law_lines.specs.Lines.{Taken, held_after}
 
 -- the request that a line makes: the read of a refresh, or that of a request line; a malformed `L` line counts as a read of nothing
-abbrev pub refresh_by : Code → Request
-refresh_by Bad = read_request true [] 0 [] 0
-refresh_by (Is code) = board_request code 128
+abbrev pub refresh_by : Option ℕ → Request
+refresh_by None = read_request true [] 0 [] 0
+refresh_by (Some code) = board_request code 128
 
 unfoldable pub request_in : List ℕ → Request
 request_in line = cond (board_line line) (refresh_by (board_code line)) (request_by lent_bytes line (ask_of line))
@@ -38,6 +36,6 @@ abbrev pub LineShows : Held → Type 0
 LineShows s =
     (n k : ℕ) (d w : List ℕ) (ls : List (List ℕ)) (line : List ℕ) (code : ℕ)
     → Taken s.replay.phase (w ∷ ls)
-    → board_code line ≡ Is code → k < 8 → number_of code ≡ n
+    → board_code line ≡ Some code → k < 8 → number_of code ≡ n
     → Redrawn s.replay.card n k d s.arena (request_in w) (map request_in ls) (board_request code 128)
     → Prints (held_after s (w ∷ ls)) line code k d

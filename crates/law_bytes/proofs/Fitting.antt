@@ -1,4 +1,5 @@
 -- Which cards fit their bytes: what is read of bytes, and what accepted calls with numbers of their fields' widths make of a card that fits.
+use Rattle.std.proofs.Common.{None, Result, Ok, Err}
 use mathlib.Core.Path.{◌≡◌, refl, sym, ap, subst}
 use mathlib.Core.Bool.{Bool, true, false, cond}
 use mathlib.Core.List.{List, [], ◌∷◌, ◌++◌}
@@ -16,14 +17,10 @@ use Rattle.byte_parts.specs.Values.{Bytes}
 use Rattle.answers.specs.declared.refusal.Refusal.{Refusal}
 use Rattle.answers.specs.declared.refusal.Refusal.TheVariants.{TableFull, ShortArena}
 use Rattle.byte_parts.specs.Word.{word_at, signed_of}
-use Rattle.service_code.specs.declared.limit.Limit.TheVariants.{Unlimited, Limited}
 use Rattle.card_nodes.specs.declared.node.Entry.{Entry}
 use Rattle.card_nodes.specs.declared.node.Entry.TheVariants.{Area, Service}
 use Rattle.card_nodes.specs.declared.node.Node.{Node}
-use Rattle.answers.specs.declared.refusal.Answer.{Answer}
-use Rattle.answers.specs.declared.refusal.Answer.TheVariants.{Done, Refused}
 use Rattle.card_admit.specs.declared.Placed.{Placed}
-use Rattle.card_admit.specs.declared.Placed.TheVariants.{Store, Refused as NotPlaced}
 use Rattle.card_nodes.specs.Node.{root_node, start_of, blocks_of}
 use Rattle.card_admit.specs.Admit.{area_judged, placed_of, agreed}
 use Rattle.card_admit.proofs.Growth.{stored, used-most}
@@ -47,6 +44,7 @@ use Rattle.handset_bytes.specs.Fits.{LimitFits, EntryFits, NodeFits, SystemFits,
 use Rattle.handset_bytes.proofs.Heads.{card_headed, nodes-count, all-count}
 use Rattle.law_bytes.proofs.Records.{entry_by}
 use Rattle.law_bytes.proofs.Round.{root_fits, few_fit}
+use Rattle.service_code.specs.Limit.{limited_to}
 
 -- a number of 32 bits, with a sign
 signed-fits : (v : ℕ) → v < 2 ^ 32 → mag (signed_of v) < 2 ^ 31
@@ -154,7 +152,7 @@ set-fits (x ∷ ns) (suc k) n old new (suc i) = set-fits ns k n (λ j. old (suc 
 
 -- a call that was refused is not accepted
 not_accepted : {A : Type 0} {c c' : Card} {r : Refusal} → refused c r ≡ accepted c' → A
-not_accepted e = let a : Refused _ ≡ Done = ap (λ (x : Added). x.answer) e in absurd (let z : ◌≡◌ {A = ℕ} 0 1 = cc in (omega arith))
+not_accepted e = let a : Err _ ≡ (Ok tt) = ap (λ (x : Added). x.answer) e in absurd (let z : ◌≡◌ {A = ℕ} 0 1 = cc in (omega arith))
 
 -- the card of an accepted call fits, if its nodes do
 then-fits : {c d c' : Card} → Fits c → Built c' → accepted d ≡ accepted c' → d.system ≡ c.system →
@@ -176,12 +174,12 @@ module _ {c c' : Card} (f : Fits c) where
       n : Node
       n = node_as depth code version (Area end)
 
-      by : (a : Answer) → area_judged (nodes_of c) depth code end ≡ a → Built c' → area_by c n a ≡ accepted c' → Fits c'
-      by Done j z e =
+      by : (a : Result Unit Refusal) → area_judged (nodes_of c) depth code end ≡ a → Built c' → area_by c n a ≡ accepted c' → Fits c'
+      by (Ok tt) j z e =
           let d = area_deep (nodes_of c) depth code end j in
           let x : NodeFits n = record { depth = omega arith; code = h; version = l; entry = k } in
           then-fits f z e refl (set-fits c.nodes c.count n f.nodes x)
-      by (Refused r) j z e = not_accepted e
+      by (Err r) j z e = not_accepted e
 
       full : (t : Bool) → Built c' → cond t (refused c TableFull) (area_by c n (area_judged (nodes_of c) depth code end)) ≡ accepted c' → Fits c'
       full true z e = not_accepted e
@@ -199,23 +197,23 @@ module _ {c c' : Card} (f : Fits c) where
       store (Area end) g = (omega arith, omega arith)
       store (Service s b l) g = (g.0, g.1)
 
-      by : (a : Placed) → agreed c.system.join blocks (placed_of (nodes_of c) c.used arena_len depth code blocks) ≡ a → Sized c → Built c' →
+      by : (a : Result Placed Refusal) → agreed c.system.join blocks (placed_of (nodes_of c) c.used arena_len depth code blocks) ≡ a → Sized c → Built c' →
           service_by c depth code version a ≡ accepted c' → Fits c'
-      by (Store s b u) k z y e =
+      by (Ok placed) k z y e =
           let j = agreed-stored c.system.join blocks (placed_of (nodes_of c) c.used arena_len depth code blocks) k in
           let d = service_known (nodes_of c) c.used arena_len depth code blocks j in
           let least = used-most (nodes_of c) depth code c.used arena_len blocks j z.most in
-          let own : (s < 2 ^ 16) × (b < 2 ^ 16) =
+          let own : (placed.start < 2 ^ 16) × (placed.blocks < 2 ^ 16) =
           ⊎_elim
           (λ o.
           let g = store (get_or (nodes_of c) o.first root_node).entry (few_fit c.count o.first c.nodes root_fits f.nodes).entry in
           (omega arith, omega arith))
           (λ o. (omega arith, omega arith))
           (stored (nodes_of c) depth code c.used arena_len blocks j) in
-          let x : NodeFits (node_as depth code version (Service s b Unlimited)) =
+          let x : NodeFits (node_as depth code version (Service placed.start placed.blocks None)) =
           record { depth = omega arith; code = h; version = l; entry = (own.0, own.1, tt) } in
           then-fits f y e refl (set-fits c.nodes c.count _ f.nodes x)
-      by (NotPlaced r) j z y e = not_accepted e
+      by (Err r) j z y e = not_accepted e
 
       short : (t u : Bool) → Sized c → Built c' → cond t (refused c ShortArena) (cond u (refused c TableFull)
           (service_by c depth code version (agreed c.system.join blocks (placed_of (nodes_of c) c.used arena_len depth code blocks)))) ≡ accepted c' → Fits c'
@@ -224,17 +222,17 @@ module _ {c c' : Card} (f : Fits c) where
       short false false z y e = by (agreed c.system.join blocks (placed_of (nodes_of c) c.used arena_len depth code blocks)) refl z y e
 
   -- an accepted limit
-  pub limit-fits : (upper lower : ℤ) (generation : ℕ) → LimitFits (Limited upper lower generation) →
+  pub limit-fits : (upper lower : ℤ) (generation : ℕ) → LimitFits (limited_to upper lower generation) →
       limit_added c upper lower generation ≡ accepted c' → Fits c'
   unfolding limit_added set_limit
   limit-fits upper lower generation h e =
       let p = past-eight c f.records e in
       by (last_node c).entry (f.nodes (c.count - 1)).entry (Built.limit upper lower generation p.0 p.1) p.1
     where
-      by : (t : Entry) → EntryFits t → Built c' → limit_by c (Limited upper lower generation) t ≡ accepted c' → Fits c'
+      by : (t : Entry) → EntryFits t → Built c' → limit_by c (limited_to upper lower generation) t ≡ accepted c' → Fits c'
       by (Area end) g y e = not_accepted e
       by (Service s b old) g y e =
           let o = f.nodes (c.count - 1) in
-          let x : NodeFits (node_as (last_node c).depth (last_node c).code (last_node c).version (Service s b (Limited upper lower generation))) =
+          let x : NodeFits (node_as (last_node c).depth (last_node c).code (last_node c).version (Service s b (limited_to upper lower generation))) =
           record { depth = o.depth; code = o.code; version = o.version; entry = (g.0, g.1, h) } in
           then-fits f y e refl (set-fits c.nodes (c.count - 1) _ f.nodes x)

@@ -7,7 +7,6 @@ use lib.IntN.{ℤ}
 use lib.ListN.{length}
 use borrow.Author.Tests.{eq-eqb}
 use Rattle.byte_parts.specs.Values.{Bytes}
-use Rattle.service_code.specs.declared.limit.Limit.TheVariants.{Limited}
 use Rattle.card_build.specs.declared.card.System.{System}
 use Rattle.card_build.specs.declared.card.Card.{Card}
 use Rattle.card_build.specs.declared.card.Added.{Added}
@@ -20,6 +19,7 @@ use Rattle.handset_bytes.specs.Fits.{LimitFits, SystemFits, Fits}
 use Rattle.law_bytes.proofs.Round.{valid_long, read_back, unsound}
 use Rattle.law_bytes.proofs.Fitting.{decoded_fits, new-fits, area-fits, service-fits, limit-fits}
 use Rattle.handset_words.specs.Kept.{card_after}
+use Rattle.service_code.specs.Limit.{limited_to}
 
 -- bytes of a card's length, written anew
 put_back : (s : List ℕ) (c : Card) → length s ≡ card_size → Fits c → card_decoded (card_put c s) ≡ c
@@ -63,7 +63,7 @@ module _ (s : List ℕ) (b : Bytes s) {c' : Card} where
       left (built_sound (past-eight (card_decoded s) f.records e).0) e (service-fits f arena_len depth code blocks version h l e)
 
   -- a limit
-  pub limit-left : (upper lower : ℤ) (generation : ℕ) → LimitFits (Limited upper lower generation) →
+  pub limit-left : (upper lower : ℤ) (generation : ℕ) → LimitFits (limited_to upper lower generation) →
       limit_added (card_decoded s) upper lower generation ≡ accepted c' →
       card_decoded (card_after s (limit_added (card_decoded s) upper lower generation)) ≡ c'
   unfolding limit_added

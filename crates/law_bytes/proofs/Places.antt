@@ -1,4 +1,5 @@
 -- A card's fields lie apart from each other, and inside its bytes.
+use Rattle.std.proofs.Common.{Some, None}
 use mathlib.Core.Path.{◌≡◌, refl, ◌∙◌}
 use mathlib.Core.Bool.{false, cond}
 use mathlib.Core.List.{List, [], ◌∷◌}
@@ -10,7 +11,6 @@ use lib.ListN.{length}
 use borrow.Author.Tests.{lt-ltb, le-ltb}
 use Rattle.byte_parts.specs.Word.{word_bytes}
 use Rattle.byte_parts.specs.Half.{half_bytes}
-use Rattle.service_code.specs.declared.limit.Limit.TheVariants.{Unlimited, Limited}
 use Rattle.card_nodes.specs.declared.node.Entry.{Entry}
 use Rattle.card_nodes.specs.declared.node.Entry.TheVariants.{Area, Service}
 use Rattle.card_nodes.specs.declared.node.Node.{Node}
@@ -49,9 +49,9 @@ module _ (i : ℕ) (few : i < 64) where
   entry_rank : (e : Entry) → Under (λ p. rank_of p ≡ i + 1) (entry_fields i e)
   unfolding half_bytes word_bytes
   entry_rank (Area end) = (λ p l h. rank_half p i few 2 (omega arith) (omega arith) (omega arith), tt)
-  entry_rank (Service start blocks Unlimited) =
+  entry_rank (Service start blocks None) =
       (λ p l h. rank_half p i few 2 (omega arith) (omega arith) (omega arith), (λ p l h. rank_half p i few 3 (omega arith) (omega arith) (omega arith), tt))
-  entry_rank (Service start blocks (Limited upper lower generation)) = (
+  entry_rank (Service start blocks (Some limit)) = (
     λ p l h. rank_half p i few 2 (omega arith) (omega arith) (omega arith),
     (
       λ p l h. rank_half p i few 3 (omega arith) (omega arith) (omega arith),
@@ -85,17 +85,17 @@ module _ (i : ℕ) (few : i < 64) where
   entry_rising : (e : Entry) → Rising 288 (entry_fields i e)
   unfolding half_bytes word_bytes
   entry_rising (Area end) = (omega arith, tt)
-  entry_rising (Service start blocks Unlimited) = (omega arith, (omega arith, tt))
-  entry_rising (Service start blocks (Limited upper lower generation)) =
+  entry_rising (Service start blocks None) = (omega arith, (omega arith, tt))
+  entry_rising (Service start blocks (Some limit)) =
       (omega arith, (omega arith, (omega arith, (omega arith, (omega arith, tt)))))
 
   -- which lies apart from what only an area has, or only a service
   version_clear : (e : Entry) (p : ℕ) → 544 ≤ p → p < 800 → is_covered (entry_fields i e) p ≡ false
   unfolding half_bytes word_bytes
   version_clear (Area end) p l h = uncovered _ _ p (inr (omega arith)) (rising_clear 800 [] p tt h)
-  version_clear (Service start blocks Unlimited) p l h =
+  version_clear (Service start blocks None) p l h =
       uncovered _ _ p (inr (omega arith)) (uncovered _ _ p (inr (omega arith)) (rising_clear 800 [] p tt h))
-  version_clear (Service start blocks (Limited upper lower generation)) p l h =
+  version_clear (Service start blocks (Some limit)) p l h =
       uncovered _ _ p (inr (omega arith)) (uncovered _ _ p (inr (omega arith)) (rising_clear 800 _ p (omega arith, (omega arith, (omega arith, tt))) h))
 
   -- so a record's fields lie apart
@@ -117,8 +117,8 @@ module _ (i : ℕ) (few : i < 64) where
   entry-within : (e : Entry) → Within card_size (entry_fields i e)
   unfolding half_bytes word_bytes
   entry-within (Area end) = (omega arith, tt)
-  entry-within (Service start blocks Unlimited) = (omega arith, (omega arith, tt))
-  entry-within (Service start blocks (Limited upper lower generation)) =
+  entry-within (Service start blocks None) = (omega arith, (omega arith, tt))
+  entry-within (Service start blocks (Some limit)) =
       (omega arith, (omega arith, (omega arith, (omega arith, (omega arith, tt)))))
 
   node-within : (n : Node) → Within card_size (node_fields i n)

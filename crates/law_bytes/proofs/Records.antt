@@ -1,4 +1,5 @@
 -- One record: fields that stand are read as the node that they are of, and what reads as a node is what its fields are.
+use Rattle.std.proofs.Common.{Some, None}
 use mathlib.Core.Path.{◌≡◌, refl, sym, ap, ◌∙◌, subst}
 use mathlib.Core.Bool.{Bool, true, false, cond}
 use mathlib.Core.List.{List, [], ◌∷◌}
@@ -16,7 +17,6 @@ use Rattle.byte_parts.specs.Word.{word_at, word_bytes, signed_of, word_of}
 use Rattle.byte_parts.specs.Half.{half_bytes, half_at}
 use Rattle.byte_parts.proofs.Laws.{word_fits}
 use Rattle.byte_parts.proofs.Halves.{digit, small, split, half_back, half_says}
-use Rattle.service_code.specs.declared.limit.Limit.TheVariants.{Unlimited, Limited}
 use Rattle.card_nodes.specs.declared.node.Entry.{Entry}
 use Rattle.card_nodes.specs.declared.node.Entry.TheVariants.{Area, Service}
 use Rattle.card_nodes.specs.declared.node.Node.{Node}
@@ -25,6 +25,7 @@ use Rattle.handset_bytes.specs.Field.{field_of}
 use Rattle.handset_bytes.specs.Node.{kind_byte, entry_fields, node_fields, entry_in, node_in, is_record}
 use Rattle.handset_bytes.specs.Fits.{EntryFits, NodeFits}
 use Rattle.law_bytes.proofs.Fields.{Stands, AllStand}
+use Rattle.service_code.specs.Limit.{limited_to}
 
 -- four bytes of a number, put together again
 word_back : (v : ℕ) → v < 2 ^ 32 →
@@ -125,28 +126,28 @@ abbrev pub entry_by : List ℕ → ℕ → Bool → Bool → Entry
 entry_by s i area limited =
     cond area (Area (half_at s (start_place i)))
     (Service (half_at s (start_place i)) (half_at s (blocks_place i))
-    (cond limited (Limited (signed_of (word_at s (upper_place i))) (signed_of (word_at s (lower_place i))) (get_or s (generation_place i) 0)) Unlimited))
+    (cond limited (limited_to (signed_of (word_at s (upper_place i))) (signed_of (word_at s (lower_place i))) (get_or s (generation_place i) 0)) None))
 
 module _ (s : List ℕ) (i : ℕ) where
   -- an entry whose fields stand is read
   entry_read : (e : Entry) → EntryFits e → get_or s (kind_place i) 0 ≡ kind_byte e → AllStand s (entry_fields i e) → entry_in s i ≡ e
   entry_read (Area end) f k a = rw (k, half_read s (start_place i) end f a.0)
-  entry_read (Service start blocks Unlimited) f k a =
+  entry_read (Service start blocks None) f k a =
       rw (k, half_read s (start_place i) start f.0 a.0, half_read s (blocks_place i) blocks f.1 a.1.0)
-  entry_read (Service start blocks (Limited upper lower generation)) f k a =
+  entry_read (Service start blocks (Some limit)) f k a =
       rw (
         k,
         half_read s (start_place i) start f.0 a.0,
         half_read s (blocks_place i) blocks f.1 a.1.0,
-        byte_read_lem s (generation_place i) generation a.1.1.0,
-        bound_read s (upper_place i) upper f.2.0 a.1.1.1.0,
-        bound_read s (lower_place i) lower f.2.1 a.1.1.1.1.0,
+        byte_read_lem s (generation_place i) limit.generation a.1.1.0,
+        bound_read s (upper_place i) limit.upper f.2.0 a.1.1.1.0,
+        bound_read s (lower_place i) limit.lower f.2.1 a.1.1.1.1.0,
       )
 
   kind_known : (e : Entry) → kind_byte e ≤ 2
   kind_known (Area end) = omega arith
-  kind_known (Service start blocks Unlimited) = omega arith
-  kind_known (Service start blocks (Limited upper lower generation)) = omega arith
+  kind_known (Service start blocks None) = omega arith
+  kind_known (Service start blocks (Some limit)) = omega arith
 
   -- a node whose fields stand is read, and is of a kind that there is
   pub node-read : (n : Node) → NodeFits n → AllStand s (node_fields i n) → (node_in s i ≡ n) × (is_record s i ≡ true)
@@ -169,7 +170,7 @@ module _ (s : List ℕ) (i : ℕ) where
 
     -- its kind too, if there is one
     kind_says : (k a c : ℕ) (x y : ℤ) (g : ℕ) → k ≤ 2 →
-        kind_byte (cond (eqb k 0) (Area a) (Service a c (cond (eqb k 2) (Limited x y g) Unlimited))) ≡ k
+        kind_byte (cond (eqb k 0) (Area a) (Service a c (cond (eqb k 2) (limited_to x y g) None))) ≡ k
     kind_says zero a c x y g h = refl
     kind_says (suc zero) a c x y g h = refl
     kind_says (suc (suc zero)) a c x y g h = refl

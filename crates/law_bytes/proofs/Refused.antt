@@ -1,4 +1,5 @@
 -- Bytes that encode no card are refusal 8 to every call, and so is every card that is not sound.
+use Rattle.std.proofs.Common.{Err}
 use mathlib.Core.Path.{◌≡◌, refl}
 use mathlib.Core.Bool.{Bool, true, false, cond}
 use mathlib.Core.List.{List}
@@ -7,7 +8,6 @@ use lib.Dec.{eqb}
 use lib.IntN.{ℤ}
 use lib.ListN.{length}
 use Rattle.answers.specs.declared.refusal.Refusal.TheVariants.{NotBuilt}
-use Rattle.answers.specs.declared.refusal.Answer.TheVariants.{Refused}
 use Rattle.card_build.specs.declared.card.Card.{Card}
 use Rattle.card_build.specs.Card.{is_sound}
 use Rattle.card_build.specs.Build.{area_added, service_added, limit_added}
@@ -35,7 +35,7 @@ module _ (c : Card) (no : is_sound c ≡ false) where
   unfolding serve plan_of judged_with
   request arena r = rw no
 
-  block : (arena_len code number : ℕ) → block_judged c arena_len code number ≡ Refused NotBuilt
+  block : (arena_len code number : ℕ) → block_judged c arena_len code number ≡ Err NotBuilt
   unfolding block_judged
   block arena_len code number = rw no
 
@@ -44,7 +44,7 @@ module _ (c : Card) (no : is_sound c ≡ false) where
   unfolding set_answer
   block-set arena_len code number bytes = rw (block arena_len code number) (by (eqb (length bytes) 16))
     where
-      by : (t : Bool) → answer_as (cond t (Refused NotBuilt) (unfit_after (Refused NotBuilt))) ≡ eight
+      by : (t : Bool) → answer_as (cond t (Err NotBuilt) (unfit_after (Err NotBuilt))) ≡ eight
       by true = refl
       by false = refl
 

@@ -1,4 +1,5 @@
 -- Request lines: `request_line` promises to be a call of which the laws on runs speak, and to print its answer; those laws hold of it.
+use Rattle.std.proofs.Common.{Option, Some, None}
 use Prim.Native.Nat.{ℕ, ◌*◌}
 use native.Mathlib.Omega.{arith}
 use mathlib.Core.Path.{◌≡◌, refl, sym, ◌∙◌}
@@ -15,7 +16,7 @@ use Rattle.card_build.specs.declared.card.Card.{Card}
 use Rattle.request_plan.specs.declared.Reply.TheVariants.{Done}
 use Rattle.request_plan.proofs.Accepted.{read_leaves}
 use Rattle.line_request.specs.declared.Ask.{Ask}
-use Rattle.line_request.specs.declared.Ask.TheVariants.{Malformed, Read, Write}
+use Rattle.line_request.specs.declared.Ask.TheVariants.{Read, Write}
 use Rattle.line_request.specs.Ask.{ask_of}
 use Rattle.line_answer.specs.Answer.{answer_text}
 use Rattle.line_serve.specs.Line.{ask_served, line_served, work_by, work_after}
@@ -31,22 +32,22 @@ use Rattle.line_serve.specs.contracts.request_line as line
 
 -- what comes of a line is what comes of its request, but for a malformed one
 module _ (c : Card) (a : List ℕ) (work line : List ℕ) where
-  answer_by : (x : Ask) → record { reply = (ask_served c a (length work) line x).reply; read = (ask_served c a (length work) line x).read }
+  answer_by : (x : Option Ask) → record { reply = (ask_served c a (length work) line x).reply; read = (ask_served c a (length work) line x).read }
       ≡ line_told_by x (answer_of c a (request_by (length work) line x))
-  answer_by Malformed = refl
-  answer_by (Read «open» count) = refl
-  answer_by (Write «open» count) = refl
+  answer_by None = refl
+  answer_by (Some (Read «open» count)) = refl
+  answer_by (Some (Write «open» count)) = refl
 
-  arena_by : (x : Ask) → (ask_served c a (length work) line x).arena ≡ arena_after c a (request_by (length work) line x)
-  arena_by Malformed = sym (read_leaves c a (request_by (length work) line Malformed) refl)
-  arena_by (Read «open» count) = refl
-  arena_by (Write «open» count) = refl
+  arena_by : (x : Option Ask) → (ask_served c a (length work) line x).arena ≡ arena_after c a (request_by (length work) line x)
+  arena_by None = sym (read_leaves c a (request_by (length work) line None) refl)
+  arena_by (Some (Read «open» count)) = refl
+  arena_by (Some (Write «open» count)) = refl
 
-  work_by_lem : (x : Ask) → work_by (16 * c.used) work (ask_served c a (length work) line x) x
+  work_by_lem : (x : Option Ask) → work_by (16 * c.used) work (ask_served c a (length work) line x) x
       ≡ work_left c work (answer_of c a (request_by (length work) line x)) x
-  work_by_lem Malformed = refl
-  work_by_lem (Read «open» count) = refl
-  work_by_lem (Write «open» count) = refl
+  work_by_lem None = refl
+  work_by_lem (Some (Read «open» count)) = refl
+  work_by_lem (Some (Write «open» count)) = refl
 
 module _ (c : Card) (a : List ℕ) (k : LineCall) where
   -- what the answer to a line's request leaves
@@ -91,17 +92,17 @@ module _ (c : Card) (z : length c.nodes ≡ 64) where
   lines_two = two_runs c line_request (line_left c) z
 
   -- a line that is told `Done` asked a request that was done
-  pub told-done : (x : Ask) (y : Answer) → (line_told_by x y).reply ≡ Done → y.reply ≡ Done
-  told-done Malformed y e = absurd (let z : ◌≡◌ {A = ℕ} 0 1 = cc in (omega arith))
-  told-done (Read «open» count) y e = e
-  told-done (Write «open» count) y e = e
+  pub told-done : (x : Option Ask) (y : Answer) → (line_told_by x y).reply ≡ Done → y.reply ≡ Done
+  told-done None y e = absurd (let z : ◌≡◌ {A = ℕ} 0 1 = cc in (omega arith))
+  told-done (Some (Read «open» count)) y e = e
+  told-done (Some (Write «open» count)) y e = e
 
   -- a line that asked a write that was done is told so
-  pub done-told : (k : LineCall) (x : Ask) (y : Answer) → (request_by (length k.work) k.line x).write ≡ true → y.reply ≡ Done →
+  pub done-told : (k : LineCall) (x : Option Ask) (y : Answer) → (request_by (length k.work) k.line x).write ≡ true → y.reply ≡ Done →
       (line_told_by x y).reply ≡ Done
-  done-told k Malformed y w e = absurd (false≢true w)
-  done-told k (Read «open» count) y w e = e
-  done-told k (Write «open» count) y w e = e
+  done-told k None y w e = absurd (false≢true w)
+  done-told k (Some (Read «open» count)) y w e = e
+  done-told k (Some (Write «open» count)) y w e = e
 
   -- the line that reads for the tower is answered what was written last
   pub lines_tower : TowerRuns c line_request (line_left c) (λ x. x.answer.reply ≡ Done)

@@ -1,11 +1,11 @@
 -- Request lines as calls: the request that a line makes, and what its answer leaves whoever put the line.
-use Rattle.std.specs.Prelude.{ℕ, true, List, [], length}
+use Rattle.std.specs.Prelude.{ℕ, true, List, [], length, Option, Some, None}
 use Rattle.answers.specs.declared.refusal.Refusal.TheVariants.{MalformedRequest}
 use Rattle.card_build.specs.declared.card.Card.{Card}
 use Rattle.request_plan.specs.declared.Reply.TheVariants.{Refused}
 use Rattle.request_plan.specs.Request.{Request, read_request, write_request}
 use Rattle.line_request.specs.declared.Ask.{Ask}
-use Rattle.line_request.specs.declared.Ask.TheVariants.{Malformed, Read, Write}
+use Rattle.line_request.specs.declared.Ask.TheVariants.{Read, Write}
 use Rattle.line_request.specs.Ask.{ask_of}
 use Rattle.line_serve.specs.Line.{codes_in, list_in, data_in, line_served, spelled_after}
 use Rattle.law_terminals.specs.Two.{Answer, output_of, staging_of}
@@ -17,10 +17,10 @@ pub record LineCall : Type 0 where
   pub bytes : List ℕ
 
 -- A malformed line makes no request: it counts as a read of nothing, whose answer nobody is told.
-abbrev pub request_by : ℕ → List ℕ → Ask → Request
-request_by room line Malformed = read_request true [] 0 [] room
-request_by room line (Read «open» count) = read_request «open» (codes_in line) count (list_in line) room
-request_by room line (Write «open» count) = write_request «open» (codes_in line) count (list_in line) (data_in line) room
+abbrev pub request_by : ℕ → List ℕ → Option Ask → Request
+request_by room line None = read_request true [] 0 [] room
+request_by room line (Some (Read «open» count)) = read_request «open» (codes_in line) count (list_in line) room
+request_by room line (Some (Write «open» count)) = write_request «open» (codes_in line) count (list_in line) (data_in line) room
 
 abbrev pub line_request : LineCall → Request
 line_request k = request_by (length k.work) k.line (ask_of k.line)
@@ -33,16 +33,16 @@ line_answer c a k = record {
 }
 
 -- what it is told: refusal 6 if it is malformed, else its request's answer
-abbrev pub line_told_by : Ask → Answer → Answer
-line_told_by Malformed x = record { reply = Refused MalformedRequest; read = [] }
-line_told_by (Read «open» count) x = x
-line_told_by (Write «open» count) x = x
+abbrev pub line_told_by : Option Ask → Answer → Answer
+line_told_by None x = record { reply = Refused MalformedRequest; read = [] }
+line_told_by (Some (Read «open» count)) x = x
+line_told_by (Some (Write «open» count)) x = x
 
 -- the buffer that is the output of a read and the staging of a write
-abbrev pub work_left : Card → List ℕ → Answer → Ask → List ℕ
-work_left c work x Malformed = work
-work_left c work x (Read «open» count) = output_of x work
-work_left c work x (Write «open» count) = staging_of c x work
+abbrev pub work_left : Card → List ℕ → Answer → Option Ask → List ℕ
+work_left c work x None = work
+work_left c work x (Some (Read «open» count)) = output_of x work
+work_left c work x (Some (Write «open» count)) = staging_of c x work
 
 -- what a line leaves: its answer, and the buffers after it
 pub record LineLeft : Type 0 where

@@ -1,5 +1,6 @@
 -- What lines of an inspection that neither build nor request show and leave. Read specs/Looks.antt for the statements: `InspectPrints` and
 -- `InspectLeaves`.
+use Rattle.std.proofs.Common.{Option, Some}
 use Prim.Native.Nat.{ℕ}
 use native.Mathlib.Omega.{arith}
 use mathlib.Core.Path.{◌≡◌, refl, ap, ◌∙◌}
@@ -58,7 +59,7 @@ unfolding later_sort
 later_looks line p q = rw (p, q)
 
 -- after the first line
-pub goes_later : (phase : Phase) (line : List ℕ) → GoesOn phase → sort_of phase line ≡ later_sort line
+pub goes_later : (phase : Phase) (line : List ℕ) → GoesOn phase → sort_of phase line ≡ Some (later_sort line)
 unfolding sort_of
 goes_later First line g = absurd g
 goes_later Image line g = refl
@@ -66,34 +67,34 @@ goes_later Requests line g = refl
 goes_later Ended line g = absurd g
 
 -- an `L` line is taken for a refresh
-board_sort : (phase : Phase) (line : List ℕ) → GoesOn phase → board_line line ≡ true → sort_of phase line ≡ sorts.Replayed kinds.Board
-board_sort phase line g b = goes_later phase line g ∙ later_looks line (not_image line b) (not_request line b) ∙ rw b
+board_sort : (phase : Phase) (line : List ℕ) → GoesOn phase → board_line line ≡ true → sort_of phase line ≡ Some (sorts.Replayed kinds.Board)
+board_sort phase line g b = goes_later phase line g ∙ ap (λ (k : Sort). Some k) (later_looks line (not_image line b) (not_request line b) ∙ rw b)
 
 -- so it prints the board of the store as it stands
 pub inspect_prints : InspectPrints
 unfolding line_said
 inspect_prints s line code g e =
-    ap (λ (x : Sort). said_by x s line) (board_sort s.inspect.replay.phase line g (is_board_lem line code e))
+    ap (λ (x : Option Sort). said_by x s line) (board_sort s.inspect.replay.phase line g (is_board_lem line code e))
     ∙ prints_board s.inspect.replay.card s.arena line (one_more s.inspect.replay.asked) code e
 
 -- a refresh or a question writes nothing
 looks_only : (s : Seen) (line : List ℕ) (b : Bool) →
-    sort_of s.inspect.replay.phase line ≡ cond b (sorts.Replayed kinds.Board) (sorts.Asked (question_of line)) → LooksOnly s line
+    sort_of s.inspect.replay.phase line ≡ Some (cond b (sorts.Replayed kinds.Board) (sorts.Asked (question_of line))) → LooksOnly s line
 unfolding line_seen work_seen bytes_seen
 looks_only s line true e = record {
-  card = ap (λ (x : Sort). (seen_by x s line).inspect.replay.card) e;
-  arena = ap (λ (x : Sort). (seen_by x s line).arena) e;
-  work = λ lent. ap (λ (x : Sort). sort_work x s lent line) e;
-  bytes = λ lent. ap (λ (x : Sort). sort_bytes x lent line) e;
+  card = ap (λ (x : Option Sort). (seen_by x s line).inspect.replay.card) e;
+  arena = ap (λ (x : Option Sort). (seen_by x s line).arena) e;
+  work = λ lent. ap (λ (x : Option Sort). sort_work x s lent line) e;
+  bytes = λ lent. ap (λ (x : Option Sort). sort_bytes x lent line) e;
 }
 looks_only s line false e = record {
-  card = ap (λ (x : Sort). (seen_by x s line).inspect.replay.card) e;
-  arena = ap (λ (x : Sort). (seen_by x s line).arena) e;
-  work = λ lent. ap (λ (x : Sort). sort_work x s lent line) e;
-  bytes = λ lent. ap (λ (x : Sort). sort_bytes x lent line) e;
+  card = ap (λ (x : Option Sort). (seen_by x s line).inspect.replay.card) e;
+  arena = ap (λ (x : Option Sort). (seen_by x s line).arena) e;
+  work = λ lent. ap (λ (x : Option Sort). sort_work x s lent line) e;
+  bytes = λ lent. ap (λ (x : Option Sort). sort_bytes x lent line) e;
 }
 
 -- so what neither builds nor requests writes nothing
 pub inspect_leaves : InspectLeaves
 inspect_leaves s line g p q =
-    looks_only s line (board_line line) (goes_later s.inspect.replay.phase line g ∙ later_looks line p q)
+    looks_only s line (board_line line) (goes_later s.inspect.replay.phase line g ∙ ap (λ (k : Sort). Some k) (later_looks line p q))

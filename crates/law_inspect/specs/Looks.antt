@@ -1,14 +1,13 @@
 -- Refreshes among the lines of an inspection: each shows the board as it stands, in which a lane is as it was brought last; and what
 -- neither builds nor requests writes nothing. The statements.
-use Rattle.std.specs.Prelude.{ℕ, ◌<◌, false, List, [], ◌∷◌, ◌≡◌, get_or}
+use Rattle.std.specs.Prelude.{ℕ, ◌<◌, false, List, [], ◌∷◌, ◌≡◌, get_or, Some, Option, None}
 use Rattle.byte_parts.specs.Letters.{tab}
 use Rattle.service_code.specs.Code.{number_of}
 use Rattle.text_fields.specs.Field.{split}
-use Rattle.text_numbers.specs.declared.codes.Code.TheVariants.{Is}
 use Rattle.text_numbers.specs.Hex.{unhex}
 use Rattle.request_plan.specs.declared.Reply.TheVariants.{Done}
 use Rattle.line_image.specs.declared.line.Line.{Line}
-use Rattle.line_image.specs.declared.line.Line.TheVariants.{Malformed, Card as New, Area, Service, Limit, Block}
+use Rattle.line_image.specs.declared.line.Line.TheVariants.{Card as New, Area, Service, Limit, Block}
 use Rattle.line_image.specs.Line.{image_named, image_line}
 use Rattle.line_request.specs.Ask.{request_line, ask_of}
 use Rattle.board_lanes.specs.Board.{board_of}
@@ -40,7 +39,7 @@ GoesOn Ended = ⊥
 -- RULES 16.5
 abbrev pub InspectPrints : Type 0
 InspectPrints =
-    (s : Seen) (line : List ℕ) (code : ℕ) → GoesOn s.inspect.replay.phase → board_code line ≡ Is code
+    (s : Seen) (line : List ℕ) (code : ℕ) → GoesOn s.inspect.replay.phase → board_code line ≡ Some code
     → let p = s.inspect.replay in
     line_said s line
     ≡ shown_text (one_more p.asked) (board_served p.card s.arena code 128).reply (board_of (eight_of p.card s.arena code))
@@ -61,24 +60,24 @@ InspectLeaves =
     → LooksOnly s line
 
 -- what a line does to blocks, by what it is taken for: a `blk` line sets one, a request line makes a request
-abbrev pub image_deed : List ℕ → Line → Deed
-image_deed line Malformed = neither
-image_deed line (New system) = neither
-image_deed line (Area depth code end version) = neither
-image_deed line (Service depth code blocks version) = neither
-image_deed line (Limit upper lower generation) = neither
-image_deed line (Block code number) = block_set code number (unhex (get_or (split tab line) 3 []))
+abbrev pub image_deed : List ℕ → Option Line → Deed
+image_deed line None = neither
+image_deed line (Some (New system)) = neither
+image_deed line (Some (Area depth code end version)) = neither
+image_deed line (Some (Service depth code blocks version)) = neither
+image_deed line (Some (Limit upper lower generation)) = neither
+image_deed line (Some (Block code number)) = block_set code number (unhex (get_or (split tab line) 3 []))
 
-abbrev pub kind_deed : Kind → List ℕ → Deed
-kind_deed (kinds.Image first) line = image_deed line (image_line first line)
-kind_deed kinds.Request line = requested (request_by lent_bytes line (ask_of line))
-kind_deed kinds.Board line = neither
-kind_deed kinds.Nothing line = neither
+abbrev pub kind_deed : Option Kind → List ℕ → Deed
+kind_deed (Some (kinds.Image first)) line = image_deed line (image_line first line)
+kind_deed (Some kinds.Request) line = requested (request_by lent_bytes line (ask_of line))
+kind_deed (Some kinds.Board) line = neither
+kind_deed None line = neither
 
-abbrev pub sort_deed : Sort → List ℕ → Deed
-sort_deed (sorts.Replayed kind) line = kind_deed kind line
-sort_deed (sorts.Asked q) line = neither
-sort_deed sorts.Nothing line = neither
+abbrev pub sort_deed : Option Sort → List ℕ → Deed
+sort_deed (Some (sorts.Replayed kind)) line = kind_deed (Some kind) line
+sort_deed (Some (sorts.Asked q)) line = neither
+sort_deed None line = neither
 
 unfoldable pub line_deed : Seen → List ℕ → Deed
 line_deed s line = sort_deed (sort_of s.inspect.replay.phase line) line
@@ -114,7 +113,7 @@ InspectShows s =
     → GoesOn s.inspect.replay.phase
     → LineDone s w → DeedBrings n k d (line_deed s w)
     → QuietLines n k (line_seen s w) ls
-    → board_code line ≡ Is code → k < 8 → number_of code ≡ n
+    → board_code line ≡ Some code → k < 8 → number_of code ≡ n
     → let t = seen_after s (w ∷ ls) in
     GoesOn t.inspect.replay.phase
     → (board_served t.inspect.replay.card t.arena code 128).reply ≡ Done

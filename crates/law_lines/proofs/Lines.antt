@@ -1,5 +1,6 @@
 -- A refresh leaves everything as it was, and has no part in a later one. Read specs/Lines.antt for the statements: `LeavesAll` and
 -- `NoEarlierPart`.
+use Rattle.std.proofs.Common.{Some, None, Option}
 use Prim.Native.Nat.{ℕ}
 use native.Mathlib.Omega.{arith}
 use mathlib.Core.Path.{◌≡◌, refl, sym, ap, ap₂, subst, ◌∙◌}
@@ -9,7 +10,6 @@ use lib.Dec.{ltb, eqb}
 use lib.ListN.{length}
 use Rattle.text_fields.specs.Field.{split}
 use Rattle.card_build.specs.declared.card.Card.{Card}
-use Rattle.text_numbers.specs.declared.codes.Code.TheVariants.{Is, Bad}
 use Rattle.text_numbers.specs.Codes.{hex16}
 use Rattle.line_request.specs.Ask.{field_in, request_line}
 use Rattle.line_serve.specs.Line.{line_served}
@@ -27,7 +27,7 @@ use Rattle.law_lines.specs.Lines.{Taken, LinePrints, LeavesAll, Without, none, k
 use Rattle.law_lines.proofs.Shown.{prints_board}
 
 -- an `L` line is taken for a refresh
-board-kind : (p : Phase) (line : List ℕ) → Taken p [] → board_line line ≡ true → taken_for p line ≡ kinds.Board
+board-kind : (p : Phase) (line : List ℕ) → Taken p [] → board_line line ≡ true → taken_for p line ≡ Some kinds.Board
 unfolding taken_for image_kind request_kind
 board-kind First line q b = absurd q
 board-kind Image line q b = rw b
@@ -35,7 +35,7 @@ board-kind Requests line q b = rw b
 board-kind Ended line q b = absurd q
 
 -- any other for a request
-pub request-kind : (p : Phase) (line : List ℕ) → Taken p (line ∷ []) → board_line line ≡ false → taken_for p line ≡ kinds.Request
+pub request-kind : (p : Phase) (line : List ℕ) → Taken p (line ∷ []) → board_line line ≡ false → taken_for p line ≡ Some kinds.Request
 unfolding taken_for image_kind request_kind
 request-kind First line q b = absurd q
 request-kind Image line q b = let r : request_line line ≡ true = by_test_lem (request_line line) (rw b at q) in rw (b, r)
@@ -52,10 +52,10 @@ unfolding line_held work_held bytes_held
 leaves_all s line q b =
     let k = board-kind s.replay.phase line q b in
     record {
-      card = ap (λ (x : Kind). (held_by x s line).replay.card) k;
-      arena = ap (λ (x : Kind). (held_by x s line).arena) k;
-      work = λ lent. ap (λ (x : Kind). work_taken x s lent line) k;
-      bytes = λ lent. ap (λ (x : Kind). bytes_by x lent line) k;
+      card = ap (λ (x : Option Kind). (held_by x s line).replay.card) k;
+      arena = ap (λ (x : Option Kind). (held_by x s line).arena) k;
+      work = λ lent. ap (λ (x : Option Kind). work_taken x s lent line) k;
+      bytes = λ lent. ap (λ (x : Option Kind). bytes_by x lent line) k;
     }
 
 -- of more lines the first is taken too
@@ -76,18 +76,18 @@ module _ (s : Held) (line : List ℕ) where
   -- the state after an `L` line
   pub after-board : Taken s.replay.phase [] → board_line line ≡ true → line_held s line ≡ board_held s
   unfolding line_held
-  after-board q b = ap (λ (x : Kind). held_by x s line) (board-kind s.replay.phase line q b)
+  after-board q b = ap (λ (x : Option Kind). held_by x s line) (board-kind s.replay.phase line q b)
 
   -- after any other
   pub after-request : Taken s.replay.phase (line ∷ []) → board_line line ≡ false → line_held s line ≡ request_held s line
   unfolding line_held
-  after-request q b = ap (λ (x : Kind). held_by x s line) (request-kind s.replay.phase line q b)
+  after-request q b = ap (λ (x : Option Kind). held_by x s line) (request-kind s.replay.phase line q b)
 
   -- what an `L` line prints
   pub prints : Taken s.replay.phase [] → board_line line ≡ true →
       line_text s line ≡ board_line_text s.replay.card s.arena line (one_more s.replay.asked)
   unfolding line_text
-  prints q b = ap (λ (x : Kind). text_by x s line) (board-kind s.replay.phase line q b)
+  prints q b = ap (λ (x : Option Kind). text_by x s line) (board-kind s.replay.phase line q b)
 
   -- after either, requests are taken
   pub after_phase : Taken s.replay.phase (line ∷ []) → (line_held s line).replay.phase ≡ Requests
@@ -98,11 +98,11 @@ module _ (s : Held) (line : List ℕ) where
       by_line false b = ap (λ (x : Held). x.replay.phase) (after-request q b)
 
 -- an `L` line with a code is one
-pub is_board_lem : (line : List ℕ) (code : ℕ) → board_code line ≡ Is code → board_line line ≡ true
+pub is_board_lem : (line : List ℕ) (code : ℕ) → board_code line ≡ Some code → board_line line ≡ true
 unfolding board_code
 is_board_lem line code e = by_tests (ltb 32768 (length line)) (board_line line) (eqb (length (split 9 line)) 2) e
   where
-    by_tests : (l b n : Bool) → cond l Bad (cond (b && n) (hex16 (field_in line 1)) Bad) ≡ Is code → b ≡ true
+    by_tests : (l b n : Bool) → cond l None (cond (b && n) (hex16 (field_in line 1)) None) ≡ Some code → b ≡ true
     by_tests l true n h = refl
     by_tests true false n h = absurd (let z : ◌≡◌ {A = ℕ} 0 1 = cc in (omega arith))
     by_tests false false n h = absurd (let z : ◌≡◌ {A = ℕ} 0 1 = cc in (omega arith))
@@ -162,7 +162,7 @@ alike (dropped {ls} line b w) s t k p q =
     (taken-requests (after_phase s line (taken-first s.replay.phase line ls p)) ls) q
 
 -- a board prints no ordinal
-unnumbered : (c : Card) (a line : List ℕ) (code m n : ℕ) → board_code line ≡ Is code → refreshed c a code 128 ≡ Board →
+unnumbered : (c : Card) (a line : List ℕ) (code m n : ℕ) → board_code line ≡ Some code → refreshed c a code 128 ≡ Board →
     board_line_text c a line m ≡ board_line_text c a line n
 unfolding board_line_text
 unnumbered c a line code m n e r = rw (e, r)

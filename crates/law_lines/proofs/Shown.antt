@@ -1,5 +1,7 @@
 -- A refresh shows the board worked out from the store as it stands at that line. Read specs/Shown.antt for the statements: `PrintsBoard`
 -- and `ReadsStore`.
+use Rattle.std.specs.Prelude.{Err, Ok}
+use Rattle.std.proofs.Common.{Option, Some, None, Result}
 use Prim.Native.Nat.{ℕ, zero, suc, ◌+◌, ◌*◌, ◌≤◌}
 use native.Mathlib.Omega.{arith}
 use native.Mathlib.Nat.{zero-add, suc-add}
@@ -15,8 +17,6 @@ use Rattle.card_nodes.specs.Node.{root_node, is_service, start_of, blocks_of}
 use Rattle.card_nodes.specs.Find.{is_service_of, service_of}
 use Rattle.card_nodes.specs.declared.node.Entry.{Entry}
 use Rattle.card_nodes.specs.declared.node.Entry.TheVariants.{Area, Service}
-use Rattle.card_nodes.specs.declared.find.Found.{Found}
-use Rattle.card_nodes.specs.declared.find.Found.TheVariants.{At, Nothing}
 use Rattle.card_nodes.proofs.Searches.{first_found}
 use Rattle.card_build.specs.declared.card.Card.{Card}
 use Rattle.card_build.specs.Card.{nodes_of}
@@ -27,12 +27,11 @@ use Rattle.request_plan.specs.Plan.{rows_in, elements_in}
 use Rattle.request_plan.specs.Serve.{store_in, blocks_read, length_read}
 use Rattle.request_plan.proofs.Accepted.{accepted, blocks_given, each_passed, good_at}
 use Rattle.request_plan.proofs.ReadLaws.{read-said}
-use Rattle.board_lanes.specs.declared.lanes.Judged.{Judged}
-use Rattle.board_lanes.specs.declared.lanes.Judged.TheVariants as judged
 use Rattle.board_lanes.specs.Board.{board_judged, board_of, board_by}
 use Rattle.board_read.specs.Refresh.{eight_blocks, board_request, board_served, refreshed_by, refreshed_after, refreshed}
 use Rattle.board_line.specs.Line.{refreshed_text, board_line_text}
 use Rattle.law_lines.specs.Shown.{code_store, eight_of, board_text, shown_text, PrintsBoard, Eight, ReadsStore}
+use Rattle.board_lanes.specs.declared.refusal.BoardRefusal.{BoardRefusal}
 
 -- a front, and a front of the rest
 take_more : (n m : ℕ) (s : List ℕ) → take n s ++ take m (drop n s) ≡ take (n + m) s
@@ -84,9 +83,9 @@ module _ (c : Card) (a : List ℕ) (code : ℕ) (e : (board_served c a code 128)
       by_entry_lem (Area end) h = absurd (false≢true h)
       by_entry_lem (Service start blocks limit) h = (refl, refl)
 
-      by_found : (f : Found) → service_of (nodes_of c) code ≡ f → 8 ≤ (row_at (nodes_of c) code f).blocks → Eight c a code
-      by_found Nothing q h = absurd (omega arith)
-      by_found (At i) q h =
+      by_found : (f : Option ℕ) → service_of (nodes_of c) code ≡ f → 8 ≤ (row_at (nodes_of c) code f).blocks → Eight c a code
+      by_found None q h = absurd (omega arith)
+      by_found (Some i) q h =
           let n = get_or (nodes_of c) i root_node in
           let f = first_found (is_service_of code) (nodes_of c) q in
           let s = by_entry_lem n.entry ((and-eq-true_iff (eqb n.code code) (is_service n.entry)).0 f.passes).1 in
@@ -100,15 +99,15 @@ module _ (c : Card) (a : List ℕ) (code : ℕ) (e : (board_served c a code 128)
             service = f.passes;
             first = f.before;
             store =
-                ap (λ (f : Found). store_in a (row_at (nodes_of c) code f)) q
+                ap (λ (f : Option ℕ). store_in a (row_at (nodes_of c) code f)) q
                 ∙ ap₂ (λ (x y : ℕ). part a (16 * x) (16 * y)) s.0 s.1;
             blocks = omega (arith, s.1);
           }
 
 -- what is printed of the blocks read, once judged
-by_judged : (ordinal : ℕ) (bytes : List ℕ) (j : Judged) → refreshed_text ordinal bytes (refreshed_by j) ≡ board_text ordinal (board_by bytes j)
-by_judged ordinal bytes judged.Sound = refl
-by_judged ordinal bytes (judged.Refused x) = refl
+by_judged : (ordinal : ℕ) (bytes : List ℕ) (j : Result Unit BoardRefusal) → refreshed_text ordinal bytes (refreshed_by j) ≡ board_text ordinal (board_by bytes j)
+by_judged ordinal bytes (Ok tt) = refl
+by_judged ordinal bytes (Err x) = refl
 
 -- the line prints the board of the store as it stands, or the refusal
 pub prints_board : PrintsBoard

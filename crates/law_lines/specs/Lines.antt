@@ -1,6 +1,5 @@
 -- Refreshes among the lines of a replay: each leaves everything as it was, and none has a part in a later one. The statements.
-use Rattle.std.specs.Prelude.{ℕ, Bool, true, ◌||◌, List, [], ◌∷◌, ◌≡◌}
-use Rattle.text_numbers.specs.declared.codes.Code.TheVariants.{Is}
+use Rattle.std.specs.Prelude.{ℕ, Bool, true, ◌||◌, List, [], ◌∷◌, ◌≡◌, Some}
 use Rattle.line_request.specs.Ask.{request_line}
 use Rattle.board_lanes.specs.Board.{board_of}
 use Rattle.board_read.specs.declared.Refreshed.TheVariants.{Board}
@@ -29,7 +28,7 @@ Taken Ended ls = ⊥
 -- RULES 16.5
 abbrev pub LinePrints : Type 0
 LinePrints =
-    (s : Held) (line : List ℕ) (code : ℕ) → Taken s.replay.phase [] → board_code line ≡ Is code
+    (s : Held) (line : List ℕ) (code : ℕ) → Taken s.replay.phase [] → board_code line ≡ Some code
     → line_text s line
     ≡ shown_text (one_more s.replay.asked) (board_served s.replay.card s.arena code 128).reply
     (board_of (eight_of s.replay.card s.arena code))
@@ -66,7 +65,7 @@ pub record SameBoard (s t : Held) (line : List ℕ) : Type 0 where
   pub second : line_text t line ≡ board_line_text s.replay.card s.arena line (one_more t.replay.asked)
   -- a board has no ordinal: its text is the same
   pub board
-      : (code : ℕ) → board_code line ≡ Is code → refreshed s.replay.card s.arena code 128 ≡ Board
+      : (code : ℕ) → board_code line ≡ Some code → refreshed s.replay.card s.arena code 128 ≡ Board
       → line_text s line ≡ line_text t line
 
 -- Two states that lines left: card and arena are equal, and so is the next board.

@@ -1,7 +1,6 @@
 -- A refresh shows the board worked out from the store as it stands at that line: the statement.
-use Rattle.std.specs.Prelude.{ℕ, ◌*◌, ◌≤◌, ◌<◌, true, false, List, [], ◌≡◌, length, get_or}
+use Rattle.std.specs.Prelude.{ℕ, ◌*◌, ◌≤◌, ◌<◌, true, false, List, [], ◌≡◌, length, get_or, Some}
 use Rattle.byte_parts.specs.Part.{part}
-use Rattle.text_numbers.specs.declared.codes.Code.TheVariants.{Is}
 use Rattle.card_nodes.specs.Node.{root_node, start_of, blocks_of}
 use Rattle.card_nodes.specs.Find.{is_service_of}
 use Rattle.card_build.specs.declared.card.Card.{Card}
@@ -41,7 +40,7 @@ shown_text ordinal (replies.Failed i f) board = answer_text ordinal (replies.Fai
 -- RULES 16.5
 abbrev pub PrintsBoard : Type 0
 PrintsBoard =
-    (c : Card) (a line : List ℕ) (ordinal code : ℕ) → board_code line ≡ Is code
+    (c : Card) (a line : List ℕ) (ordinal code : ℕ) → board_code line ≡ Some code
     → board_line_text c a line ordinal ≡ shown_text ordinal (board_served c a code 128).reply (board_of (eight_of c a code))
 
 -- What was read where the card answers 00 00.

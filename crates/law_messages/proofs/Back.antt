@@ -1,4 +1,5 @@
 -- What a card tells, written and read, comes back: with no premise but that it was told.
+use Rattle.std.proofs.Common.{Result, Ok, Err}
 use mathlib.Core.Path.{◌≡◌, refl, sym, ap, ◌∙◌}
 use mathlib.Core.Bool.{Bool, true, false, cond, not}
 use mathlib.Core.List.{List}
@@ -7,15 +8,11 @@ use native.Mathlib.Omega.{arith}
 use lib.Dec.{ltb, leb}
 use lib.ListN.{length, take}
 use borrow.Author.Tests.{ltb-false, le-leb}
-use Rattle.answers.specs.declared.refusal.Answer.{Answer}
-use Rattle.answers.specs.declared.refusal.Answer.TheVariants.{Done, Refused}
 use Rattle.answers.specs.declared.refusal.Refusal.{Refusal}
 use Rattle.answers.specs.declared.refusal.Refusal.TheVariants.{NotBuilt, ShortOutput}
 use Rattle.answers.specs.Refusal.{refusal_number}
 use Rattle.node_messages.specs.declared.code_list.Listed.{Listed}
 use Rattle.node_messages.specs.declared.information.Informed.{Informed}
-use Rattle.node_messages.specs.declared.message.Put.{Put}
-use Rattle.node_messages.specs.declared.message.Put.TheVariants.{Bytes, Refused as NotPut}
 use Rattle.node_messages.specs.Message.{message_put, message_after}
 use Rattle.node_messages.specs.CodeList.{list_refused, code_list_bytes, read_code_list}
 use Rattle.node_messages.specs.Information.{information_bytes, read_information}
@@ -35,11 +32,11 @@ use Rattle.law_messages.specs.Told.{ListBack, list_sent, ListTaken, ListCalls, b
 use Rattle.law_messages.proofs.Coded.{sound_coded}
 
 -- a card that answers with a list is sound
-pub list_sound : (c : Card) (parent p : ℕ) → (code_list_of c parent p).answer ≡ Done → is_sound c ≡ true
+pub list_sound : (c : Card) (parent p : ℕ) → (code_list_of c parent p).answer ≡ Ok tt → is_sound c ≡ true
 unfolding code_list_of
 list_sound c parent p e = by (is_sound c) e
   where
-    by : (t : Bool) → (cond (not t) (list_refused NotBuilt) (list_found (nodes_of c) p (area_named (nodes_of c) parent))).answer ≡ Done → t ≡ true
+    by : (t : Bool) → (cond (not t) (list_refused NotBuilt) (list_found (nodes_of c) p (area_named (nodes_of c) parent))).answer ≡ Ok tt → t ≡ true
     by true k = refl
     by false k = absurd (let z : ◌≡◌ {A = ℕ} 0 1 = cc in (omega arith))
 
@@ -52,8 +49,8 @@ pub refused_not_0 : {A : Type 0} (r : Refusal) → refused_as r ≡ 0 → A
 refused_not_0 r e = let q : NotServed r ≡ Served = zero_done (NotServed r) e in absurd (let z : ◌≡◌ {A = ℕ} 0 1 = cc in (omega arith))
 
 -- a message that was put, returning 0: it was answered, and stands in front of the output
-record Sent (a : Answer) (message out : List ℕ) : Type 0 where
-  told : a ≡ Done
+record Sent (a : Result Unit Refusal) (message out : List ℕ) : Type 0 where
+  told : a ≡ Ok tt
   same : take (put_after 0 (put_answered a message (length out))) (out_answered a message out) ≡ message
 
 module _ (message out : List ℕ) where
@@ -64,19 +61,19 @@ module _ (message out : List ℕ) where
   stood true q k = refused_not_0 ShortOutput (rw q at k)
   stood false q k = rw q (stands message out (ltb-false (length out) (length message) q))
 
-sent : (a : Answer) (message out : List ℕ) → put_as (put_answered a message (length out)) ≡ 0 → Sent a message out
-sent (Refused r) message out e = refused_not_0 r e
-sent Done message out e = record { told = refl; same = stood message out (ltb (length out) (length message)) refl e }
+sent : (a : Result Unit Refusal) (message out : List ℕ) → put_as (put_answered a message (length out)) ≡ 0 → Sent a message out
+sent (Err r) message out e = refused_not_0 r e
+sent (Ok tt) message out e = record { told = refl; same = stood message out (ltb (length out) (length message)) refl e }
 
 -- a reader's lists find room
-roomed-done : (n room m rest : ℕ) → n ≤ room → m ≤ rest → roomed Done n room m rest ≡ Done
+roomed-done : (n room m rest : ℕ) → n ≤ room → m ≤ rest → roomed (Ok tt) n room m rest ≡ Ok tt
 unfolding roomed
 roomed-done n room m rest h k = rw (le-leb n room h, le-leb m rest k)
 
-list-taken : {m : Listed} {message areas services : List ℕ} → m.answer ≡ Done → read_code_list message ≡ m →
+list-taken : {m : Listed} {message areas services : List ℕ} → m.answer ≡ Ok tt → read_code_list message ≡ m →
     2 * m.list.areas ≤ length areas → m.list.services ≤ length services → ListTaken m.list message areas services
 list-taken {m = m} {message = message} {areas = areas} {services = services} d q h k =
-    let e : list_read message (length areas) (length services) ≡ Done =
+    let e : list_read message (length areas) (length services) ≡ (Ok tt) =
     rw (q, d) (roomed-done (2 * m.list.areas) (length areas) m.list.services (length services) h k) in
     record {
       returns = rw e;
@@ -89,7 +86,7 @@ list-taken {m = m} {message = message} {areas = areas} {services = services} d q
 
 -- what the library wrote of a list is what the card answered
 pub list_sent_lem : (s : List ℕ) (parent p : ℕ) (out : List ℕ) → put_as (code_list_put (card_decoded s) parent p (length out)) ≡ 0 →
-    ((code_list_of (card_decoded s) parent p).answer ≡ Done) × (read_code_list (list_sent s parent p out) ≡ code_list_of (card_decoded s) parent p)
+    ((code_list_of (card_decoded s) parent p).answer ≡ Ok tt) × (read_code_list (list_sent s parent p out) ≡ code_list_of (card_decoded s) parent p)
 unfolding code_list_put code_list_out
 list_sent_lem s parent p out e =
     let m = code_list_of (card_decoded s) parent p in
@@ -103,17 +100,17 @@ code-list-read s parent p out areas services e h k =
 
 -- the same of block information
 pub blocks_sent_lem : (s : List ℕ) (arena_len : ℕ) (asked out : List ℕ) → put_as (blocks_put (card_decoded s) arena_len asked (length out)) ≡ 0 →
-    ((blocks_told (card_decoded s) arena_len asked).answer ≡ Done) × (read_information (blocks_sent s arena_len asked out) ≡ blocks_told (card_decoded s) arena_len asked)
+    ((blocks_told (card_decoded s) arena_len asked).answer ≡ Ok tt) × (read_information (blocks_sent s arena_len asked out) ≡ blocks_told (card_decoded s) arena_len asked)
 unfolding blocks_put blocks_out
 blocks_sent_lem s arena_len asked out e =
     let m = blocks_told (card_decoded s) arena_len asked in
     let x = sent m.answer (information_bytes m.told) out e in
     (x.told, ap read_information x.same ∙ blocks-back (card_decoded s) arena_len asked x.told)
 
-information_taken : {m : Informed} {message assigned free : List ℕ} → m.answer ≡ Done → read_information message ≡ m →
+information_taken : {m : Informed} {message assigned free : List ℕ} → m.answer ≡ Ok tt → read_information message ≡ m →
     m.told.count ≤ length assigned → m.told.count ≤ length free → InformationTaken m.told message assigned free
 information_taken {m = m} {message = message} {assigned = assigned} {free = free} d q h k =
-    let e : information_read message (length assigned) (length free) ≡ Done =
+    let e : information_read message (length assigned) (length free) ≡ (Ok tt) =
     rw (q, d) (roomed-done m.told.count (length assigned) m.told.count (length free) h k) in
     record { returns = rw e; counts = rw (e, q); frees = rw (e, q); nodes = λ old. rw (e, q) }
 

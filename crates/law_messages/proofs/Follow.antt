@@ -8,12 +8,10 @@ use lib.Dec.{eqb, ltb, leb}
 use lib.ListN.{length, get_or, take, drop, length-take, length-drop, drop_of_length-le, take-append-drop}
 use lib.Seq.{take_all, drop-drop}
 use borrow.Author.Tests.{ltb-false}
-use Rattle.answers.specs.declared.refusal.Answer.TheVariants.{Done}
 use Rattle.node_messages.specs.declared.code_list.CodeList.{CodeList}
 use Rattle.node_messages.specs.declared.code_list.Listed.{Listed}
 use Rattle.node_messages.specs.CodeList.{ranges_of, codes_listed, list_told}
 use Rattle.card_nodes.specs.declared.node.Node.{Node}
-use Rattle.card_nodes.specs.declared.find.Found.TheVariants.{At}
 use Rattle.card_nodes.specs.Node.{root_node}
 use Rattle.card_questions.specs.ListingWorded.{pairs_of}
 use Rattle.card_sound.proofs.Laws.{sound_count}

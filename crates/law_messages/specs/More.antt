@@ -1,10 +1,8 @@
 -- The flag of a code list says whether more follow: of a card, and of the library's calls. The statements.
-use Rattle.std.specs.Prelude.{ℕ, zero, suc, ◌≤◌, Bool, true, cond, List, [], ◌∷◌, ◌++◌, ◌↔◌, ◌≡◌, length}
-use Rattle.answers.specs.declared.refusal.Answer.TheVariants.{Done}
+use Rattle.std.specs.Prelude.{ℕ, zero, suc, ◌≤◌, Bool, true, cond, List, [], ◌∷◌, ◌++◌, ◌↔◌, ◌≡◌, length, Some, Ok}
 use Rattle.node_messages.specs.declared.code_list.CodeList.{CodeList}
 use Rattle.node_messages.specs.declared.code_list.Listed.{Listed}
 use Rattle.node_messages.specs.CodeList.{ranges_of, codes_listed, read_code_list}
-use Rattle.card_nodes.specs.declared.find.Found.TheVariants.{At}
 use Rattle.card_build.specs.declared.card.Card.{Card}
 use Rattle.card_build.specs.Card.{nodes_of, is_sound}
 use Rattle.card_laws.specs.Children.{area_named, children_at}
@@ -17,8 +15,8 @@ use Rattle.law_messages.specs.Told.{list_sent}
 -- RULES 18.2
 abbrev pub MoreExactly : Card → Type 0
 MoreExactly c =
-    (parent p : ℕ) → (code_list_of c parent p).answer ≡ Done
-    → ((code_list_of c parent p).list.more ≡ true) ↔ ((code_list_of c parent (suc p)).answer ≡ Done)
+    (parent p : ℕ) → (code_list_of c parent p).answer ≡ Ok tt
+    → ((code_list_of c parent p).list.more ≡ true) ↔ ((code_list_of c parent (suc p)).answer ≡ Ok tt)
 
 -- the most bytes of a code list: sixteen areas
 abbrev pub longest_list : ℕ
@@ -46,7 +44,7 @@ entries_in part (x ∷ xs) = part x.list ++ entries_in part xs
 -- none of them is a refusal
 abbrev pub AllAnswered : List Listed → Type 0
 AllAnswered [] = Unit {0}
-AllAnswered (x ∷ xs) = (x.answer ≡ Done) × AllAnswered xs
+AllAnswered (x ∷ xs) = (x.answer ≡ Ok tt) × AllAnswered xs
 
 -- following the flag from packet 0 on tells each child of an area once, areas and services each in tree order; four packets are enough
 pub record TellsAll (c : Card) (parent i k : ℕ) : Type 0 where
@@ -56,4 +54,4 @@ pub record TellsAll (c : Card) (parent i k : ℕ) : Type 0 where
 
 -- RULES 18.2
 abbrev pub CardTellsAll : Card → Type 0
-CardTellsAll c = is_sound c ≡ true → (parent i k : ℕ) → area_named (nodes_of c) parent ≡ At i → 4 ≤ k → TellsAll c parent i k
+CardTellsAll c = is_sound c ≡ true → (parent i k : ℕ) → area_named (nodes_of c) parent ≡ Some i → 4 ≤ k → TellsAll c parent i k

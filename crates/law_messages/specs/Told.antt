@@ -1,6 +1,5 @@
 -- What a card tells is read back: of a card, and of the library's two calls. The statements.
-use Rattle.std.specs.Prelude.{ℕ, ◌*◌, ◌≤◌, Bool, List, ◌≡◌, length, take}
-use Rattle.answers.specs.declared.refusal.Answer.TheVariants.{Done}
+use Rattle.std.specs.Prelude.{ℕ, ◌*◌, ◌≤◌, Bool, List, ◌≡◌, length, take, Ok}
 use Rattle.byte_parts.specs.Part.{put}
 use Rattle.node_messages.specs.declared.code_list.CodeList.{CodeList}
 use Rattle.node_messages.specs.declared.information.BlockInformation.{BlockInformation}
@@ -17,7 +16,7 @@ use Rattle.handset_words.specs.Message.{put_as, put_after, told_by, numbers_told
 -- RULES 18.6
 abbrev pub ListBack : Card → Type 0
 ListBack c =
-    (parent p : ℕ) → (code_list_of c parent p).answer ≡ Done
+    (parent p : ℕ) → (code_list_of c parent p).answer ≡ Ok tt
     → read_code_list (code_list_bytes (code_list_of c parent p).list) ≡ code_list_of c parent p
 
 -- what uluvoli_code_list leaves of its output, as many bytes as it says, where it returns 0

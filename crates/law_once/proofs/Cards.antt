@@ -6,9 +6,10 @@ use prog.Memory.{Memory}
 use prog.Routine.{Routine}
 use types.Logic.{Logic}
 use contract.Monad.{Fun}
-use Rattle.law_once.specs.One.{OneAnswer}
+use Rattle.law_once.specs.One.{OneAnswer, OneSeen}
 use Rattle.law_once.proofs.Law.{once, of_one, of_two, result}
 use Rattle.card_nodes.specs.contracts.count.taken as card_nodes·taken
+use Rattle.card_nodes.specs.contracts.count.records as card_nodes·records
 use Rattle.card_nodes.specs.contracts.find.is_service_of as card_nodes·is-service-of
 use Rattle.card_nodes.specs.contracts.find.find_service as card_nodes·find-service
 use Rattle.card_nodes.specs.contracts.find.find_area as card_nodes·find-area
@@ -50,6 +51,10 @@ use Rattle.card_lists.specs.contracts.information.put_block_information as card_
 module _ {M : Type 1} {𝓤 : Ura M} (𝓛 : Logic 𝓤) (mem : Memory → SProp 𝓤) (run : Routine → Fun 𝓤) where
   pub card_nodes·taken-once : OneAnswer 𝓤 card_nodes·taken.ended (card_nodes·taken.clauses 𝓛 mem run)
   card_nodes·taken-once κs a g r r' ws ws' = result 𝓤 refl
+
+  -- a part of the lent records: it is one list, and nothing is said of where they lie
+  pub card_nodes·records-once : OneSeen 𝓤 card_nodes·records.ended (card_nodes·records.clauses 𝓛 mem run) (λ κs x. x.now)
+  card_nodes·records-once κs a g r r' ws ws' = result 𝓤 refl
 
   pub card_nodes·is-service-of-once : OneAnswer 𝓤 card_nodes·is-service-of.ended (card_nodes·is-service-of.clauses 𝓛 mem run)
   card_nodes·is-service-of-once κs a g r r' ws ws' = result 𝓤 refl

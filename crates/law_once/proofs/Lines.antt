@@ -11,17 +11,20 @@ use Rattle.byte_parts.specs.Part.{put}
 use Rattle.text_numbers.specs.Codes.{codes_of}
 use Rattle.line_fields.specs.Fields.{field_in}
 use Rattle.text_pull.specs.Pull.{rested_of}
-use Rattle.law_once.specs.One.{OneAnswer}
+use Rattle.law_once.specs.One.{OneAnswer, OneSeen}
 use Rattle.law_once.proofs.Law.{once, once_by, of_two, of_facts_lem, of_four, result}
-use Rattle.line_fields.specs.contracts.is_word as line_fields·is-word
-use Rattle.line_fields.specs.contracts.is_form as line_fields·is-form
-use Rattle.line_fields.specs.contracts.code_at as line_fields·code-at
-use Rattle.line_fields.specs.contracts.number_at as line_fields·number-at
-use Rattle.line_fields.specs.contracts.bound_at as line_fields·bound-at
-use Rattle.line_fields.specs.contracts.has_hex as line_fields·has-hex
-use Rattle.line_fields.specs.contracts.has_codes as line_fields·has-codes
-use Rattle.line_fields.specs.contracts.read_codes as line_fields·read-codes
-use Rattle.line_fields.specs.contracts.put_field as line_fields·put-field
+use Rattle.line_fields.specs.contracts.Fields.new as line_fields·Fields·new
+use Rattle.line_fields.specs.contracts.Fields.field as line_fields·Fields·field
+use Rattle.line_fields.specs.contracts.Fields.count as line_fields·Fields·count
+use Rattle.line_fields.specs.contracts.Fields.is_word as line_fields·Fields·is-word
+use Rattle.line_fields.specs.contracts.Fields.is_form as line_fields·Fields·is-form
+use Rattle.line_fields.specs.contracts.Fields.code_at as line_fields·Fields·code-at
+use Rattle.line_fields.specs.contracts.Fields.number_at as line_fields·Fields·number-at
+use Rattle.line_fields.specs.contracts.Fields.bound_at as line_fields·Fields·bound-at
+use Rattle.line_fields.specs.contracts.Fields.has_hex as line_fields·Fields·has-hex
+use Rattle.line_fields.specs.contracts.Fields.has_codes as line_fields·Fields·has-codes
+use Rattle.line_fields.specs.contracts.Fields.read_codes as line_fields·Fields·read-codes
+use Rattle.line_fields.specs.contracts.Fields.put_field as line_fields·Fields·put-field
 use Rattle.line_image.specs.contracts.line.is_image as line_image·is-image
 use Rattle.line_image.specs.contracts.line.read_line as line_image·read-line
 use Rattle.line_build.specs.contracts.image_line as line_build·image-line
@@ -55,37 +58,48 @@ use Rattle.text_pull.specs.contracts.whole.held as text_pull·held
 use Rattle.text_pull.specs.contracts.whole.is_short as text_pull·is-short
 
 module _ {M : Type 1} {𝓤 : Ura M} (𝓛 : Logic 𝓤) (mem : Memory → SProp 𝓤) (run : Routine → Fun 𝓤) where
-  pub line_fields·is-word-once : OneAnswer 𝓤 line_fields·is-word.ended (line_fields·is-word.clauses 𝓛 mem run)
-  line_fields·is-word-once κs a g r r' ws ws' = result 𝓤 refl
+  -- the fields of a line: the line's bytes are one answer, and where the fields end is fixed by them
+  pub line_fields·Fields·new-once : OneSeen 𝓤 line_fields·Fields·new.ended (line_fields·Fields·new.clauses 𝓛 mem run) (λ κs x. x.line.now)
+  line_fields·Fields·new-once κs a g r r' ws ws' = result 𝓤 refl
 
-  pub line_fields·is-form-once : OneAnswer 𝓤 line_fields·is-form.ended (line_fields·is-form.clauses 𝓛 mem run)
-  line_fields·is-form-once κs a g r r' ws ws' = result 𝓤 refl
+  -- a part of the line: its bytes are one answer, and nothing is said of where they lie
+  pub line_fields·Fields·field-once : OneSeen 𝓤 line_fields·Fields·field.ended (line_fields·Fields·field.clauses 𝓛 mem run) (λ κs x. x.now)
+  line_fields·Fields·field-once κs a g r r' ws ws' = result 𝓤 refl
 
-  pub line_fields·code-at-once : OneAnswer 𝓤 line_fields·code-at.ended (line_fields·code-at.clauses 𝓛 mem run)
-  line_fields·code-at-once κs a g r r' ws ws' = result 𝓤 refl
+  pub line_fields·Fields·count-once : OneAnswer 𝓤 line_fields·Fields·count.ended (line_fields·Fields·count.clauses 𝓛 mem run)
+  line_fields·Fields·count-once κs a g r r' ws ws' = result 𝓤 refl
 
-  pub line_fields·number-at-once : OneAnswer 𝓤 line_fields·number-at.ended (line_fields·number-at.clauses 𝓛 mem run)
-  line_fields·number-at-once κs a g r r' ws ws' = result 𝓤 refl
+  pub line_fields·Fields·is-word-once : OneAnswer 𝓤 line_fields·Fields·is-word.ended (line_fields·Fields·is-word.clauses 𝓛 mem run)
+  line_fields·Fields·is-word-once κs a g r r' ws ws' = result 𝓤 refl
 
-  pub line_fields·bound-at-once : OneAnswer 𝓤 line_fields·bound-at.ended (line_fields·bound-at.clauses 𝓛 mem run)
-  line_fields·bound-at-once κs a g r r' ws ws' = result 𝓤 refl
+  pub line_fields·Fields·is-form-once : OneAnswer 𝓤 line_fields·Fields·is-form.ended (line_fields·Fields·is-form.clauses 𝓛 mem run)
+  line_fields·Fields·is-form-once κs a g r r' ws ws' = result 𝓤 refl
 
-  pub line_fields·has-hex-once : OneAnswer 𝓤 line_fields·has-hex.ended (line_fields·has-hex.clauses 𝓛 mem run)
-  line_fields·has-hex-once κs a g r r' ws ws' = result 𝓤 refl
+  pub line_fields·Fields·code-at-once : OneAnswer 𝓤 line_fields·Fields·code-at.ended (line_fields·Fields·code-at.clauses 𝓛 mem run)
+  line_fields·Fields·code-at-once κs a g r r' ws ws' = result 𝓤 refl
 
-  pub line_fields·has-codes-once : OneAnswer 𝓤 line_fields·has-codes.ended (line_fields·has-codes.clauses 𝓛 mem run)
-  line_fields·has-codes-once κs a g r r' ws ws' = result 𝓤 refl
+  pub line_fields·Fields·number-at-once : OneAnswer 𝓤 line_fields·Fields·number-at.ended (line_fields·Fields·number-at.clauses 𝓛 mem run)
+  line_fields·Fields·number-at-once κs a g r r' ws ws' = result 𝓤 refl
+
+  pub line_fields·Fields·bound-at-once : OneAnswer 𝓤 line_fields·Fields·bound-at.ended (line_fields·Fields·bound-at.clauses 𝓛 mem run)
+  line_fields·Fields·bound-at-once κs a g r r' ws ws' = result 𝓤 refl
+
+  pub line_fields·Fields·has-hex-once : OneAnswer 𝓤 line_fields·Fields·has-hex.ended (line_fields·Fields·has-hex.clauses 𝓛 mem run)
+  line_fields·Fields·has-hex-once κs a g r r' ws ws' = result 𝓤 refl
+
+  pub line_fields·Fields·has-codes-once : OneAnswer 𝓤 line_fields·Fields·has-codes.ended (line_fields·Fields·has-codes.clauses 𝓛 mem run)
+  line_fields·Fields·has-codes-once κs a g r r' ws ws' = result 𝓤 refl
 
   -- how many are put is said by the result
-  pub line_fields·read-codes-once : OneAnswer 𝓤 line_fields·read-codes.ended (line_fields·read-codes.clauses 𝓛 mem run)
-  line_fields·read-codes-once κs a g r r' ws ws' =
+  pub line_fields·Fields·read-codes-once : OneAnswer 𝓤 line_fields·Fields·read-codes.ended (line_fields·Fields·read-codes.clauses 𝓛 mem run)
+  line_fields·Fields·read-codes-once κs a g r r' ws ws' =
       of_two 𝓤 (λ p p' q q'.
       let e = once p.0 q.0 in
-      let written = once_by (λ (n : ℕ). put a.1.1.1.0.now 0 n (codes_of (field_in a.0.now a.1.1.0))) e p' q' in
-      (e, λ i. (tt, (tt, (tt, (written i, tt))))))
+      let written = once_by (λ (n : ℕ). put a.1.1.0.now 0 n (codes_of (field_in a.0.line.now a.1.0))) e p' q' in
+      (e, λ i. (tt, (tt, (written i, tt)))))
 
-  pub line_fields·put-field-once : OneAnswer 𝓤 line_fields·put-field.ended (line_fields·put-field.clauses 𝓛 mem run)
-  line_fields·put-field-once κs a g r r' ws ws' = of_two 𝓤 (λ p p' q q'. (once p q, λ i. (tt, (tt, (tt, (once p' q' i, (tt, tt)))))))
+  pub line_fields·Fields·put-field-once : OneAnswer 𝓤 line_fields·Fields·put-field.ended (line_fields·Fields·put-field.clauses 𝓛 mem run)
+  line_fields·Fields·put-field-once κs a g r r' ws ws' = of_two 𝓤 (λ p p' q q'. (once p q, λ i. (tt, (tt, (once p' q' i, (tt, tt))))))
 
   pub line_image·is-image-once : OneAnswer 𝓤 line_image·is-image.ended (line_image·is-image.clauses 𝓛 mem run)
   line_image·is-image-once κs a g r r' ws ws' = result 𝓤 refl

@@ -1,4 +1,5 @@
 -- One answer only: requests: codes and elements, runs, reads and writes, single blocks.
+use Rattle.std.proofs.Common.{Result, Ok, Err}
 use mathlib.Core.Path.{◌≡◌, refl, sym, ◌∙◌}
 use Prim.Native.Nat.{ℕ, ◌*◌}
 use native.Mathlib.Omega.{arith}
@@ -13,8 +14,6 @@ use contract.Monad.{Fun, fact}
 use denote.Triple.Clauses.{Lasts}
 use denote.Triple.Entry.{Args}
 use Rattle.request_runs.specs.Ready.{walked_to}
-use Rattle.request_runs.specs.declared.run.Applied.{Applied}
-use Rattle.request_runs.specs.declared.run.Applied.TheVariants.{Done, Failed}
 use Rattle.request_plan.specs.Serve.{staging_by}
 use Rattle.request_plan.specs.declared.Reply.{Reply}
 use Rattle.law_once.specs.One.{Promised, OneAnswer, OneSeen}
@@ -34,13 +33,17 @@ use Rattle.request_block.specs.contracts.set_block as request_block·set-block
 use Rattle.request_block.specs.contracts.stored_block as request_block·stored-block
 use Rattle.request_serve.specs.contracts.reading.read as request_serve·read
 use Rattle.request_serve.specs.contracts.writing.write as request_serve·write
+use Rattle.answers.specs.declared.status.Failure.{Failure}
 
 -- what was walked to is one answer: the same, and where it is done also the same stage
-walked_once : {S : Type 0} (r r' : Applied) (s s' : S) → walked_to r s ≡ walked_to r' s' → (r ≡ r') × (r ≡ Done → s ≡ s')
-walked_once Done Done s s' e = (refl, λ d. cc)
-walked_once Done (Failed i f) s s' e = let z : ◌≡◌ {A = ℕ} 0 1 = cc in absurd (omega arith)
-walked_once (Failed i f) Done s s' e = let z : ◌≡◌ {A = ℕ} 0 1 = cc in absurd (omega arith)
-walked_once (Failed i f) (Failed j h) s s' e = let x : i ≡ j = cc in let y : f ≡ h = cc in (rw (x, y), λ d. let z : ◌≡◌ {A = ℕ} 0 1 = cc in absurd (omega arith))
+walked_once : {S : Type 0} (r r' : Result Unit Failure) (s s' : S) → walked_to r s ≡ walked_to r' s' → (r ≡ r') × (r ≡ Ok tt → s ≡ s')
+walked_once (Ok u) (Ok v) s s' e = (refl, λ d. cc)
+walked_once (Ok u) (Err failure) s s' e = let z : ◌≡◌ {A = ℕ} 0 1 = cc in absurd (omega arith)
+walked_once (Err failure) (Ok u) s s' e = let z : ◌≡◌ {A = ℕ} 0 1 = cc in absurd (omega arith)
+walked_once (Err f) (Err g) s s' e =
+    let x : f.index ≡ g.index = cc in
+    let y : f.fault ≡ g.fault = cc in
+    (λ i. Err (record { index = x i; fault = y i }), λ d. let z : ◌≡◌ {A = ℕ} 0 1 = cc in absurd (omega arith))
 
 -- staging goes by the reply
 staged_once : {x x' : Reply} {t t' : List ℕ} (n : ℕ) (s : List ℕ) → x ≡ x' → t ≡ staging_by x n s → t' ≡ staging_by x' n s → t ≡ t'
@@ -64,9 +67,9 @@ module _ {M : Type 1} {𝓤 : Ura M} (𝓛 : Logic 𝓤) (mem : Memory → SProp
 
   -- after a failure nothing is said of the stage
   pub request_runs·apply-once
-      : (κs : Lfts 3) (a : Args request_runs·apply.signature κs) (r r' : Applied) (ws ws' : Lasts request_runs·apply.ended κs a)
+      : (κs : Lfts 3) (a : Args request_runs·apply.signature κs) (r r' : Result Unit Failure) (ws ws' : Lasts request_runs·apply.ended κs a)
       → ent 𝓤 (sep 𝓤 (Promised 𝓤 request_runs·apply.ended (request_runs·apply.clauses 𝓛 mem run) κs a tt r ws) (Promised 𝓤 request_runs·apply.ended (request_runs·apply.clauses 𝓛 mem run) κs a tt r' ws'))
-      (fact 𝓤 ((r ≡ r') × (r ≡ Done → ws ≡ ws')))
+      (fact 𝓤 ((r ≡ r') × (r ≡ Ok tt → ws ≡ ws')))
   request_runs·apply-once κs a r r' ws ws' = of_one 𝓤 (λ p q. let w = walked_once r r' ws.0 ws'.0 (sym p ∙ q) in (w.0, λ d i. (w.1 d i, (tt, (tt, (tt, (tt, tt)))))))
 
   pub request_plan·Reply·response-once : OneAnswer 𝓤 request_plan·Reply·response.ended (request_plan·Reply·response.clauses 𝓛 mem run)

@@ -1,4 +1,5 @@
 -- One answer only: a salvage, from the two rules and the verdict of a line to a whole text.
+use Rattle.std.proofs.Common.{Option, ℕ}
 use mathlib.Core.Path.{ap, refl}
 use seplogic.Ra.Ura.{Ura}
 use base.Logic.{SProp}
@@ -8,7 +9,6 @@ use types.Logic.{Logic}
 use contract.Monad.{Fun}
 use Rattle.salvage_rule.specs.Salvage.{Between}
 use Rattle.salvage_line.specs.Image.{Image}
-use Rattle.salvage_print.specs.declared.Spot.{Spot}
 use Rattle.salvage_print.specs.Print.{said_of, gain_of, spotted}
 use Rattle.law_once.specs.One.{OneAnswer}
 use Rattle.law_once.proofs.Law.{once, once_by, of_two, of_three, result}
@@ -47,7 +47,7 @@ module _ {M : Type 1} {𝓤 : Ura M} (𝓛 : Logic 𝓤) (mem : Memory → SProp
   salvage_print·put-once κs a g r r' ws ws' =
       of_two 𝓤 (λ p p' q q'.
       let e = once p q in
-      (e, λ i. (tt, (once_by (λ (x : Spot). spotted x a.0 a.1.0.now a.1.1.0 a.1.1.1.0.now) e p' q' i, (tt, (tt, tt))))))
+      (e, λ i. (tt, (once_by (λ (x : Option ℕ). spotted x a.0 a.1.0.now a.1.1.0 a.1.1.1.0.now) e p' q' i, (tt, (tt, tt))))))
 
   pub salvage_print·keep-once : OneAnswer 𝓤 salvage_print·keep.ended (salvage_print·keep.clauses 𝓛 mem run)
   salvage_print·keep-once κs a g r r' ws ws' =
@@ -60,7 +60,7 @@ module _ {M : Type 1} {𝓤 : Ura M} (𝓛 : Logic 𝓤) (mem : Memory → SProp
             tt,
             (
               tt,
-              (once_by (λ (x : Spot). spotted x a.0 a.1.1.1.0.now a.1.1.1.1.0 (gain_of a.1.0 a.1.1.0.now)) e p' q' i, (tt, tt)),
+              (once_by (λ (x : Option ℕ). spotted x a.0 a.1.1.1.0.now a.1.1.1.1.0 (gain_of a.1.0 a.1.1.0.now)) e p' q' i, (tt, tt)),
             ),
           ),
         ),
@@ -73,7 +73,7 @@ module _ {M : Type 1} {𝓤 : Ura M} (𝓛 : Logic 𝓤) (mem : Memory → SProp
         e,
         λ i. (
           tt,
-          (tt, (tt, (once_by (λ (x : Spot). spotted x a.0 a.1.1.1.0.now a.1.1.1.1.0 (said_of a.1.0 a.1.1.0)) e p' q' i, (tt, tt)))),
+          (tt, (tt, (once_by (λ (x : Option ℕ). spotted x a.0 a.1.1.1.0.now a.1.1.1.1.0 (said_of a.1.0 a.1.1.0)) e p' q' i, (tt, tt)))),
         ),
       ))
 

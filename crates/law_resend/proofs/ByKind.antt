@@ -1,5 +1,6 @@
 -- The runs of one number, done again on what they left of its store, change nothing: of a random number always, of a purse number where
 -- no block is named twice, of a cyclic number where there is one run. Assumes nothing.
+use Rattle.std.proofs.Common.{Some}
 use Prim.Native.Nat.{ℕ, ◌+◌, ◌-◌, ◌*◌, ◌≤◌, ◌<◌}
 use native.Mathlib.Omega.{arith}
 use native.Mathlib.Decide.{ℕ_discrete, dec_lt, dec_le}
@@ -12,7 +13,6 @@ use lib.ListN.{length, get_or}
 use lib.Seq.{take_all, ext_get_or, get_or-take}
 use borrow.Author.Tests.{eq-eqb, ne_eqb}
 use Rattle.service_code.specs.declared.code.ServiceAttribute.TheVariants.{RandomReadWrite, CyclicReadWrite}
-use Rattle.service_code.specs.declared.code.Decoded.TheVariants.{Defined}
 use Rattle.answers.specs.declared.status.Fault.{Fault}
 use Rattle.answers.specs.declared.status.Fault.TheVariants.{CyclicBlock}
 use Rattle.answers.specs.Outcome.{Outcome, passed, failed}
@@ -83,7 +83,7 @@ module _ (rows : List Row) (d : List ℕ) (n blocks : ℕ) where
   abbrev pub RandomStep : Step BlockListElement → Type 0
   RandomStep p =
       number_in rows (element_of p) ≡ n
-      → ((row_in rows (element_of p)).attribute ≡ Defined RandomReadWrite) × Brings (index_of p) (element_of p)
+      → ((row_in rows (element_of p)).attribute ≡ Some RandomReadWrite) × Brings (index_of p) (element_of p)
 
   random_puts : (i : ℕ) (x : BlockListElement) → RandomStep (element i x) → number_in rows x ≡ n → (u : List ℕ) →
       own_element rows d n i x u ≡ good (put u (16 * x.number) 16 (data_at i))
@@ -160,7 +160,7 @@ module _ (rows : List Row) (d : List ℕ) (n blocks : ℕ) where
 
   -- Cyclic: an element of the number must name block 0, and a run's end does the rest.
   abbrev pub RingStep : Step BlockListElement → Type 0
-  RingStep p = number_in rows (element_of p) ≡ n → (row_in rows (element_of p)).attribute ≡ Defined CyclicReadWrite
+  RingStep p = number_in rows (element_of p) ≡ n → (row_in rows (element_of p)).attribute ≡ Some CyclicReadWrite
 
   -- two runs of the number
   abbrev pub RingApart : Step BlockListElement → Step BlockListElement → Type 0

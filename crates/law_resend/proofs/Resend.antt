@@ -1,5 +1,6 @@
 -- An accepted write that is sent again does no harm, where no write between was accepted. Read specs/Resend.antt for the statement:
 -- `Resent c`. The last law says that it holds of every card.
+use Rattle.std.proofs.Common.{Some, Result, Ok, Err}
 use Prim.Native.Nat.{ℕ, ◌+◌, ◌*◌, ◌≤◌}
 use native.Mathlib.Omega.{arith}
 use native.Mathlib.Decide.{ℕ_discrete}
@@ -14,8 +15,6 @@ use Rattle.service_code.specs.declared.code.ServiceKind.{ServiceKind}
 use Rattle.service_code.specs.declared.code.ServiceKind.TheVariants.{Random, Cyclic, Purse}
 use Rattle.service_code.specs.declared.code.ServiceAttribute.{ServiceAttribute}
 use Rattle.service_code.specs.declared.code.ServiceAttribute.TheVariants.{RandomReadWrite, RandomReadOnly, CyclicReadWrite, CyclicReadOnly, PurseDirect, PurseCashback, PurseDecrement, PurseReadOnly}
-use Rattle.service_code.specs.declared.code.Decoded.TheVariants.{Defined}
-use Rattle.service_code.specs.declared.code.DecodedKind.TheVariants.{Defined as OfKind}
 use Rattle.service_code.specs.Code.{number_of, code_kind_of, kind_of, decoded_kind_of, allows_write}
 use Rattle.block_list.specs.declared.element.BlockListElement.{BlockListElement}
 use Rattle.byte_parts.specs.Part.{part, put}
@@ -26,8 +25,6 @@ use Rattle.card_laws.specs.Built.{Built}
 use Rattle.card_laws.proofs.Built.{sound_built}
 use Rattle.card_laws.proofs.Laid.{laid}
 use Rattle.rule_purse.specs.declared.fields.PurseOperation.TheVariants.{Direct, Decrement}
-use Rattle.request_check.specs.declared.check.Checked.{Checked}
-use Rattle.request_check.specs.declared.check.Checked.TheVariants.{Passed as AllPassed, Failed as FailedAt}
 use Rattle.request_check.specs.declared.table.Row.{Row}
 use Rattle.request_check.specs.Check.{checked_from}
 use Rattle.request_check.specs.Row.{row_in, number_in}
@@ -54,9 +51,10 @@ use Rattle.law_terminals.proofs.Stored.{random-writes, Checks}
 use Rattle.law_terminals.proofs.Written.{checks_from_lem}
 use Rattle.law_resend.proofs.Stores.{staged-long, staged-again}
 use Rattle.law_resend.proofs.ByKind.{Brings, PurseElement, RandomStep, RingStep, RingApart, PurseStep, PurseApart, step_own, random-again, rings-again, purses-again}
+use Rattle.answers.specs.declared.status.Failure.{Failure}
 
 -- of the cyclic kind only one attribute may be written
-cyclic_writes : (a : ServiceAttribute) → OfKind (kind_of a) ≡ OfKind Cyclic → allows_write a ≡ true → Defined a ≡ Defined CyclicReadWrite
+cyclic_writes : (a : ServiceAttribute) → Some (kind_of a) ≡ Some Cyclic → allows_write a ≡ true → Some a ≡ Some CyclicReadWrite
 cyclic_writes RandomReadWrite k w = absurd (let z : ◌≡◌ {A = ℕ} 0 1 = cc in (omega arith))
 cyclic_writes RandomReadOnly k w = absurd (false≢true w)
 cyclic_writes CyclicReadWrite k w = refl
@@ -67,8 +65,8 @@ cyclic_writes PurseDecrement k w = absurd (let z : ◌≡◌ {A = ℕ} 0 1 = cc 
 cyclic_writes PurseReadOnly k w = absurd (false≢true w)
 
 -- those of the purse kind are purse writes
-purse_writes : (rows : List Row) (d : List ℕ) (n blocks i : ℕ) (x : BlockListElement) (a : ServiceAttribute) → (row_in rows x).attribute ≡ Defined a →
-    OfKind (kind_of a) ≡ OfKind Purse → allows_write a ≡ true → Brings rows d n blocks i x → PurseElement rows d n blocks i x
+purse_writes : (rows : List Row) (d : List ℕ) (n blocks i : ℕ) (x : BlockListElement) (a : ServiceAttribute) → (row_in rows x).attribute ≡ Some a →
+    Some (kind_of a) ≡ Some Purse → allows_write a ≡ true → Brings rows d n blocks i x → PurseElement rows d n blocks i x
 unfolding element_by end_by
 purse_writes rows d n blocks i x RandomReadWrite q k w f = absurd (let z : ◌≡◌ {A = ℕ} 0 1 = cc in (omega arith))
 purse_writes rows d n blocks i x RandomReadOnly q k w f = absurd (false≢true w)
@@ -122,7 +120,7 @@ module _ {c : Card} (b : Built c) (a : List ℕ) (w : Request) (t : w.write ≡ 
   numbered : (x : BlockListElement) → Fine x → number_in rows x ≡ number_of (code_of x)
   numbered x g = ap number_of (index_code_lem (nodes_of c) w.codes x.index g.known)
 
-  kinded : (x : BlockListElement) (g : Fine x) → code_kind_of (code_of x) ≡ OfKind (kind_of g.attribute)
+  kinded : (x : BlockListElement) (g : Fine x) → code_kind_of (code_of x) ≡ Some (kind_of g.attribute)
   unfolding code_kind_of
   kinded x g = ap decoded_kind_of (sym (service x g).attribute ∙ g.defined)
 
@@ -131,7 +129,7 @@ module _ {c : Card} (b : Built c) (a : List ℕ) (w : Request) (t : w.write ≡ 
     stored : ((row_in rows y).start ≡ (row_in rows x).start) × ((row_in rows y).blocks ≡ (row_in rows x).blocks) × (code_kind_of (code_of y) ≡ code_kind_of (code_of x))
     stored = one_store (laid b) (service y h) (service x g) (sym (numbered y h) ∙ q ∙ numbered x g)
 
-    alike : OfKind (kind_of h.attribute) ≡ OfKind (kind_of g.attribute)
+    alike : Some (kind_of h.attribute) ≡ Some (kind_of g.attribute)
     alike = sym (kinded y h) ∙ stored.2 ∙ kinded x g
 
   -- each row is that of its number
@@ -150,7 +148,7 @@ module _ {c : Card} (b : Built c) (a : List ℕ) (w : Request) (t : w.write ≡ 
 
   -- element i, where it stands
   module _ (i : ℕ) (x : BlockListElement) (s : Stands (number_in rows) es nothing i x) where
-    named : (k : ServiceKind) (n : ℕ) → Fine x → code_kind_of (code_of x) ≡ OfKind k → number_in rows x ≡ n → NamesOfKind k n x.number w i
+    named : (k : ServiceKind) (n : ℕ) → Fine x → code_kind_of (code_of x) ≡ Some k → number_in rows x ≡ n → NamesOfKind k n x.number w i
     named k n g q h = record {
       listed = s.0;
       kinded = rw s.1 q;
@@ -181,20 +179,20 @@ module _ {c : Card} (b : Built c) (a : List ℕ) (w : Request) (t : w.write ≡ 
         stepped (step_own rows w.«data» n blocks) steps u ≡ walked v → stepped (step_own rows w.«data» n blocks) steps v ≡ walked v
     own_again purses rings u v l h = by_kind (kind_of g.attribute) refl
       where
-        random_each : OfKind (kind_of g.attribute) ≡ OfKind Random → (p : Step BlockListElement) → Checks rows w.«data» (index_of p) (element_of p) →
+        random_each : Some (kind_of g.attribute) ≡ Some Random → (p : Step BlockListElement) → Checks rows w.«data» (index_of p) (element_of p) →
             RandomStep rows w.«data» n blocks p
         random_each q p k r =
             let y = element_of p in
             let f = k.passes in
             (f.defined ∙ random-writes f.attribute (alike x y g f r ∙ q) (f.writable refl), brings (index_of p) y k r)
 
-        ring_each : OfKind (kind_of g.attribute) ≡ OfKind Cyclic → (p : Step BlockListElement) → Checks rows w.«data» (index_of p) (element_of p) →
+        ring_each : Some (kind_of g.attribute) ≡ Some Cyclic → (p : Step BlockListElement) → Checks rows w.«data» (index_of p) (element_of p) →
             RingStep rows w.«data» n blocks p
         ring_each q p k r =
             let f = k.passes in
             f.defined ∙ cyclic_writes f.attribute (alike x (element_of p) g f r ∙ q) (f.writable refl)
 
-        purse_each : OfKind (kind_of g.attribute) ≡ OfKind Purse → (p : Step BlockListElement) → Checks rows w.«data» (index_of p) (element_of p) →
+        purse_each : Some (kind_of g.attribute) ≡ Some Purse → (p : Step BlockListElement) → Checks rows w.«data» (index_of p) (element_of p) →
             PurseStep rows w.«data» n blocks p
         purse_each q p k r =
             let f = k.passes in
@@ -202,8 +200,8 @@ module _ {c : Card} (b : Built c) (a : List ℕ) (w : Request) (t : w.write ≡ 
             (brings (index_of p) (element_of p) k r)
 
         -- an element of the number is of its kind
-        of_kind_lem : (k : ServiceKind) → kind_of g.attribute ≡ k → (y : BlockListElement) → Fine y → number_in rows y ≡ n → code_kind_of (code_of y) ≡ OfKind k
-        of_kind_lem k q y f r = kinded y f ∙ alike x y g f r ∙ ap OfKind q
+        of_kind_lem : (k : ServiceKind) → kind_of g.attribute ≡ k → (y : BlockListElement) → Fine y → number_in rows y ≡ n → code_kind_of (code_of y) ≡ Some k
+        of_kind_lem k q y f r = kinded y f ∙ alike x y g f r ∙ ap Some q
 
         purse_apart : kind_of g.attribute ≡ Purse → (p o : Step BlockListElement) → Placed p → Placed o → Before p o →
             PurseApart rows w.«data» n blocks p o
@@ -230,10 +228,10 @@ module _ {c : Card} (b : Built c) (a : List ℕ) (w : Request) (t : w.write ≡ 
             ]
 
         by_kind : (k : ServiceKind) → kind_of g.attribute ≡ k → stepped (step_own rows w.«data» n blocks) steps v ≡ walked v
-        by_kind Random q = random-again rows w.«data» n blocks steps u v (each_map _ _ (random_each (ap OfKind q)) steps each_checks) l h
-        by_kind Cyclic q = rings-again rows w.«data» n blocks steps u v (each_map _ _ (ring_each (ap OfKind q)) steps each_checks)
+        by_kind Random q = random-again rows w.«data» n blocks steps u v (each_map _ _ (random_each (ap Some q)) steps each_checks) l h
+        by_kind Cyclic q = rings-again rows w.«data» n blocks steps u v (each_map _ _ (ring_each (ap Some q)) steps each_checks)
             (pairs-map Placed (Parted (number_in rows) es nothing) _ (ring_apart q) steps each_placed (runs_parted (number_in rows) es nothing)) h
-        by_kind Purse q = purses-again rows w.«data» n blocks steps u v (each_map _ _ (purse_each (ap OfKind q)) steps each_checks)
+        by_kind Purse q = purses-again rows w.«data» n blocks steps u v (each_map _ _ (purse_each (ap Some q)) steps each_checks)
             (pairs-map Placed Before _ (purse_apart q) steps each_placed (steps_ordered 0 (runs_of (number_in rows) es))) l h
 
   -- the plan asks of the arena only its length, so it is the first one's
@@ -241,9 +239,9 @@ module _ {c : Card} (b : Built c) (a : List ℕ) (w : Request) (t : w.write ≡ 
   unfolding serve plan_of
   planned = by_judged (judged_of c (length a) w) e
     where
-      by_checked : (k : Checked) → (plan_served c a w (checked_plan es k)).reply ≡ Done → checked_plan es k ≡ go es
-      by_checked AllPassed h = refl
-      by_checked (FailedAt i f) h = absurd (let z : ◌≡◌ {A = ℕ} 0 1 = cc in (omega arith))
+      by_checked : (k : Result Unit Failure) → (plan_served c a w (checked_plan es k)).reply ≡ Done → checked_plan es k ≡ go es
+      by_checked (Ok tt) h = refl
+      by_checked (Err failure) h = absurd (let z : ◌≡◌ {A = ℕ} 0 1 = cc in (omega arith))
 
       by_judged : (j : Judged) → (plan_served c a w (judged_plan c w j)).reply ≡ Done → judged_plan c w j ≡ go es
       by_judged (NotFit x) h = absurd (let z : ◌≡◌ {A = ℕ} 0 1 = cc in (omega arith))
@@ -313,9 +311,9 @@ lent_enough c a w room (t, e) h =
     ((accepted c a w e).fit.staging t))
     ∙ by_judged (judged_of c (length a) w)
   where
-    by_checked : (k : Checked) → plan_served c a (lending room w) (checked_plan (elements_in w) k) ≡ plan_served c a w (checked_plan (elements_in w) k)
-    by_checked AllPassed = refl
-    by_checked (FailedAt i f) = refl
+    by_checked : (k : Result Unit Failure) → plan_served c a (lending room w) (checked_plan (elements_in w) k) ≡ plan_served c a w (checked_plan (elements_in w) k)
+    by_checked (Ok tt) = refl
+    by_checked (Err failure) = refl
 
     by_judged : (j : Judged) → plan_served c a (lending room w) (judged_plan c (lending room w) j) ≡ plan_served c a w (judged_plan c w j)
     by_judged (NotFit x) = refl

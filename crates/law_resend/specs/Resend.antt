@@ -1,9 +1,8 @@
 -- The reply got lost: the statement. A write that was accepted is sent again, with no other accepted write between.
-use Rattle.std.specs.Prelude.{ℕ, ◌*◌, ◌≤◌, ◌<◌, true, List, [], ◌∷◌, ◌≡◌, length}
+use Rattle.std.specs.Prelude.{ℕ, ◌*◌, ◌≤◌, ◌<◌, true, List, [], ◌∷◌, ◌≡◌, length, Some}
 use Rattle.byte_parts.specs.Sizes.{block_size}
 use Rattle.service_code.specs.declared.code.ServiceKind.{ServiceKind}
 use Rattle.service_code.specs.declared.code.ServiceKind.TheVariants.{Cyclic, Purse}
-use Rattle.service_code.specs.declared.code.DecodedKind.TheVariants.{Defined as OfKind}
 use Rattle.service_code.specs.Code.{number_of, code_kind_of}
 use Rattle.card_build.specs.declared.card.Card.{Card}
 use Rattle.request_plan.specs.declared.Reply.TheVariants.{Done}
@@ -16,7 +15,7 @@ use Rattle.law_terminals.specs.Last.{element_at, code_named, arena_then}
 -- element i of a request, of a service of that kind, names block b of the service number n
 pub record NamesOfKind (kind : ServiceKind) (n b : ℕ) (r : Request) (i : ℕ) : Type 0 where
   pub listed : i < length (elements_in r)
-  pub kinded : code_kind_of (code_named r i) ≡ OfKind kind
+  pub kinded : code_kind_of (code_named r i) ≡ Some kind
   pub number : number_of (code_named r i) ≡ n
   pub block : (element_at r i).number ≡ b
 

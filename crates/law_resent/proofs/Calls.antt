@@ -1,5 +1,6 @@
 -- What users call: the program's own `write`, the library's `uluvoli_write`, and `W` lines. By their contracts (law_calls) they are calls that
 -- make requests; so sent again they do no harm. Read specs/Calls.antt for the statements.
+use Rattle.std.proofs.Common.{Option, Some, None}
 use mathlib.Core.Path.{◌≡◌, refl, sym, ap, ◌∙◌, subst}
 use mathlib.Core.Bool.{Bool, true, false, false≢true}
 use mathlib.Core.List.{List, [], ◌∷◌, map}
@@ -16,7 +17,7 @@ use Rattle.request_plan.specs.Plan.{Plan, stop, go, plan_of, rows_in}
 use Rattle.request_plan.specs.Serve.{committed, carried, plan_served, serve}
 use Rattle.handset_bytes.specs.Card.{card_decoded}
 use Rattle.line_request.specs.declared.Ask.{Ask}
-use Rattle.line_request.specs.declared.Ask.TheVariants.{Malformed, Read, Write}
+use Rattle.line_request.specs.declared.Ask.TheVariants.{Read, Write}
 use Rattle.line_request.specs.Ask.{ask_of}
 use Rattle.line_answer.specs.Answer.{answer_text}
 use Rattle.line_serve.specs.Line.{ask_served, line_served}
@@ -111,17 +112,17 @@ module _ (c : Card) (z : length c.nodes ≡ 64) where
   unfolding line_served request_text
   line_resent a k ks room t e purses rings idle enough = by_ask (ask_of k.line) t e purses rings idle
     where
-      by_ask : (x : Ask) → let w = request_by (length k.work) k.line x in
+      by_ask : (x : Option Ask) → let w = request_by (length k.work) k.line x in
           w.write ≡ true → (ask_served c a (length k.work) k.line x).reply ≡ Done →
           PursesOnce w → RingsOnce w → IdleThen c a w (map line_request ks) →
           let b = arena_then c a w (map line_request ks) in
           ((ask_served c b room k.line x).arena ≡ b)
           × ((o : ℕ) → answer_text o (ask_served c b room k.line x).reply (ask_served c b room k.line x).read
           ≡ answer_text o (ask_served c a (length k.work) k.line x).reply (ask_served c a (length k.work) k.line x).read)
-      by_ask Malformed w d p q i = absurd (false≢true w)
-      by_ask (Read «open» count) w d p q i = absurd (false≢true w)
-      by_ask (Write «open» count) w d p q i =
-          let f = answered a (request_by (length k.work) k.line (Write «open» count)) (map line_request ks) room w d p q i enough in
+      by_ask None w d p q i = absurd (false≢true w)
+      by_ask (Some (Read «open» count)) w d p q i = absurd (false≢true w)
+      by_ask (Some (Write «open» count)) w d p q i =
+          let f = answered a (request_by (length k.work) k.line (Some (Write «open» count))) (map line_request ks) room w d p q i enough in
           (f.1, λ o. ap (λ (y : Answer). answer_text o y.reply y.read) f.0)
 
 -- the library's `uluvoli_write`, on any bytes that stand for a card, with reads and boards between

@@ -1,4 +1,5 @@
 -- Fifteen worked rows, subject by subject (`Whole` has them in one statement), which the definitions compute: so they say what the rules say, at these values at least. Assumes nothing.
+use Rattle.std.proofs.Common.{Option, Some, None, Ok, Err}
 use Prim.Native.Nat.{ℕ}
 use mathlib.Core.Path.{◌≡◌, refl}
 use mathlib.Core.Bool.{true}
@@ -6,7 +7,6 @@ use mathlib.Core.List.{List, [], ◌∷◌, ◌++◌}
 use lib.ListN.{replicate}
 use lib.IntN.{pos, negsuc}
 use Rattle.answers.specs.declared.status.Fault.TheVariants.{OutsideLimits, OutsideWord, CashbackExceeds, CyclicTooLong}
-use Rattle.service_code.specs.declared.code.Decoded.TheVariants.{Defined}
 use Rattle.service_code.specs.declared.code.ServiceAttribute.TheVariants.{RandomReadWrite}
 use Rattle.service_code.specs.Code.{number_of, attributes_of, table_of, decoded_of, attribute_of, requires_key}
 use Rattle.answers.specs.Status.{sf1_of, sf2_of}
@@ -17,13 +17,13 @@ use Rattle.byte_parts.specs.Sizes.{block_size}
 use Rattle.byte_parts.specs.Word.{word_at, word_bytes, signed_of, word_of}
 use Rattle.rule_purse.specs.declared.fields.PurseOperation.TheVariants.{Decrement, Cashback}
 use Rattle.service_code.specs.declared.limit.Limit.{Limit}
-use Rattle.service_code.specs.declared.limit.Limit.TheVariants.{Unlimited, Limited}
 use Rattle.rule_purse.specs.declared.fields.PurseData.{PurseData}
-use Rattle.rule_purse.specs.declared.fields.PurseWrite.TheVariants.{Unchanged, Stored, Failed}
+use Rattle.rule_purse.specs.declared.fields.PurseWrite.TheVariants.{Unchanged, Stored}
 use Rattle.answers.specs.Outcome.{passed, failed}
 use Rattle.rule_purse.specs.Purse.{value_of, inside_of, outside_of, sum_of, stored_of, purse_rule}
 use Rattle.rule_cyclic.specs.Cyclic.{cyclic_of}
 use Rattle.rule_purse.specs.Bytes.{purse_data_of, block_of, purse_applied}
+use Rattle.service_code.specs.Limit.{limited_to}
 
 -- The fields of a purse block.
 abbrev fields : ℕ → ℕ → ℕ → PurseData
@@ -35,7 +35,7 @@ block n = replicate block_size n
 
 -- 1048: number 41h, keyed random.
 abbrev pub P1 : Type 0
-P1 = (number_of 0x1048 ≡ 0x41) × (attribute_of 0x1048 ≡ Defined RandomReadWrite) × (requires_key 0x1048 ≡ true)
+P1 = (number_of 0x1048 ≡ 0x41) × (attribute_of 0x1048 ≡ Some RandomReadWrite) × (requires_key 0x1048 ≡ true)
 
 -- Pack 255, index 1, mode 0: 81 FF.
 abbrev pub P2 : Type 0
@@ -55,38 +55,38 @@ P5 = places_of 0xff ≡ 1 ∷ 2 ∷ 3 ∷ 4 ∷ 5 ∷ 6 ∷ 7 ∷ 8 ∷ 9 ∷ 10
 
 -- Purse 100, ids unequal: less 100 gives 0.
 abbrev pub P6 : Type 0
-P6 = purse_rule Decrement Unlimited (fields 100 0 1) (fields 100 0 2) ≡ Stored 0 100
+P6 = purse_rule Decrement None (fields 100 0 1) (fields 100 0 2) ≡ Ok (Stored 0 100)
 
 -- Less 101 gives 01.
 abbrev pub P7 : Type 0
-P7 = (purse_rule Decrement Unlimited (fields 100 0 1) (fields 101 0 2) ≡ Failed OutsideWord) × (sf2_of OutsideWord ≡ 0x01)
+P7 = (purse_rule Decrement None (fields 100 0 1) (fields 101 0 2) ≡ Err OutsideWord) × (sf2_of OutsideWord ≡ 0x01)
 
 -- The same with equal ids is unchanged.
 abbrev pub P8 : Type 0
-P8 = purse_rule Decrement Unlimited (fields 100 0 1) (fields 101 0 1) ≡ Unchanged
+P8 = purse_rule Decrement None (fields 100 0 1) (fields 101 0 1) ≡ Ok Unchanged
 
 -- Cashback held 30: 30 passes.
 abbrev pub P9 : Type 0
-P9 = purse_rule Cashback Unlimited (fields 100 30 1) (fields 30 0 2) ≡ Stored 130 0
+P9 = purse_rule Cashback None (fields 100 30 1) (fields 30 0 2) ≡ Ok (Stored 130 0)
 
 -- 31 is 02.
 abbrev pub P10 : Type 0
-P10 = (purse_rule Cashback Unlimited (fields 100 30 1) (fields 31 0 2) ≡ Failed CashbackExceeds) × (sf2_of CashbackExceeds ≡ 0x02)
+P10 = (purse_rule Cashback None (fields 100 30 1) (fields 31 0 2) ≡ Err CashbackExceeds) × (sf2_of CashbackExceeds ≡ 0x02)
 
 -- The limit of the next two: -50 to 200.
-abbrev narrow : Limit
-narrow = Limited (pos 200) (negsuc 49) 0
+abbrev narrow : Option Limit
+narrow = limited_to (pos 200) (negsuc 49) 0
 
 -- Purse 0: less 50 stores CE FF FF FF. Of the block's other bytes, 4 to 7 are the amount, 8 to 11 kept, 12 to 15 the command's.
 abbrev pub P11 : Type 0
 P11 =
-    (purse_rule Decrement narrow (fields 0 0 1) (fields 50 0 2) ≡ Stored 0xffff_ffce 50)
+    (purse_rule Decrement narrow (fields 0 0 1) (fields 50 0 2) ≡ Ok (Stored 0xffff_ffce 50))
     × (purse_applied Decrement narrow (replicate 8 0 ++ replicate 4 7 ++ replicate 4 1) (50 ∷ replicate 11 0 ++ replicate 4 2)
     ≡ passed (0xce ∷ 0xff ∷ 0xff ∷ 0xff ∷ 50 ∷ 0 ∷ 0 ∷ 0 ∷ replicate 4 7 ++ replicate 4 2))
 
 -- Less 51 is 03.
 abbrev pub P12 : Type 0
-P12 = (purse_rule Decrement narrow (fields 0 0 1) (fields 51 0 2) ≡ Failed OutsideLimits) × (sf2_of OutsideLimits ≡ 0x03)
+P12 = (purse_rule Decrement narrow (fields 0 0 1) (fields 51 0 2) ≡ Err OutsideLimits) × (sf2_of OutsideLimits ≡ 0x03)
 
 -- Cyclic x y z: p q gives p q x.
 abbrev pub P13 : Type 0

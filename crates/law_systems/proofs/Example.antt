@@ -1,5 +1,6 @@
 -- The theorems are not empty: a system begun at block 2 and at block 0, requests of each kind computed on both, and one that is refused
 -- with 4 on the card of more blocks in use alone.
+use Rattle.std.proofs.Common.{Some, None}
 use Prim.Native.Nat.{ℕ, zero, suc, ◌+◌}
 use mathlib.Core.Path.{◌≡◌, refl}
 use mathlib.Core.Bool.{true}
@@ -7,7 +8,6 @@ use mathlib.Core.List.{List, [], ◌∷◌, ◌++◌}
 use lib.ListN.{replicate}
 use Rattle.answers.specs.declared.status.Fault.TheVariants.{OutsideWord}
 use Rattle.answers.specs.declared.refusal.Refusal.TheVariants.{ShortStaging}
-use Rattle.service_code.specs.declared.limit.Limit.TheVariants.{Unlimited}
 use Rattle.service_code.specs.Code.{number_of, attributes_of, table_of, decoded_of, attribute_of, code_kind_of, requires_key}
 use Rattle.block_list.specs.Element.{unpack_at, ends_from, ends_after, elements_from}
 use Rattle.byte_parts.specs.Part.{part, put, same_bytes}
@@ -20,7 +20,6 @@ use Rattle.card_nodes.specs.declared.node.Node.{Node}
 use Rattle.card_nodes.specs.Node.{root_node}
 use Rattle.card_nodes.specs.Find.{first_from, open_at, parent_from}
 use Rattle.card_admit.specs.Admit.{is_depth, parent_at, outside, service_under, same_kind, joined_to, usable, new_store, placed_of}
-use Rattle.card_sound.specs.declared.Step.TheVariants.{Goes}
 use Rattle.card_sound.specs.Sound.{step_of, steps_from}
 use Rattle.card_build.specs.Grow.{node_as}
 use Rattle.request_check.specs.Row.{row_of}
@@ -42,13 +41,13 @@ use Rattle.law_systems.specs.Alike.{StoresAlike}
 -- a random block, a purse and a ring of two, begun at a block
 abbrev nodes_from : ℕ → List Node
 nodes_from k =
-    node_as 1 0x1049 0 (Service k 1 Unlimited)
-    ∷ node_as 1 0x1095 0 (Service (k + 1) 1 Unlimited)
-    ∷ node_as 1 0x10cd 0 (Service (k + 2) 2 Unlimited)
+    node_as 1 0x1049 0 (Service k 1 None)
+    ∷ node_as 1 0x1095 0 (Service (k + 1) 1 None)
+    ∷ node_as 1 0x10cd 0 (Service (k + 2) 2 None)
     ∷ []
 
 -- the walk of refusal 8 goes over them from block 0 and from block 2 on
-goes : (steps_from (root_node ∷ []) 0 (nodes_from 0) ≡ Goes 4) × (steps_from (root_node ∷ []) 2 (nodes_from 2) ≡ Goes 6)
+goes : (steps_from (root_node ∷ []) 0 (nodes_from 0) ≡ Some 4) × (steps_from (root_node ∷ []) 2 (nodes_from 2) ≡ Some 6)
 unfolding steps_from step_of placed_of is_depth parent_at parent_from open_at first_from service_under outside same_kind joined_to usable new_store number_of attributes_of table_of decoded_of attribute_of code_kind_of
 goes = (refl, refl)
 

@@ -1,4 +1,5 @@
 -- The bytes of a system's stores: those of its rows are among them, and where they lie by the blocks in use. Assumes nothing.
+use Rattle.std.proofs.Common.{Option, Some, None}
 use Prim.Native.Nat.{ℕ, zero, suc, ◌+◌, ◌-◌, ◌*◌, ◌≤◌, ◌<◌}
 use native.Mathlib.Omega.{arith}
 use mathlib.Core.Path.{◌≡◌, refl, sym, ap, ◌∙◌, subst}
@@ -9,8 +10,6 @@ use Rattle.byte_parts.proofs.Part.{get_d_part}
 use Rattle.card_nodes.specs.declared.node.Entry.{Entry}
 use Rattle.card_nodes.specs.declared.node.Entry.TheVariants.{Area, Service}
 use Rattle.card_nodes.specs.declared.node.Node.{Node}
-use Rattle.card_nodes.specs.declared.find.Found.{Found}
-use Rattle.card_nodes.specs.declared.find.Found.TheVariants.{At, Nothing}
 use Rattle.card_nodes.specs.Node.{start_of, blocks_of}
 use Rattle.card_nodes.specs.Find.{service_of}
 use Rattle.request_check.specs.Row.{row_by, row_at, row_of, rows_of, row_at_index}
@@ -30,9 +29,9 @@ module _ (ns : List Node) where
       by_entry_lem j (Area e) q l = absurd (omega arith)
       by_entry_lem j (Service s b m) q l = record { node = j; from = rw q l.0; to = rw q l.1 }
 
-      by_found : (f : Found) → LiesIn (row_at ns code f) i → Stored ns i
-      by_found (At j) l = by_entry_lem j (entry_at ns j) refl l
-      by_found Nothing l = absurd (omega arith)
+      by_found : (f : Option ℕ) → LiesIn (row_at ns code f) i → Stored ns i
+      by_found (Some j) l = by_entry_lem j (entry_at ns j) refl l
+      by_found None l = absurd (omega arith)
 
   -- so is a byte of the row at an index
   pub rows_stored : (codes : List ℕ) (j i : ℕ) → LiesIn (row_at_index (rows_of ns codes) j) i → Stored ns i

@@ -1,29 +1,26 @@
 -- The rows of moved nodes are alike, and are checked alike. Assumes nothing.
+use Rattle.std.proofs.Common.{Option, Some, None, Err}
 use Prim.Native.Nat.{ℕ, zero, suc, ◌+◌}
 use mathlib.Core.Path.{◌≡◌, refl, sym, ap, ◌∙◌}
 use mathlib.Core.Bool.{Bool, cond, not}
 use mathlib.Core.List.{List, [], ◌∷◌}
 use mathlib.Core.Logic.{inl, inr}
 use lib.ListN.{get_or, length-map}
-use Rattle.service_code.specs.declared.code.Decoded.{Decoded}
-use Rattle.service_code.specs.declared.code.Decoded.TheVariants.{Defined, Undefined}
 use Rattle.block_list.specs.declared.element.BlockListElement.{BlockListElement}
 use Rattle.card_nodes.specs.declared.node.Entry.{Entry}
 use Rattle.card_nodes.specs.declared.node.Entry.TheVariants.{Area, Service}
 use Rattle.card_nodes.specs.declared.node.Node.{Node}
-use Rattle.card_nodes.specs.declared.find.Found.{Found}
-use Rattle.card_nodes.specs.declared.find.Found.TheVariants.{At, Nothing}
 use Rattle.card_nodes.specs.Node.{root_node}
 use Rattle.card_nodes.specs.Find.{service_of}
 use Rattle.card_nodes.proofs.Searches.{service_look}
 use Rattle.request_check.specs.declared.table.Row.{Row}
 use Rattle.request_check.specs.Row.{no_row, row_by, row_at, row_of, rows_of, row_at_index, row_in}
 use Rattle.answers.specs.declared.status.Fault.TheVariants.{AccessMode}
-use Rattle.request_check.specs.declared.check.Check.TheVariants.{Failed}
 use Rattle.request_check.specs.Check.{mode_allowed, defined_check, service_check, row_check, element_check, checked_from}
 use Rattle.card_moved.specs.Moved.{moved_entry, moved}
 use Rattle.law_systems.specs.Rows.{RowAlike, RowsAlike}
 use Rattle.card_moved.proofs.Looks.{look_moved, node-moved}
+use Rattle.service_code.specs.declared.code.ServiceAttribute.{ServiceAttribute}
 
 module _ (k : ℕ) where
   -- a row without blocks, as those of unknown codes are, is alike to itself
@@ -53,9 +50,9 @@ module _ (k : ℕ) where
         start_moved = inr refl;
       }
 
-      by_found : (f : Found) → RowAlike k (row_at (moved k ns) code f) (row_at ns code f)
-      by_found (At j) = rw (node-moved k ns j) (by_entry_lem (get_or ns j root_node).entry)
-      by_found Nothing = by_entry_lem (Area 0)
+      by_found : (f : Option ℕ) → RowAlike k (row_at (moved k ns) code f) (row_at ns code f)
+      by_found (Some j) = rw (node-moved k ns j) (by_entry_lem (get_or ns j root_node).entry)
+      by_found None = by_entry_lem (Area 0)
 
   -- so at each index; past the end no row is read
   each_moved : (ns : List Node) (codes : List ℕ) (j : ℕ) →
@@ -77,12 +74,12 @@ module _ (k : ℕ) where
     row_check_lem : (w v : Row) (number mode : ℕ) → RowAlike k w v → row_check w write «open» number mode ≡ row_check v write «open» number mode
     unfolding row_check service_check
     row_check_lem w v number mode x =
-        ap (cond (not (mode_allowed write mode)) (Failed AccessMode))
+        ap (cond (not (mode_allowed write mode)) (Err AccessMode))
         (ap (defined_check w write «open» number mode) x.attribute-alike ∙ by_decoded v.attribute)
       where
-        by_decoded : (d : Decoded) → defined_check w write «open» number mode d ≡ defined_check v write «open» number mode d
-        by_decoded Undefined = refl
-        by_decoded (Defined a) = rw (x.found_alike, x.code_alike, x.blocks-alike)
+        by_decoded : (d : Option ServiceAttribute) → defined_check w write «open» number mode d ≡ defined_check v write «open» number mode d
+        by_decoded None = refl
+        by_decoded (Some a) = rw (x.found_alike, x.code_alike, x.blocks-alike)
 
     -- and so are all elements
     pub checked_alike : {ws vs : List Row} → RowsAlike k ws vs → (i : ℕ) (es : List BlockListElement) →

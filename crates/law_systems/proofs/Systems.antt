@@ -1,4 +1,5 @@
 -- One request to one system on two cards, its stores k blocks later on the first. Assumes nothing.
+use Rattle.std.proofs.Common.{Result, Ok, Err}
 use Prim.Native.Nat.{ℕ, ◌+◌, ◌*◌, ◌≤◌, ◌<◌}
 use native.Mathlib.Omega.{arith}
 use mathlib.Core.Path.{◌≡◌, refl, sym, ap, ◌∙◌}
@@ -11,8 +12,6 @@ use Rattle.card_nodes.specs.declared.node.Node.{Node}
 use Rattle.card_build.specs.declared.card.Card.{Card}
 use Rattle.card_build.specs.Card.{nodes_of, is_sound}
 use Rattle.request_check.specs.declared.table.Row.{Row}
-use Rattle.request_check.specs.declared.check.Checked.{Checked}
-use Rattle.request_check.specs.declared.check.Checked.TheVariants.{Passed as AllPassed, Failed as FailedAt}
 use Rattle.request_check.specs.Row.{rows_of}
 use Rattle.request_check.specs.Check.{checked_from}
 use Rattle.request_runs.specs.Runs.{Walked, bad, good}
@@ -32,6 +31,7 @@ use Rattle.law_systems.proofs.Rows.{rows_moved, checked_alike}
 use Rattle.law_systems.proofs.Walks.{Both, read_alike, staged_alike}
 use Rattle.law_systems.proofs.Judged.{LentJudged, Close, judged_close, judged_arena}
 use Rattle.law_systems.proofs.Places.{rows_stored, stored-within, alike_shifted, shifted_alike}
+use Rattle.answers.specs.declared.status.Failure.{Failure}
 
 -- The nodes ns, with their stores among `blocks` blocks in use; and moved by k, among `used`.
 module _ (ns : List Node) (k used blocks : ℕ) (far : StoresWithin (moved k ns) used) (near : StoresWithin ns blocks) where
@@ -102,10 +102,10 @@ module _ (ns : List Node) (k used blocks : ℕ) (far : StoresWithin (moved k ns)
             let l = f refl in
             (omega (arith, q.0, l.0), omega (arith, q.1, l.1))) h
 
-        by_checked : (x : Checked) →
+        by_checked : (x : Result Unit Failure) →
             Told (served_by (moved k ns) used a r (checked_plan (elements_in r) x)) (served_by ns blocks b r (checked_plan (elements_in r) x))
-        by_checked AllPassed = carried_alike (elements_in r) lies
-        by_checked (FailedAt i g) = only_alike (Failed i g) h
+        by_checked (Ok tt) = carried_alike (elements_in r) lies
+        by_checked (Err failure) = only_alike (Failed failure.index failure.fault) h
 
     -- refusal 4 or 7 is told
     lent_told : (ms : List Node) (n : ℕ) (s : List ℕ) (j : Judged) → LentJudged j → LentShort (served_by ms n s r (plan_by ms r j))

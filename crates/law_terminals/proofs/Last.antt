@@ -1,5 +1,6 @@
 -- The tower reads what the marshal wrote last. Read specs/Last.antt for the statement: `TowerReads c`. The last law says that it holds
 -- of every card.
+use Rattle.std.proofs.Common.{Some}
 use Prim.Native.Nat.{ℕ, ◌+◌, ◌*◌, ◌<◌}
 use mathlib.Core.Path.{◌≡◌, refl, sym, ap, ◌∙◌}
 use mathlib.Core.Bool.{Bool, true, false}
@@ -7,7 +8,6 @@ use mathlib.Core.List.{List, [], ◌∷◌}
 use mathlib.Core.Logic.{⊎_elim}
 use lib.ListN.{length}
 use Rattle.service_code.specs.declared.code.ServiceKind.TheVariants.{Random}
-use Rattle.service_code.specs.declared.code.DecodedKind.TheVariants.{Defined as OfKind}
 use Rattle.service_code.specs.Code.{number_of, code_kind_of}
 use Rattle.byte_parts.specs.Part.{part}
 use Rattle.card_build.specs.declared.card.Card.{Card}
@@ -30,7 +30,7 @@ use Rattle.law_terminals.proofs.Given.{given, put_out}
 
 -- Requests of which no accepted write names block k of the random store of number n leave that block.
 module _ {c : Card} (b : Built c) {own n : ℕ} {v : Row} (o : ServiceRow (nodes_of c) own v) (numbered : number_of own ≡ n)
-    (random : code_kind_of own ≡ OfKind Random) {k : ℕ} (here : k < v.blocks) where
+    (random : code_kind_of own ≡ Some Random) {k : ℕ} (here : k < v.blocks) where
   -- the block, in an arena
   abbrev block : List ℕ → List ℕ
   block a = part a (16 * v.start + 16 * k) 16

@@ -1,4 +1,5 @@
 -- The stores that a request's rows hold are stores of the numbers that its codes name, and stores of different numbers are apart.
+use Rattle.std.proofs.Common.{Option, Some, None, false}
 use Prim.Native.Nat.{ℕ, zero, suc, ◌+◌, ◌*◌, ◌≤◌, ◌<◌}
 use native.Mathlib.Omega.{arith}
 use native.Mathlib.Decide.{ℕ_discrete}
@@ -12,8 +13,6 @@ use Rattle.block_list.specs.declared.element.BlockListElement.{BlockListElement}
 use Rattle.card_nodes.specs.declared.node.Entry.{Entry}
 use Rattle.card_nodes.specs.declared.node.Entry.TheVariants.{Area, Service}
 use Rattle.card_nodes.specs.declared.node.Node.{Node}
-use Rattle.card_nodes.specs.declared.find.Found.{Found}
-use Rattle.card_nodes.specs.declared.find.Found.TheVariants.{At, Nothing}
 use Rattle.card_nodes.specs.Node.{root_node, is_service, start_of, blocks_of}
 use Rattle.card_nodes.specs.Find.{service_of}
 use Rattle.card_build.specs.declared.card.Card.{Card}
@@ -34,9 +33,9 @@ row_code_lem ns code = here (service_of ns code)
     by_entry_lem (Area end) = refl
     by_entry_lem (Service start blocks limit) = refl
 
-    here : (f : Found) → (row_at ns code f).code ≡ code
-    here (At i) = by_entry_lem (get_or ns i root_node).entry
-    here Nothing = refl
+    here : (f : Option ℕ) → (row_at ns code f).code ≡ code
+    here (Some i) = by_entry_lem (get_or ns i root_node).entry
+    here None = refl
 
 pub index_code_lem : (ns : List Node) (codes : List ℕ) (j : ℕ) → j < length (rows_of ns codes) → (row_at_index (rows_of ns codes) j).code ≡ get_or codes j 0
 index_code_lem ns [] j h = absurd (omega arith)
@@ -73,9 +72,9 @@ module _ (ns : List Node) where
         attribute = refl;
       }
 
-      here : (f : Found) → service_of ns code ≡ f → Owned ns code (row_at ns code f)
-      here Nothing e = inl refl
-      here (At j) e = let s = served ns code e in inr (by_entry_lem j (node_at ns j).entry refl s.coded s.service)
+      here : (f : Option ℕ) → service_of ns code ≡ f → Owned ns code (row_at ns code f)
+      here None e = inl refl
+      here (Some j) e = let s = served ns code e in inr (by_entry_lem j (node_at ns j).entry refl s.coded s.service)
 
   -- the row of an index among codes; past their end it holds no byte
   pub index_owned : (codes : List ℕ) (j : ℕ) → Owned ns (get_or codes j 0) (row_at_index (rows_of ns codes) j)

@@ -1,4 +1,5 @@
 -- What the runs of a write leave of a block of a random store: what the elements that name it bring, one after the other.
+use Rattle.std.proofs.Common.{Option, Some, false}
 use Prim.Native.Nat.{ℕ, ◌+◌, ◌*◌, ◌≤◌, ◌<◌}
 use native.Mathlib.Omega.{arith}
 use native.Mathlib.Decide.{ℕ_discrete, dec_lt}
@@ -13,9 +14,6 @@ use borrow.Author.Tests.{eq-eqb, ne_eqb}
 use Rattle.service_code.specs.declared.code.ServiceKind.TheVariants.{Random}
 use Rattle.service_code.specs.declared.code.ServiceAttribute.{ServiceAttribute}
 use Rattle.service_code.specs.declared.code.ServiceAttribute.TheVariants.{RandomReadWrite, RandomReadOnly, CyclicReadWrite, CyclicReadOnly, PurseDirect, PurseCashback, PurseDecrement, PurseReadOnly}
-use Rattle.service_code.specs.declared.code.Decoded.{Decoded}
-use Rattle.service_code.specs.declared.code.Decoded.TheVariants.{Defined}
-use Rattle.service_code.specs.declared.code.DecodedKind.TheVariants.{Defined as OfKind}
 use Rattle.service_code.specs.Code.{number_of, attribute_of, code_kind_of, kind_of, decoded_kind_of, allows_write}
 use Rattle.block_list.specs.declared.element.BlockListElement.{BlockListElement}
 use Rattle.byte_parts.specs.Part.{part, put}
@@ -64,7 +62,7 @@ module _ (s : List ℕ) (at n x b : ℕ) (t : List ℕ) (h : at + n ≤ length s
       sides e = elim (dec_lt x b) [ yes k ↦ inr (omega arith) | no k ↦ inl (omega arith) ]
 
 -- of the random kind only one attribute may be written
-pub random-writes : (a : ServiceAttribute) → OfKind (kind_of a) ≡ OfKind Random → allows_write a ≡ true → Defined a ≡ Defined RandomReadWrite
+pub random-writes : (a : ServiceAttribute) → Some (kind_of a) ≡ Some Random → allows_write a ≡ true → Some a ≡ Some RandomReadWrite
 random-writes RandomReadWrite k w = refl
 random-writes RandomReadOnly k w = absurd (false≢true w)
 random-writes CyclicReadWrite k w = absurd (let z : ◌≡◌ {A = ℕ} 0 1 = cc in (omega arith))
@@ -78,7 +76,7 @@ random-writes PurseReadOnly k w = absurd (false≢true w)
 one_result : {o : Outcome} {s t : List ℕ} → o ≡ passed s → o ≡ passed t → t ≡ s
 one_result e f = let k : passed _ ≡ passed _ = sym f ∙ e in cc
 
-module _ (i : ℕ) (w : Row) (a : w.attribute ≡ Defined RandomReadWrite) (s t : List ℕ) where
+module _ (i : ℕ) (w : Row) (a : w.attribute ≡ Some RandomReadWrite) (s t : List ℕ) where
   -- an element on a random store puts its block
   random_element : (number mode : ℕ) (block : List ℕ) →
       at_index i (on_store w (element_by w.attribute w.limit number mode block) s) ≡ good t →
@@ -88,7 +86,7 @@ module _ (i : ℕ) (w : Row) (a : w.attribute ≡ Defined RandomReadWrite) (s t 
       let q = step_put i w (element_by w.attribute w.limit number mode block) s t e in
       q.2 ∙ ap (put s (16 * w.start) (16 * w.blocks)) (one_result (puts w.attribute a) q.1)
     where
-      puts : (d : Decoded) → d ≡ Defined RandomReadWrite →
+      puts : (d : Option ServiceAttribute) → d ≡ Some RandomReadWrite →
           element_by d w.limit number mode block (part s (16 * w.start) (16 * w.blocks))
           ≡ passed (put (part s (16 * w.start) (16 * w.blocks)) (16 * number) 16 block)
       puts d k = rw k
@@ -101,7 +99,7 @@ module _ (i : ℕ) (w : Row) (a : w.attribute ≡ Defined RandomReadWrite) (s t 
       q.2 ∙ ap (put s (16 * w.start) (16 * w.blocks)) (one_result (leaves w.attribute a) q.1)
       ∙ put-part s (16 * w.start) (16 * w.blocks)
     where
-      leaves : (d : Decoded) → d ≡ Defined RandomReadWrite →
+      leaves : (d : Option ServiceAttribute) → d ≡ Some RandomReadWrite →
           end_by d run (part s (16 * w.start) (16 * w.blocks)) ≡ passed (part s (16 * w.start) (16 * w.blocks))
       leaves d k = rw k
 
@@ -119,7 +117,7 @@ pub record Checks (rows : List Row) (d : List ℕ) (i : ℕ) (x : BlockListEleme
   pub brings : 16 * i + 16 ≤ length d
 
 -- Block b of a random store, that of the service `own`, in a stage of `size` bytes, over a write of the codes and the data d.
-module _ {ns : List Node} {used : ℕ} (l : Laid ns used) (codes d : List ℕ) {own : ℕ} (random : code_kind_of own ≡ OfKind Random) {v : Row}
+module _ {ns : List Node} {used : ℕ} (l : Laid ns used) (codes d : List ℕ) {own : ℕ} (random : code_kind_of own ≡ Some Random) {v : Row}
     (o : ServiceRow ns own v) (size b : ℕ) (fits : 16 * v.start + 16 * v.blocks ≤ size) (here : b < v.blocks) where
   abbrev rows : List Row
   rows = rows_of ns codes
@@ -138,11 +136,11 @@ module _ {ns : List Node} {used : ℕ} (l : Laid ns used) (codes d : List ℕ) {
 
   module _ (x : BlockListElement) (g : Good rows true x) where
     -- a service of the same number is written at random
-    written : number_of (code_of x) ≡ number_of own → (row_in rows x).attribute ≡ Defined RandomReadWrite
+    written : number_of (code_of x) ≡ number_of own → (row_in rows x).attribute ≡ Some RandomReadWrite
     unfolding code_kind_of
     written same =
         let p = good-service ns codes g in
-        let a : attribute_of (code_of x) ≡ Defined g.attribute = sym p.attribute ∙ g.defined in
+        let a : attribute_of (code_of x) ≡ Some g.attribute = sym p.attribute ∙ g.defined in
         g.defined
         ∙ random-writes g.attribute (sym (ap decoded_kind_of a) ∙ (one_store l p o same).2 ∙ random) (g.writable refl)
 

@@ -1,5 +1,6 @@
 -- What an accepted write makes of a block of a random store: the bytes that its last element for the block brings, or what it was if
 -- there is no such element.
+use Rattle.std.proofs.Common.{Some}
 use Prim.Native.Nat.{ℕ, ◌+◌, ◌*◌, ◌≤◌, ◌<◌}
 use native.Mathlib.Omega.{arith}
 use native.Mathlib.Nat.{zero-add}
@@ -11,7 +12,6 @@ use lib.ListN.{length, take}
 use lib.Seq.{length-take-le}
 use borrow.Author.Tests.{eq-eqb, eqb-true}
 use Rattle.service_code.specs.declared.code.ServiceKind.TheVariants.{Random}
-use Rattle.service_code.specs.declared.code.DecodedKind.TheVariants.{Defined as OfKind}
 use Rattle.service_code.specs.Code.{number_of, code_kind_of}
 use Rattle.block_list.specs.declared.element.BlockListElement.{BlockListElement}
 use Rattle.byte_parts.specs.Part.{part}
@@ -53,7 +53,7 @@ checks_from_lem rows d «open» i (e ∷ es) p h =
 
 -- Block k of the random store of number n, that of the service `own`.
 module _ {c : Card} (b : Built c) {own n : ℕ} {v : Row} (o : ServiceRow (nodes_of c) own v) (numbered : number_of own ≡ n)
-    (random : code_kind_of own ≡ OfKind Random) {k : ℕ} (here : k < v.blocks) where
+    (random : code_kind_of own ≡ Some Random) {k : ℕ} (here : k < v.blocks) where
   -- where it lies in the arena
   abbrev place : ℕ
   place = 16 * v.start + 16 * k

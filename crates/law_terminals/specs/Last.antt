@@ -1,8 +1,7 @@
 -- The tower reads what the marshal wrote last: the statement.
-use Rattle.std.specs.Prelude.{ℕ, ◌*◌, ◌<◌, true, false, List, [], ◌∷◌, ◌≡◌, length, get_or}
+use Rattle.std.specs.Prelude.{ℕ, ◌*◌, ◌<◌, true, false, List, [], ◌∷◌, ◌≡◌, length, get_or, Some}
 use Rattle.byte_parts.specs.Sizes.{block_size}
 use Rattle.service_code.specs.declared.code.ServiceKind.TheVariants.{Random}
-use Rattle.service_code.specs.declared.code.DecodedKind.TheVariants.{Defined as OfKind}
 use Rattle.service_code.specs.Code.{number_of, code_kind_of}
 use Rattle.byte_parts.specs.Part.{part}
 use Rattle.block_list.specs.declared.element.BlockListElement.{BlockListElement}
@@ -36,7 +35,7 @@ pub record LastBrings (n b : ℕ) (d : List ℕ) (r : Request) : Type 0 where
   -- no later element names the block
   pub last : (j : ℕ) → place < j → NamesBlock n b r j → ⊥
   -- its service is of the random kind
-  pub random : code_kind_of (code_named r place) ≡ OfKind Random
+  pub random : code_kind_of (code_named r place) ≡ Some Random
   -- of the data its own sixteen bytes are d
   pub bytes : part r.«data» (block_size * place) 16 ≡ d
 

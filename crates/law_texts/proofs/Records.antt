@@ -1,4 +1,5 @@
 -- Whatever lines a replay has taken, its card has 64 records. Assumes nothing.
+use Rattle.std.proofs.Common.{Result, Ok, Err, Option, Some, None}
 use Prim.Native.Nat.{ℕ, ◌-◌, ◌*◌}
 use mathlib.Core.Path.{◌≡◌, refl, ◌∙◌}
 use mathlib.Core.Bool.{Bool, true, false, not, cond}
@@ -7,15 +8,11 @@ use lib.Dec.{ltb, leb}
 use lib.IntN.{ℤ}
 use lib.ListN.{length, length-set, length-replicate}
 use Rattle.answers.specs.declared.refusal.Refusal.TheVariants.{TableFull, ShortArena, NotBuilt}
-use Rattle.answers.specs.declared.refusal.Answer.{Answer}
-use Rattle.answers.specs.declared.refusal.Answer.TheVariants.{Done, Refused}
-use Rattle.service_code.specs.declared.limit.Limit.TheVariants.{Limited}
 use Rattle.text_fields.specs.Field.{split}
 use Rattle.card_nodes.specs.declared.node.Entry.{Entry}
 use Rattle.card_nodes.specs.declared.node.Entry.TheVariants.{Area, Service}
 use Rattle.card_nodes.specs.Node.{root_node}
 use Rattle.card_admit.specs.declared.Placed.{Placed}
-use Rattle.card_admit.specs.declared.Placed.TheVariants.{Store, Refused as NotPlaced}
 use Rattle.card_admit.specs.Admit.{area_judged, placed_of, agreed}
 use Rattle.card_build.specs.declared.card.Card.{Card}
 use Rattle.card_build.specs.Card.{nodes_of, is_sound, refused}
@@ -30,6 +27,8 @@ use Rattle.replay_kind.specs.declared.Kind.TheVariants as kinds
 use Rattle.replay_kind.specs.Kind.{taken_for}
 use Rattle.replay_line.specs.Replay.{Held, held_by, line_held, held_at_start}
 use Rattle.law_lines.specs.Lines.{held_after}
+use Rattle.answers.specs.declared.refusal.Refusal.{Refusal}
+use Rattle.service_code.specs.Limit.{limited_to}
 
 module _ (c : Card) where
   -- an area leaves as many records as there were
@@ -37,13 +36,13 @@ module _ (c : Card) where
   unfolding area_added add_area
   area-long depth code end version = by (not (is_sound c)) (leb 64 c.count) (area_judged (nodes_of c) depth code end)
     where
-      by : (t u : Bool) (x : Answer) →
+      by : (t u : Bool) (x : Result Unit Refusal) →
           length (cond t (refused c NotBuilt) (cond u (refused c TableFull) (area_by c (node_as depth code version (Area end)) x))).card.nodes
           ≡ length c.nodes
       by true u x = refl
       by false true x = refl
-      by false false (Refused r) = refl
-      by false false Done = length-set c.nodes c.count _
+      by false false (Err r) = refl
+      by false false (Ok tt) = length-set c.nodes c.count _
 
   -- so does a service
   service-long : (arena_len depth code blocks version : ℕ) →
@@ -53,14 +52,14 @@ module _ (c : Card) where
       by (not (is_sound c)) (ltb arena_len (16 * c.used)) (leb 64 c.count)
       (agreed c.system.join blocks (placed_of (nodes_of c) c.used arena_len depth code blocks))
     where
-      by : (t s u : Bool) (p : Placed) →
+      by : (t s u : Bool) (p : Result Placed Refusal) →
           let x = cond s (refused c ShortArena) (cond u (refused c TableFull) (service_by c depth code version p)) in
           length (cond t (refused c NotBuilt) x).card.nodes ≡ length c.nodes
       by true s u p = refl
       by false true u p = refl
       by false false true p = refl
-      by false false false (NotPlaced r) = refl
-      by false false false (Store s b used) = length-set c.nodes c.count _
+      by false false false (Err r) = refl
+      by false false false (Ok placed) = length-set c.nodes c.count _
 
   -- and a limit
   limit-long : (upper lower : ℤ) (generation : ℕ) → length (limit_added c upper lower generation).card.nodes ≡ length c.nodes
@@ -68,7 +67,7 @@ module _ (c : Card) where
   limit-long upper lower generation = by (not (is_sound c)) (last_node c).entry
     where
       by : (t : Bool) (e : Entry) →
-          length (cond t (refused c NotBuilt) (limit_by c (Limited upper lower generation) e)).card.nodes ≡ length c.nodes
+          length (cond t (refused c NotBuilt) (limit_by c (limited_to upper lower generation) e)).card.nodes ≡ length c.nodes
       by true e = refl
       by false (Area end) = refl
       by false (Service s b old) = length-set c.nodes (c.count - 1) _
@@ -78,24 +77,24 @@ module _ (c : Card) where
   unfolding image_step
   image-long first a line h = by (image_line first line)
     where
-      by : (x : Line) → length (line_carried c a (split 9 line) x).added.card.nodes ≡ 64
-      by lines.Malformed = h
-      by (lines.Card system) = length-replicate 64 root_node
-      by (lines.Area depth code end version) = area-long depth code end version ∙ h
-      by (lines.Service depth code blocks version) = service-long (length a) depth code blocks version ∙ h
-      by (lines.Limit upper lower generation) = limit-long upper lower generation ∙ h
-      by (lines.Block code number) = h
+      by : (x : Option Line) → length (line_carried c a (split 9 line) x).added.card.nodes ≡ 64
+      by None = h
+      by (Some (lines.Card system)) = length-replicate 64 root_node
+      by (Some (lines.Area depth code end version)) = area-long depth code end version ∙ h
+      by (Some (lines.Service depth code blocks version)) = service-long (length a) depth code blocks version ∙ h
+      by (Some (lines.Limit upper lower generation)) = limit-long upper lower generation ∙ h
+      by (Some (lines.Block code number)) = h
 
 -- so does any line
 line-long : (s : Held) (line : List ℕ) → length s.replay.card.nodes ≡ 64 → length (line_held s line).replay.card.nodes ≡ 64
 unfolding line_held
 line-long s line h = by (taken_for s.replay.phase line)
   where
-    by : (k : Kind) → length (held_by k s line).replay.card.nodes ≡ 64
-    by (kinds.Image first) = image-long s.replay.card first s.arena line h
-    by kinds.Request = h
-    by kinds.Board = h
-    by kinds.Nothing = h
+    by : (k : Option Kind) → length (held_by k s line).replay.card.nodes ≡ 64
+    by (Some (kinds.Image first)) = image-long s.replay.card first s.arena line h
+    by (Some kinds.Request) = h
+    by (Some kinds.Board) = h
+    by None = h
 
 lines_long : (ls : List (List ℕ)) (s : Held) → length s.replay.card.nodes ≡ 64 → length (held_after s ls).replay.card.nodes ≡ 64
 unfolding held_after

@@ -1,5 +1,6 @@
 -- A line that is taken for a request: what it prints goes by the answer to its request, and the state after it by the arena that its
 -- request leaves.
+use Rattle.std.proofs.Common.{Option, Some, None}
 use Prim.Native.Nat.{ℕ, zero, suc, ◌+◌}
 use native.Mathlib.Omega.{arith}
 use mathlib.Core.Path.{◌≡◌, refl, sym, ap, ap₂, subst, ◌∙◌}
@@ -8,11 +9,9 @@ use mathlib.Core.List.{List, [], ◌∷◌, ◌++◌}
 use lib.ListN.{length, length-append}
 use Rattle.answers.specs.declared.refusal.Refusal.TheVariants.{MalformedRequest}
 use Rattle.card_build.specs.declared.card.Card.{Card}
-use Rattle.text_numbers.specs.declared.codes.Code.{Code}
-use Rattle.text_numbers.specs.declared.codes.Code.TheVariants.{Is, Bad}
 use Rattle.request_plan.specs.declared.Reply.TheVariants.{Refused}
 use Rattle.line_request.specs.declared.Ask.{Ask}
-use Rattle.line_request.specs.declared.Ask.TheVariants.{Malformed, Read, Write}
+use Rattle.line_request.specs.declared.Ask.TheVariants.{Read, Write}
 use Rattle.line_request.specs.Ask.{ask_of}
 use Rattle.line_answer.specs.Answer.{answer_text}
 use Rattle.line_serve.specs.Line.{ask_served, line_served}
@@ -38,9 +37,9 @@ use Rattle.law_board.proofs.Redraw.{line_leaves}
 use Rattle.law_texts.specs.Lines.{asking, text_as}
 
 -- what is printed of a refresh, by the answer to its read
-abbrev code_printed : ℕ → Code → Answer → List ℕ
-code_printed o Bad x = answer_text o (Refused MalformedRequest) []
-code_printed o (Is code) x = refreshed_text o x.read (made_by x)
+abbrev code_printed : ℕ → Option ℕ → Answer → List ℕ
+code_printed o None x = answer_text o (Refused MalformedRequest) []
+code_printed o (Some code) x = refreshed_text o x.read (made_by x)
 
 -- what is printed of a line, by the answer to its request
 unfoldable pub printed_by : ℕ → List ℕ → Answer → List ℕ
@@ -49,18 +48,18 @@ printed_by o line x =
     (answer_text o (line_told_by (ask_of line) x).reply (line_told_by (ask_of line) x).read)
 
 module _ (c : Card) (a line : List ℕ) (o : ℕ) where
-  board_by_lem : (x : Code) → code_text c a o x ≡ code_printed o x (answer_of c a (refresh_by x))
+  board_by_lem : (x : Option ℕ) → code_text c a o x ≡ code_printed o x (answer_of c a (refresh_by x))
   unfolding refreshed
-  board_by_lem Bad = refl
-  board_by_lem (Is code) =
+  board_by_lem None = refl
+  board_by_lem (Some code) =
       let x = board_served c a code 128 in
       ap (refreshed_text o x.read) (sym (made-is x x.reply))
 
-  request_by_lem : (x : Ask) → let y = line_told_by x (answer_of c a (request_by lent_bytes line x)) in
+  request_by_lem : (x : Option Ask) → let y = line_told_by x (answer_of c a (request_by lent_bytes line x)) in
       answer_text o (ask_served c a lent_bytes line x).reply (ask_served c a lent_bytes line x).read ≡ answer_text o y.reply y.read
-  request_by_lem Malformed = refl
-  request_by_lem (Read «open» count) = refl
-  request_by_lem (Write «open» count) = refl
+  request_by_lem None = refl
+  request_by_lem (Some (Read «open» count)) = refl
+  request_by_lem (Some (Write «open» count)) = refl
 
   -- the text of an `L` line
   board-text : board_line line ≡ true → board_line_text c a line o ≡ printed_by o line (answer_of c a (request_in line))
@@ -84,7 +83,7 @@ line_says s line n q = by_line (board_line line) refl
         prints (asking n s) line (taken_none s.replay.phase (line ∷ []) q) b
         ∙ board-text s.replay.card s.arena line (one_more n) b
     by_line false b =
-        ap (λ (x : Kind). text_by x (asking n s) line) (request-kind s.replay.phase line q b)
+        ap (λ (x : Option Kind). text_by x (asking n s) line) (request-kind s.replay.phase line q b)
         ∙ request-text s.replay.card s.arena line (one_more n) b
 
 -- a replay after one request more

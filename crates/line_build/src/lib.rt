@@ -7,21 +7,27 @@ ghost use Rattle.request_block.specs.Block.{block_judged, arena_set};
 ghost use Rattle.line_image.specs.Line.{hex32};
 ghost use Rattle.line_build.specs.Image.{image_step, answered};
 
-use answers::refusal::{Answer, Refusal};
+use answers::refusal::Refusal;
 use card_build::card::{Added, Card};
 use line_image::line::{Line, read_line};
 use request_block::set_block;
 use text_numbers::hex::put_bytes;
 
 // Hands back a card, as it is, with an answer.
-fn keep(card: Card, answer: Answer) -> Added
+fn keep(card: Card, answer: Result<(), Refusal>) -> Added
     ensures { result ≡ answered card answer }
 {
     Added { card, answer }
 }
 
 // Sets a block to what 32 hex digits spell.
-fn set_hex(card: Card, arena: &mut [u8], code: u16, number: u32, digits: &[u8]) -> Answer
+fn set_hex(
+    card: Card,
+    arena: &mut [u8],
+    code: u16,
+    number: u32,
+    digits: &[u8],
+) -> Result<(), Refusal>
     requires { hex32 digits.now ≡ true }
     ensures value { result ≡ block_judged card (length arena.old) code number }
     ensures arena_after { arena.new ≡ arena_set card arena.old code number (unhex digits.now) }
@@ -36,9 +42,11 @@ pub fn image_line(card: Card, first: bool, arena: &mut [u8], line: &[u8]) -> Add
     ensures value { result ≡ (image_step first card arena.old line.now).added }
     ensures arena_after { arena.new ≡ (image_step first card arena.old line.now).arena }
 {
-    match read_line(line, first) {
-        Line::Malformed => keep(card, Answer::Refused(Refusal::MalformedImage)),
-        Line::Card(system) => keep(Card::new(system), Answer::Done),
+    let Some(says) = read_line(line, first) else {
+        return keep(card, Err(Refusal::MalformedImage));
+    };
+    match says {
+        Line::Card(system) => keep(Card::new(system), Ok(())),
         Line::Area {
             depth,
             code,

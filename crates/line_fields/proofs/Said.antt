@@ -1,13 +1,9 @@
 -- What holds of all that a line can say, however its fields are read. Assumes nothing.
+use Rattle.std.specs.Prelude.{None, Some}
+use Rattle.std.proofs.Common.{Option}
 use Prim.Native.Nat.{ℕ}
 use mathlib.Core.Bool.{Bool, true, false, cond}
 use lib.IntN.{ℤ}
-use Rattle.text_numbers.specs.declared.codes.Code.{Code}
-use Rattle.text_numbers.specs.declared.codes.Code.TheVariants as codes
-use Rattle.text_numbers.specs.declared.decimals.Number.{Number}
-use Rattle.text_numbers.specs.declared.decimals.Number.TheVariants as numbers
-use Rattle.text_numbers.specs.declared.decimals.Signed.{Signed}
-use Rattle.text_numbers.specs.declared.decimals.Signed.TheVariants as signs
 use Rattle.line_fields.specs.Fields.{with_code, with_number, with_bound}
 
 module _ {A : Type 0} (P : A → Type 0) where
@@ -18,16 +14,16 @@ module _ {A : Type 0} (P : A → Type 0) where
 
   module _ (none : A) (z : P none) where
     -- By a code.
-    pub on_code : (x : Code) (more : ℕ → A) → ((n : ℕ) → P (more n)) → P (with_code none x more)
-    on_code (codes.Is n) more p = p n
-    on_code codes.Bad more p = z
+    pub on_code : (x : Option ℕ) (more : ℕ → A) → ((n : ℕ) → P (more n)) → P (with_code none x more)
+    on_code (Some n) more p = p n
+    on_code None more p = z
 
     -- By a decimal.
-    pub on_number : (x : Number) (more : ℕ → A) → ((n : ℕ) → P (more n)) → P (with_number none x more)
-    on_number (numbers.Is n) more p = p n
-    on_number numbers.Bad more p = z
+    pub on_number : (x : Option ℕ) (more : ℕ → A) → ((n : ℕ) → P (more n)) → P (with_number none x more)
+    on_number (Some n) more p = p n
+    on_number None more p = z
 
     -- By a bound.
-    pub on_bound : (x : Signed) (more : ℤ → A) → ((n : ℤ) → P (more n)) → P (with_bound none x more)
-    on_bound (signs.Is n) more p = p n
-    on_bound signs.Bad more p = z
+    pub on_bound : (x : Option ℤ) (more : ℤ → A) → ((n : ℤ) → P (more n)) → P (with_bound none x more)
+    on_bound (Some n) more p = p n
+    on_bound None more p = z

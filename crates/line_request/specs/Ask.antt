@@ -1,17 +1,15 @@
 -- What a request line asks. Its fields, from 0: `R` (82) or `W` (87), `O` (79) open or `S` (83) session, codes, element count, list, and
 -- for `W` data; exactly so many, and no more than 32,768 bytes in all.
-use Rattle.std.specs.Prelude.{ℕ, Bool, cond, ◌&&◌, ◌||◌, List, ltb, eqb, length, get_or}
+use Rattle.std.specs.Prelude.{ℕ, Bool, cond, ◌&&◌, ◌||◌, List, ltb, eqb, length, get_or, Option, Some, None}
 use Rattle.byte_parts.specs.Letters.{tab}
 use Rattle.byte_parts.specs.Sizes.{longest_line}
 use Rattle.text_fields.specs.Field.{split}
-use Rattle.text_numbers.specs.declared.decimals.Number.{Number}
-use Rattle.text_numbers.specs.declared.decimals.Number.TheVariants.{Is, Bad}
 use Rattle.text_numbers.specs.Hex.{hex_field}
 use Rattle.text_numbers.specs.Codes.{codes_field}
 use Rattle.line_fields.specs.Fields.{number_at}
 pub use Rattle.line_fields.specs.Fields.{field_in}
 use Rattle.line_request.specs.declared.Ask.{Ask}
-use Rattle.line_request.specs.declared.Ask.TheVariants.{Malformed, Read, Write}
+use Rattle.line_request.specs.declared.Ask.TheVariants.{Read, Write}
 
 -- whether a field is one letter
 unfoldable pub is_letter : ℕ → List ℕ → Bool
@@ -43,14 +41,14 @@ unfoldable pub is_write : List ℕ → Bool
 is_write line = shaped 87 6 line && hex_field (field_in line 5)
 
 -- an element count has 32 bits
-abbrev pub count_in : List ℕ → Number
+abbrev pub count_in : List ℕ → Option ℕ
 count_in line = number_at (split tab line) 3 4294967295
 
-abbrev pub counted_ask : List ℕ → Number → Ask
-counted_ask line Bad = Malformed
-counted_ask line (Is count) =
-    cond (shaped 82 5 line) (Read (is_open line) count) (cond (is_write line) (Write (is_open line) count) Malformed)
+abbrev pub counted_ask : List ℕ → Option ℕ → Option Ask
+counted_ask line None = None
+counted_ask line (Some count) =
+    cond (shaped 82 5 line) (Some (Read (is_open line) count)) (cond (is_write line) (Some (Write (is_open line) count)) None)
 
 -- RULES 1.7, 11.8
-unfoldable pub ask_of : List ℕ → Ask
-ask_of line = cond (ltb longest_line (length line)) Malformed (counted_ask line (count_in line))
+unfoldable pub ask_of : List ℕ → Option Ask
+ask_of line = cond (ltb longest_line (length line)) None (counted_ask line (count_in line))

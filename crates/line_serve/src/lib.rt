@@ -1,9 +1,8 @@
 // Request lines, carried out on a card and answered.
 #![tactic(auto)]
 
-ghost use Rattle.std.specs.Prelude.{◌≡◌, ◌+◌, ◌≤◌, length};
+ghost use Rattle.std.specs.Prelude.{◌≡◌, Some, ◌+◌, ◌≤◌, length};
 ghost use Rattle.byte_parts.specs.Sizes.{most_printed};
-ghost use Rattle.text_fields.specs.Field.{ends_of};
 ghost use Rattle.request_plan.specs.Serve.{length_read};
 ghost use Rattle.line_request.specs.declared.Ask.TheVariants.{Read, Write};
 ghost use Rattle.line_request.specs.Ask.{ask_of};
@@ -14,11 +13,10 @@ ghost use Rattle.line_serve.specs.Text.{most_spelled, request_text};
 use answers::refusal::Refusal;
 use byte_parts::sizes::BLOCK_SIZE;
 use card_build::card::Card;
-use line_fields::{put_field, read_codes};
+use line_fields::Fields;
 use line_request::Ask;
 use request_plan::Reply;
 use request_serve::{reading, writing};
-use text_fields::Ends;
 
 // Carries out a read that a line asks. Seventeen codes are as good as all: more than sixteen are refused.
 fn read_asked(
@@ -26,19 +24,18 @@ fn read_asked(
     arena: &[u8],
     work: &mut [u8],
     bytes: &mut [u8],
-    line: &[u8],
-    ends: Ends,
+    fields: Fields,
     open: bool,
     count: u32,
 ) -> Reply
-    requires { (ask_of line.now ≡ Read «open» count) × (most_spelled ≤ length bytes.old) × (ends ≡ ends_of 9 line.now) }
-    ensures value { result ≡ (line_served card arena.now (length work.old) line.now).reply }
-    ensures work_after { work.new ≡ work_after card arena.now work.old line.now }
-    ensures bytes_after { bytes.new ≡ spelled_after bytes.old line.now }
+    requires { (ask_of fields.line.now ≡ Some (Read «open» count)) × (most_spelled ≤ length bytes.old) }
+    ensures value { result ≡ (line_served card arena.now (length work.old) fields.entry.line.now).reply }
+    ensures work_after { work.new ≡ work_after card arena.now work.old fields.entry.line.now }
+    ensures bytes_after { bytes.new ≡ spelled_after bytes.old fields.entry.line.now }
 {
     let mut codes = [0u16; 17];
-    let n = read_codes(line, ends, 2, &mut codes);
-    let end = put_field(line, ends, 4, bytes, 0);
+    let n = fields.read_codes(2, &mut codes);
+    let end = fields.put_field(4, bytes, 0);
     reading::read(card, arena, work, open, &codes[0..n], count, &bytes[0..end])
 }
 
@@ -48,21 +45,20 @@ fn write_asked(
     arena: &mut [u8],
     work: &mut [u8],
     bytes: &mut [u8],
-    line: &[u8],
-    ends: Ends,
+    fields: Fields,
     open: bool,
     count: u32,
 ) -> Reply
-    requires { (ask_of line.now ≡ Write «open» count) × (most_spelled ≤ length bytes.old) × (ends ≡ ends_of 9 line.now) }
-    ensures value { result ≡ (line_served card arena.old (length work.old) line.now).reply }
-    ensures arena_after { arena.new ≡ (line_served card arena.old (length work.old) line.now).arena }
-    ensures work_after { work.new ≡ work_after card arena.old work.old line.now }
-    ensures bytes_after { bytes.new ≡ spelled_after bytes.old line.now }
+    requires { (ask_of fields.line.now ≡ Some (Write «open» count)) × (most_spelled ≤ length bytes.old) }
+    ensures value { result ≡ (line_served card arena.old (length work.old) fields.entry.line.now).reply }
+    ensures arena_after { arena.new ≡ (line_served card arena.old (length work.old) fields.entry.line.now).arena }
+    ensures work_after { work.new ≡ work_after card arena.old work.old fields.entry.line.now }
+    ensures bytes_after { bytes.new ≡ spelled_after bytes.old fields.entry.line.now }
 {
     let mut codes = [0u16; 17];
-    let n = read_codes(line, ends, 2, &mut codes);
-    let middle = put_field(line, ends, 4, bytes, 0);
-    let last = put_field(line, ends, 5, bytes, middle);
+    let n = fields.read_codes(2, &mut codes);
+    let middle = fields.put_field(4, bytes, 0);
+    let last = fields.put_field(5, bytes, middle);
     writing::write(
         card,
         arena,
@@ -108,21 +104,21 @@ pub fn serve_line(
     ensures work_after { work.new ≡ work_after card arena.old work.old line.now }
     ensures bytes_after { bytes.new ≡ spelled_after bytes.old line.now }
 {
-    let ends = text_fields::find_ends(line, b'\t');
-    match line_request::ask_of(line, ends) {
-        Ask::Malformed => Outcome {
+    let fields = Fields::new(line);
+    match line_request::ask_of(fields) {
+        None => Outcome {
             reply: Reply::Refused(Refusal::MalformedRequest),
             read: 0,
         },
-        Ask::Read { open, count } => {
-            let reply = read_asked(card, arena, work, bytes, line, ends, open, count);
+        Some(Ask::Read { open, count }) => {
+            let reply = read_asked(card, arena, work, bytes, fields, open, count);
             Outcome {
                 reply,
                 read: length_read(reply, count),
             }
         }
-        Ask::Write { open, count } => {
-            let reply = write_asked(card, arena, work, bytes, line, ends, open, count);
+        Some(Ask::Write { open, count }) => {
+            let reply = write_asked(card, arena, work, bytes, fields, open, count);
             Outcome { reply, read: 0 }
         }
     }

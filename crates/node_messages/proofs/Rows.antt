@@ -1,4 +1,5 @@
 -- Each message with its bytes, as antt computes them. Assumes nothing.
+use Rattle.std.proofs.Common.{Ok, Err}
 use Prim.Native.Nat.{ℕ}
 use mathlib.Core.Path.{◌≡◌, refl}
 use mathlib.Core.Bool.{Bool, true, false}
@@ -7,7 +8,6 @@ use lib.ListN.{replicate}
 use Rattle.answers.specs.declared.refusal.Refusal.TheVariants.{ShortOutput, NotAMessage}
 use Rattle.byte_parts.specs.Half.{half_bytes, half_at}
 use Rattle.byte_parts.specs.Part.{put, padded}
-use Rattle.node_messages.specs.declared.message.Put.TheVariants.{Bytes, Refused}
 use Rattle.node_messages.specs.declared.code_list.CodeList.{CodeList}
 use Rattle.node_messages.specs.declared.information.BlockInformation.{BlockInformation}
 use Rattle.node_messages.specs.Numbers.{numbers_bytes, numbers_in}
@@ -57,8 +57,8 @@ information_rows = (refl, refl, refl, refl, refl)
 
 -- An output that a message just fills, one a byte shorter; what is beyond it, and after a refusal.
 pub output_rows
-    : (message_put told_bytes 9 ≡ Bytes 9)
-    × (message_put told_bytes 8 ≡ Refused ShortOutput)
+    : (message_put told_bytes 9 ≡ Ok 9)
+    × (message_put told_bytes 8 ≡ Err ShortOutput)
     × (message_after (1 ∷ 2 ∷ []) (7 ∷ 8 ∷ []) ≡ 1 ∷ 2 ∷ [])
     × (message_after (1 ∷ 2 ∷ []) (7 ∷ 8 ∷ 9 ∷ []) ≡ 1 ∷ 2 ∷ 9 ∷ [])
     × (message_after (1 ∷ 2 ∷ []) (7 ∷ []) ≡ 7 ∷ [])

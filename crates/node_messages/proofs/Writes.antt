@@ -1,4 +1,5 @@
 -- The stores that write a message, put together.
+use Rattle.std.proofs.Common.{Result, Ok, Err}
 use Prim.Native.Nat.{ℕ, ◌+◌, ◌-◌, ◌*◌, ◌≤◌, ◌<◌}
 use native.Mathlib.Omega.{arith}
 use native.Mathlib.Nat.{zero-add}
@@ -11,8 +12,6 @@ use Rattle.answers.specs.declared.refusal.Refusal.TheVariants.{ShortOutput}
 use Rattle.byte_parts.specs.Part.{put}
 use Rattle.byte_parts.proofs.Part.{length-put}
 use Rattle.byte_parts.proofs.Put.{put_one, put_two, put_snoc, put-append}
-use Rattle.node_messages.specs.declared.message.Put.{Put}
-use Rattle.node_messages.specs.declared.message.Put.TheVariants.{Bytes, Refused}
 use Rattle.node_messages.specs.declared.code_list.CodeList.{CodeList}
 use Rattle.node_messages.specs.declared.information.BlockInformation.{BlockInformation}
 use Rattle.node_messages.specs.Numbers.{numbers_bytes}
@@ -20,19 +19,20 @@ use Rattle.node_messages.specs.Message.{message_put, message_after}
 use Rattle.node_messages.specs.CodeList.{areas_of, services_of, ranges_of, codes_listed, code_list_bytes}
 use Rattle.node_messages.specs.Information.{node_count, information_bytes}
 use Rattle.node_messages.proofs.NumberLaws.{length-bytes}
+use Rattle.answers.specs.declared.refusal.Refusal.{Refusal}
 
 -- what a writer answers, and the output after it
-abbrev pub Writes : List ℕ → List ℕ → Put → List ℕ → Type 0
+abbrev pub Writes : List ℕ → List ℕ → Result ℕ Refusal → List ℕ → Type 0
 Writes message out said after = (said ≡ message_put message (length out)) × (after ≡ message_after message out)
 
 module _ (message out : List ℕ) {size : ℕ} (e : length message ≡ size) where
   -- the output is too short
-  pub short : length out < size → Writes message out (Refused ShortOutput) out
+  pub short : length out < size → Writes message out (Err ShortOutput) out
   unfolding message_put message_after
   short h = (rw (e, lt-ltb (length out) size h), rw (e, lt-ltb (length out) size h))
 
   -- it is not
-  pub whole : {after : List ℕ} → size ≤ length out → after ≡ put out 0 (length message) message → Writes message out (Bytes size) after
+  pub whole : {after : List ℕ} → size ≤ length out → after ≡ put out 0 (length message) message → Writes message out (Ok size) after
   unfolding message_put message_after
   whole h a = (rw (e, le-ltb (length out) size h), rw (e, le-ltb (length out) size h) (a ∙ rw e))
 

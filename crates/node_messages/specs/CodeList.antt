@@ -1,10 +1,9 @@
 -- The code list: flag, area count, code and end of each area, service count, codes.
-use Rattle.std.specs.Prelude.{ℕ, ◌+◌, ◌-◌, ◌*◌, min, List, ◌∷◌, ◌++◌, Bool, false, cond, ◌&&◌, eqb, leb, length, get_or, take, drop, replicate}
+use Rattle.std.specs.Prelude.{ℕ, ◌+◌, ◌-◌, ◌*◌, min, List, ◌∷◌, ◌++◌, Bool, false, cond, ◌&&◌, eqb, leb, length, get_or, take, drop, replicate, Ok, Err}
 use Rattle.byte_parts.specs.Values.{flag_of}
 use Rattle.byte_parts.specs.Part.{padded}
 use Rattle.answers.specs.declared.refusal.Refusal.{Refusal}
 use Rattle.answers.specs.declared.refusal.Refusal.TheVariants.{NotAMessage}
-use Rattle.answers.specs.declared.refusal.Answer.TheVariants.{Done, Refused}
 use Rattle.node_messages.specs.declared.code_list.CodeList.{CodeList}
 use Rattle.node_messages.specs.declared.code_list.Listed.{Listed}
 use Rattle.node_messages.specs.Numbers.{numbers_bytes, numbers_in}
@@ -65,10 +64,10 @@ empty_list = record { more = false; areas = 0; ranges = replicate 32 0; services
 
 -- a list, or why there is none
 abbrev pub list_told : CodeList → Listed
-list_told m = record { list = m; answer = Done }
+list_told m = record { list = m; answer = Ok tt }
 
 abbrev pub list_refused : Refusal → Listed
-list_refused r = record { list = empty_list; answer = Refused r }
+list_refused r = record { list = empty_list; answer = Err r }
 
 -- 47 for all other bytes
 -- RULES 18.6

@@ -1,9 +1,8 @@
 -- Block information: node count, assigned counts, free counts.
-use Rattle.std.specs.Prelude.{ℕ, ◌+◌, ◌*◌, min, List, ◌∷◌, ◌++◌, Bool, cond, ◌&&◌, eqb, leb, length, get_or, take, drop, replicate}
+use Rattle.std.specs.Prelude.{ℕ, ◌+◌, ◌*◌, min, List, ◌∷◌, ◌++◌, Bool, cond, ◌&&◌, eqb, leb, length, get_or, take, drop, replicate, Ok, Err}
 use Rattle.byte_parts.specs.Part.{padded}
 use Rattle.answers.specs.declared.refusal.Refusal.{Refusal}
 use Rattle.answers.specs.declared.refusal.Refusal.TheVariants.{NotAMessage}
-use Rattle.answers.specs.declared.refusal.Answer.TheVariants.{Done, Refused}
 use Rattle.node_messages.specs.declared.information.BlockInformation.{BlockInformation}
 use Rattle.node_messages.specs.declared.information.Informed.{Informed}
 use Rattle.node_messages.specs.Numbers.{numbers_bytes, numbers_in}
@@ -40,10 +39,10 @@ information_in s = record {
 
 -- information, or why there is none
 abbrev pub information_told : BlockInformation → Informed
-information_told m = record { told = m; answer = Done }
+information_told m = record { told = m; answer = Ok tt }
 
 abbrev pub information_refused : Refusal → Informed
-information_refused r = record { told = record { count = 0; assigned = replicate 32 0; free = replicate 32 0 }; answer = Refused r }
+information_refused r = record { told = record { count = 0; assigned = replicate 32 0; free = replicate 32 0 }; answer = Err r }
 
 -- 47 for all other bytes
 -- RULES 18.6

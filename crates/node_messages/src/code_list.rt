@@ -4,9 +4,8 @@ ghost use Rattle.byte_parts.specs.Values.{flag_of};
 ghost use Rattle.node_messages.specs.Message.{message_put, message_after};
 ghost use Rattle.node_messages.specs.CodeList.{most_entries, empty_list, list_refused, code_list_bytes, is_counted, is_code_list, read_code_list};
 
-use crate::message::Put;
 use crate::{message, numbers};
-use answers::refusal::{Answer, Refusal};
+use answers::refusal::Refusal;
 use byte_parts::spans;
 
 // Whether more packets follow; how many areas this one has, with code and end of each; how many services, with their codes. Entries
@@ -24,7 +23,7 @@ pub struct CodeList {
 #[derive(Clone, Copy)]
 pub struct Listed {
     pub list: CodeList,
-    pub answer: Answer,
+    pub answer: Result<(), Refusal>,
 }
 
 impl CodeList {
@@ -49,7 +48,7 @@ impl Listed {
     {
         Listed {
             list: CodeList::empty(),
-            answer: Answer::Refused(refusal),
+            answer: Err(refusal),
         }
     }
 }
@@ -58,7 +57,7 @@ impl Listed {
 fn flag(more: bool) -> u8
     ensures { result ≡ flag_of more }
 {
-    if more { 1 } else { 0 }
+    u8::from(more)
 }
 
 // How many services are written behind `areas` areas: as many as the sixteen entries leave.
@@ -71,7 +70,7 @@ fn services_left(services: usize, areas: usize) -> usize
 
 // Writes a code list: flag, area count, code and end of each, service count, codes. A list that counts more than sixteen entries is
 // cut to them. The output beyond the message stays as it was.
-pub fn put_code_list(list: CodeList, out: &mut [u8]) -> Put
+pub fn put_code_list(list: CodeList, out: &mut [u8]) -> Result<usize, Refusal>
     ensures value { result ≡ message_put (code_list_bytes list) (length out.old) }
     ensures out_after { out.new ≡ message_after (code_list_bytes list) out.old }
 {
@@ -80,7 +79,7 @@ pub fn put_code_list(list: CodeList, out: &mut [u8]) -> Put
     let size = 3 + 4 * areas + 2 * services;
     // refusal 5
     if message::is_short(out.len(), size) {
-        return Put::Refused(Refusal::ShortOutput);
+        return Err(Refusal::ShortOutput);
     }
     out[0] = flag(list.more);
     out[1] = areas as u8;
@@ -90,7 +89,7 @@ pub fn put_code_list(list: CodeList, out: &mut [u8]) -> Put
     out[at] = services as u8;
     let codes = list.codes;
     numbers::put_numbers(out, at + 1, &codes[0..services]);
-    Put::Bytes(size)
+    Ok(size)
 }
 
 // The count of services that stands behind `areas` areas, or 0 where there is none.
@@ -102,26 +101,22 @@ fn services_at(bytes: &[u8], areas: usize) -> usize
 }
 
 // Whether bytes count at most sixteen entries, and there is no byte too few or left over.
+#[tactic(auto, unfolding(crate::specs::CodeList::is_counted))]
 fn is_counted(bytes: &[u8]) -> bool
     ensures { result ≡ is_counted bytes.now }
 {
     let areas = numbers::byte_at(bytes, 1);
     let services = services_at(bytes, areas);
-    if 16 < areas + services {
-        return false;
-    }
-    bytes.len() == 3 + 4 * areas + 2 * services
+    areas + services <= 16 && bytes.len() == 3 + 4 * areas + 2 * services
 }
 
 // Whether bytes are a code list: flag 0 or 1, and what its counts say.
+#[tactic(auto, unfolding(crate::specs::CodeList::is_code_list, crate::specs::CodeList::is_counted))]
 fn is_code_list(bytes: &[u8]) -> bool
     ensures { result ≡ is_code_list bytes.now }
 {
     let first = numbers::byte_at(bytes, 0);
-    if 1 < first {
-        return false;
-    }
-    is_counted(bytes)
+    first <= 1 && is_counted(bytes)
 }
 
 // Reads a code list, or refuses with 47. Its codes are not judged.
@@ -147,6 +142,6 @@ pub fn read_code_list(bytes: &[u8]) -> Listed
             services,
             codes,
         },
-        answer: Answer::Done,
+        answer: Ok(()),
     }
 }

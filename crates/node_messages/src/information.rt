@@ -3,9 +3,8 @@ ghost use Rattle.std.specs.Prelude.{◌≡◌, length};
 ghost use Rattle.node_messages.specs.Message.{message_put, message_after};
 ghost use Rattle.node_messages.specs.Information.{information_refused, information_bytes, is_information, read_information};
 
-use crate::message::Put;
 use crate::{message, numbers};
-use answers::refusal::{Answer, Refusal};
+use answers::refusal::Refusal;
 use byte_parts::spans;
 
 // The blocks assigned to each node and those free for it, in the order asked. Entries past their count are 0.
@@ -20,7 +19,7 @@ pub struct BlockInformation {
 #[derive(Clone, Copy)]
 pub struct Informed {
     pub told: BlockInformation,
-    pub answer: Answer,
+    pub answer: Result<(), Refusal>,
 }
 
 impl Informed {
@@ -34,14 +33,14 @@ impl Informed {
                 assigned: [0u16; 32],
                 free: [0u16; 32],
             },
-            answer: Answer::Refused(refusal),
+            answer: Err(refusal),
         }
     }
 }
 
 // Writes block information: node count, assigned counts, free counts. More than 32 nodes are cut to them. The output beyond the
 // message stays as it was.
-pub fn put_information(told: BlockInformation, out: &mut [u8]) -> Put
+pub fn put_information(told: BlockInformation, out: &mut [u8]) -> Result<usize, Refusal>
     ensures value { result ≡ message_put (information_bytes told) (length out.old) }
     ensures out_after { out.new ≡ message_after (information_bytes told) out.old }
 {
@@ -49,25 +48,23 @@ pub fn put_information(told: BlockInformation, out: &mut [u8]) -> Put
     let size = 1 + 4 * n;
     // refusal 5
     if message::is_short(out.len(), size) {
-        return Put::Refused(Refusal::ShortOutput);
+        return Err(Refusal::ShortOutput);
     }
     out[0] = n as u8;
     let assigned = told.assigned;
     numbers::put_numbers(out, 1, &assigned[0..n]);
     let free = told.free;
     numbers::put_numbers(out, 1 + 2 * n, &free[0..n]);
-    Put::Bytes(size)
+    Ok(size)
 }
 
 // Whether bytes are block information: at most 32 nodes, and no byte too few or left over.
+#[tactic(auto, unfolding(crate::specs::Information::is_information))]
 fn is_information(bytes: &[u8]) -> bool
     ensures { result ≡ is_information bytes.now }
 {
     let n = numbers::byte_at(bytes, 0);
-    if 32 < n {
-        return false;
-    }
-    bytes.len() == 1 + 4 * n
+    n <= 32 && bytes.len() == 1 + 4 * n
 }
 
 // Reads block information, or refuses with 47.
@@ -89,6 +86,6 @@ pub fn read_information(bytes: &[u8]) -> Informed
             assigned,
             free,
         },
-        answer: Answer::Done,
+        answer: Ok(()),
     }
 }

@@ -3,13 +3,6 @@ ghost use Rattle.std.specs.Prelude.{◌≡◌, ltb};
 
 use answers::refusal::Refusal;
 
-// How many bytes the message takes, or why it is not written.
-#[derive(Clone, Copy)]
-pub enum Put {
-    Bytes(usize),
-    Refused(Refusal),
-}
-
 // Whether an output of `room` bytes is too short for a message of `size`.
 pub(crate) fn is_short(room: usize, size: usize) -> bool
     ensures { result ≡ ltb room size }

@@ -9,10 +9,7 @@ use byte_parts::half;
 pub(crate) fn byte_at(s: &[u8], i: usize) -> usize
     ensures { (result ≡ get_or s.now i 0) × (result ≤ 255) }
 {
-    if i < s.len() {
-        return s[i] as usize;
-    }
-    0
+    if i < s.len() { s[i] as usize } else { 0 }
 }
 
 // Writes `numbers` to the bytes of `out` from `at` on.
@@ -20,10 +17,8 @@ pub(crate) fn put_numbers(out: &mut [u8], at: usize, numbers: &[u16])
     requires { at + 2 * length numbers.now ≤ length out.old }
     ensures { out.new ≡ put out.old at (2 * length numbers.now) (numbers_bytes numbers.now) }
 {
-    let mut i = 0;
-    while i < numbers.len() {
+    for i in 0..numbers.len() {
         half::put_half(out, at + 2 * i, numbers[i] as usize);
-        i += 1;
     }
 }
 
@@ -32,9 +27,7 @@ pub(crate) fn read_numbers(s: &[u8], at: usize, n: usize, to: &mut [u16])
     requires { (at + 2 * n ≤ length s.now) × (n ≤ length to.old) }
     ensures { to.new ≡ put to.old 0 n (numbers_in n (drop at s.now)) }
 {
-    let mut i = 0;
-    while i < n {
+    for i in 0..n {
         to[i] = half::half(s, at + 2 * i);
-        i += 1;
     }
 }

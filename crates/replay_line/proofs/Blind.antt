@@ -1,4 +1,5 @@
 -- Replay tells no more of a line than its first 32,769 bytes: one over the longest line. Assumes nothing.
+use Rattle.std.specs.Prelude.{None, Option, Some}
 use Prim.Native.Nat.{ℕ, ◌<◌}
 use native.Mathlib.Omega.{arith}
 use native.Mathlib.Decide.{dec_lt}
@@ -8,7 +9,6 @@ use mathlib.Core.List.{List}
 use lib.ListN.{length, take}
 use lib.Seq.{take_all}
 use borrow.Author.Tests.{lt-ltb}
-use Rattle.text_numbers.specs.declared.codes.Code.TheVariants as codes
 use Rattle.card_build.specs.declared.card.Card.{Card}
 use Rattle.text_stream.specs.Stream.{Blind}
 use Rattle.line_image.specs.declared.line.Line.TheVariants as image
@@ -27,15 +27,15 @@ use Rattle.replay_kind.proofs.Blind.{kind_blind, cut_long_lem}
 use Rattle.replay_line.specs.Replay.{Held, held_by, text_by, line_held, line_text, replay_machine}
 
 -- A line that is too long is malformed, whatever it says.
-long-image : (first : Bool) (l : List ℕ) → 32768 < length l → image_line first l ≡ image.Malformed
+long-image : (first : Bool) (l : List ℕ) → 32768 < length l → image_line first l ≡ None
 unfolding image_line
 long-image first l h = rw (lt-ltb 32768 (length l) h)
 
-long_ask : (l : List ℕ) → 32768 < length l → ask_of l ≡ asks.Malformed
+long_ask : (l : List ℕ) → 32768 < length l → ask_of l ≡ None
 unfolding ask_of
 long_ask l h = rw (lt-ltb 32768 (length l) h)
 
-long-code : (l : List ℕ) → 32768 < length l → board_code l ≡ codes.Bad
+long-code : (l : List ℕ) → 32768 < length l → board_code l ≡ None
 unfolding board_code
 long-code l h = rw (lt-ltb 32768 (length l) h)
 
@@ -64,22 +64,22 @@ refresh_blind card arena l n =
     ]
 
 -- By what the line is taken for.
-pub held_blind : (k : Kind) (s : Held) (l : List ℕ) → held_by k s (take 32769 l) ≡ held_by k s l
-held_blind (kinds.Image first) s l = rw (image_blind first s.replay.card s.arena l)
-held_blind kinds.Request s l = rw (served_blind s.replay.card s.arena 65536 l)
-held_blind kinds.Board s l = refl
-held_blind kinds.Nothing s l = refl
+pub held_blind : (k : Option Kind) (s : Held) (l : List ℕ) → held_by k s (take 32769 l) ≡ held_by k s l
+held_blind (Some (kinds.Image first)) s l = rw (image_blind first s.replay.card s.arena l)
+held_blind (Some kinds.Request) s l = rw (served_blind s.replay.card s.arena 65536 l)
+held_blind (Some kinds.Board) s l = refl
+held_blind None s l = refl
 
-pub text_blind : (k : Kind) (s : Held) (l : List ℕ) → text_by k s (take 32769 l) ≡ text_by k s l
+pub text_blind : (k : Option Kind) (s : Held) (l : List ℕ) → text_by k s (take 32769 l) ≡ text_by k s l
 unfolding request_text
-text_blind (kinds.Image first) s l = rw (image_blind first s.replay.card s.arena l)
-text_blind kinds.Request s l = rw (served_blind s.replay.card s.arena 65536 l)
-text_blind kinds.Board s l = refresh_blind s.replay.card s.arena l (one_more s.replay.asked)
-text_blind kinds.Nothing s l = refl
+text_blind (Some (kinds.Image first)) s l = rw (image_blind first s.replay.card s.arena l)
+text_blind (Some kinds.Request) s l = rw (served_blind s.replay.card s.arena 65536 l)
+text_blind (Some kinds.Board) s l = refresh_blind s.replay.card s.arena l (one_more s.replay.asked)
+text_blind None s l = refl
 
 pub replay_blind : Blind replay_machine (take 32769)
 unfolding line_held line_text
 replay_blind = record {
-  line = λ s l. ap (λ (k : Kind). held_by k s (take 32769 l)) (kind_blind s.replay.phase l) ∙ held_blind (taken_for s.replay.phase l) s l;
-  text = λ s l. ap (λ (k : Kind). text_by k s (take 32769 l)) (kind_blind s.replay.phase l) ∙ text_blind (taken_for s.replay.phase l) s l;
+  line = λ s l. ap (λ (k : Option Kind). held_by k s (take 32769 l)) (kind_blind s.replay.phase l) ∙ held_blind (taken_for s.replay.phase l) s l;
+  text = λ s l. ap (λ (k : Option Kind). text_by k s (take 32769 l)) (kind_blind s.replay.phase l) ∙ text_blind (taken_for s.replay.phase l) s l;
 }

@@ -11,7 +11,6 @@ ghost use Rattle.board_line.specs.Line.{board_line_text};
 ghost use Rattle.replay_state.specs.Phases.{one_more};
 ghost use Rattle.replay_line.specs.Replay.{lent_bytes, held, image_held, image_text, request_held, board_held, held_by, text_by, work_taken, bytes_by, line_held, line_text, work_held, bytes_held};
 
-use answers::refusal::Answer;
 use replay_kind::Kind;
 use replay_state::{Phase, Replay, put_refusal};
 
@@ -48,7 +47,7 @@ fn image_line(
     let answer = added.answer;
     let asked = replay.asked;
     match answer {
-        Answer::Done => Taken {
+        Ok(()) => Taken {
             replay: Replay {
                 card,
                 phase: Phase::Image,
@@ -57,7 +56,7 @@ fn image_line(
             },
             at,
         },
-        Answer::Refused(refusal) => Taken {
+        Err(refusal) => Taken {
             replay: Replay {
                 card,
                 phase: Phase::Ended,
@@ -123,7 +122,7 @@ fn refresh_line(replay: Replay, arena: &[u8], line: &[u8], out: &mut [u8], at: u
 // Takes one line of a replay for what it is said to be, and puts what it prints into `out` from `at` on.
 pub fn take(
     replay: Replay,
-    kind: Kind,
+    kind: Option<Kind>,
     arena: &mut [u8],
     work: &mut [u8],
     bytes: &mut [u8],
@@ -137,11 +136,13 @@ pub fn take(
     ensures work_after { work.new ≡ work_taken kind (held replay arena.old) work.old line.now }
     ensures bytes_after { bytes.new ≡ bytes_by kind bytes.old line.now }
 {
+    let Some(kind) = kind else {
+        return Taken { replay, at };
+    };
     match kind {
         Kind::Image(first) => image_line(replay, first, arena, line, out, at),
         Kind::Request => request_line(replay, arena, work, bytes, line, out, at),
         Kind::Board => refresh_line(replay, arena, line, out, at),
-        Kind::Nothing => Taken { replay, at },
     }
 }
 

@@ -59,17 +59,15 @@ pub fn put_refusal(line: u64, refusal: Refusal, out: &mut [u8], at: usize) -> us
 
 // Puts what the end of a text prints into `out` from `at` on, and answers the place after it: a text without a line is refused at
 // line 1.
+#[tactic(auto, using(text_stream::proofs::Prints::written_none))]
 pub fn finish(replay: Replay, out: &mut [u8], at: usize) -> usize
     requires { at + 48 ≤ length out.old }
     ensures written { Written out.old at (finish_text replay.phase) result out.new }
     ensures upper_bound { result ≤ at + 48 }
 {
-    let phase = replay.phase;
-    match phase {
+    match replay.phase {
         Phase::First => put_refusal(1, Refusal::MalformedImage, out, at),
-        Phase::Image => at,
-        Phase::Requests => at,
-        Phase::Ended => at,
+        _ => at,
     }
 }
 
@@ -91,10 +89,5 @@ pub fn close(replay: Replay, flow: Flow, out: &mut [u8]) -> Flow
 pub fn stops_in(phase: Phase) -> bool
     ensures { result ≡ stops_in phase }
 {
-    match phase {
-        Phase::First => false,
-        Phase::Image => false,
-        Phase::Requests => false,
-        Phase::Ended => true,
-    }
+    matches!(phase, Phase::Ended)
 }

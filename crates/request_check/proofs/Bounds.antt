@@ -1,4 +1,5 @@
 -- How many blocks an element may name: exactly those that pass its check. And how the numbers of all modes and indices are filled in.
+use Rattle.std.proofs.Common.{Option, Some, None, Result, Ok, Err}
 use mathlib.Core.Path.{◌≡◌, refl, sym, ap, ◌∙◌}
 use mathlib.Core.Bool.{Bool, true, false, cond, not}
 use mathlib.Core.List.{List}
@@ -9,16 +10,12 @@ use lib.Dec.{ltb, leb}
 use lib.ListN.{length, get_or, set, take, replicate, length-set, length-take, length-replicate, get_or-replicate, get_or-eq_default}
 use lib.Seq.{get_or-set_same, get_or-set_other, take_all}
 use borrow.Author.Tests.{leb-true, le-leb, lt-ltb, le-ltb, ne_eqb}
-use Rattle.service_code.specs.declared.code.Decoded.{Decoded}
-use Rattle.service_code.specs.declared.code.Decoded.TheVariants.{Defined, Undefined}
 use Rattle.service_code.specs.declared.code.ServiceAttribute.{ServiceAttribute}
 use Rattle.service_code.specs.Code.{requires_key}
 use Rattle.block_list.specs.declared.element.BlockListElement.{BlockListElement}
 use Rattle.answers.specs.declared.status.Fault.{Fault}
 use Rattle.answers.specs.declared.status.Fault.TheVariants.{ListIndex, AccessMode, Attribute, NoService, BlockNumber}
 use Rattle.request_check.specs.declared.table.Row.{Row}
-use Rattle.request_check.specs.declared.check.Check.{Check}
-use Rattle.request_check.specs.declared.check.Check.TheVariants.{Passed, Failed}
 use Rattle.request_check.specs.Row.{no_row, row_at_index, row_in}
 use Rattle.request_check.specs.Check.{mode_allowed, access_check, block_check, then_check, service_check, defined_check, row_check, named_check, element_check}
 use Rattle.request_check.specs.Walk.{if_passed, bound_of, Bounds}
@@ -26,31 +23,31 @@ use Rattle.request_check.proofs.Cases.{service_is}
 use Rattle.request_check.proofs.Rows.{within}
 
 -- whether a check passed
-abbrev pub passed : Check → Bool
-passed Passed = true
-passed (Failed f) = false
+abbrev pub passed : Result Unit Fault → Bool
+passed (Ok tt) = true
+passed (Err f) = false
 
-pub passed_is : (c : Check) → passed c ≡ true → c ≡ Passed
-passed_is Passed h = refl
-passed_is (Failed f) h = absurd (let z : ◌≡◌ {A = ℕ} 0 1 = cc in omega arith)
+pub passed_is : (c : Result Unit Fault) → passed c ≡ true → c ≡ Ok tt
+passed_is (Ok tt) h = refl
+passed_is (Err f) h = absurd (let z : ◌≡◌ {A = ℕ} 0 1 = cc in omega arith)
 
 -- the checks that do not ask for the number
-abbrev ahead_by : Row → Bool → Bool → ℕ → Decoded → Check
-ahead_by w write «open» mode Undefined = Failed Attribute
-ahead_by w write «open» mode (Defined a) = cond (not w.found) (Failed NoService) (access_check w.code a write «open» mode)
+abbrev ahead_by : Row → Bool → Bool → ℕ → Option ServiceAttribute → Result Unit Fault
+ahead_by w write «open» mode None = Err Attribute
+ahead_by w write «open» mode (Some a) = cond (not w.found) (Err NoService) (access_check w.code a write «open» mode)
 
-abbrev ahead : Row → Bool → Bool → ℕ → Check
-ahead w write «open» mode = cond (not (mode_allowed write mode)) (Failed AccessMode) (ahead_by w write «open» mode w.attribute)
+abbrev ahead : Row → Bool → Bool → ℕ → Result Unit Fault
+ahead w write «open» mode = cond (not (mode_allowed write mode)) (Err AccessMode) (ahead_by w write «open» mode w.attribute)
 
 module _ (w : Row) (write «open» : Bool) (mode : ℕ) where
   module _ (number : ℕ) where
-    defined_splits : (d : Decoded) → defined_check w write «open» number mode d ≡ then_check (ahead_by w write «open» mode d) (block_check w.blocks number)
-    defined_splits Undefined = refl
-    defined_splits (Defined a) = by_found w.found (service_is w a write «open» number mode)
+    defined_splits : (d : Option ServiceAttribute) → defined_check w write «open» number mode d ≡ then_check (ahead_by w write «open» mode d) (block_check w.blocks number)
+    defined_splits None = refl
+    defined_splits (Some a) = by_found w.found (service_is w a write «open» number mode)
       where
         by_found : (f : Bool) → then_check (access_check w.code a write «open» mode) (block_check w.blocks number) ≡ service_check w a write «open» number mode →
-            cond (not f) (Failed NoService) (service_check w a write «open» number mode)
-            ≡ then_check (cond (not f) (Failed NoService) (access_check w.code a write «open» mode)) (block_check w.blocks number)
+            cond (not f) (Err NoService) (service_check w a write «open» number mode)
+            ≡ then_check (cond (not f) (Err NoService) (access_check w.code a write «open» mode)) (block_check w.blocks number)
         by_found true e = sym e
         by_found false e = refl
 
@@ -61,8 +58,8 @@ module _ (w : Row) (write «open» : Bool) (mode : ℕ) where
       where
         by_mode : (m : Bool) →
             defined_check w write «open» number mode w.attribute ≡ then_check (ahead_by w write «open» mode w.attribute) (block_check w.blocks number) →
-            cond (not m) (Failed AccessMode) (defined_check w write «open» number mode w.attribute)
-            ≡ then_check (cond (not m) (Failed AccessMode) (ahead_by w write «open» mode w.attribute)) (block_check w.blocks number)
+            cond (not m) (Err AccessMode) (defined_check w write «open» number mode w.attribute)
+            ≡ then_check (cond (not m) (Err AccessMode) (ahead_by w write «open» mode w.attribute)) (block_check w.blocks number)
         by_mode true e = e
         by_mode false e = refl
 
@@ -71,27 +68,27 @@ module _ (w : Row) (write «open» : Bool) (mode : ℕ) where
   unfolding bound_of
   row_verdict number = rw (row_splits number, row_splits 0) (by_ahead (ahead w write «open» mode) w.blocks number)
     where
-      plain : (b : Bool) → passed (cond b (Failed BlockNumber) Passed) ≡ not b
+      plain : (b : Bool) → passed (cond b (Err BlockNumber) (Ok tt)) ≡ not b
       plain true = refl
       plain false = refl
 
       by_blocks : (z : Bool) (blocks number : ℕ) → leb blocks 0 ≡ z →
-          passed (block_check blocks number) ≡ not (leb (if_passed (cond z (Failed BlockNumber) Passed) blocks) number)
+          passed (block_check blocks number) ≡ not (leb (if_passed (cond z (Err BlockNumber) (Ok tt)) blocks) number)
       by_blocks true blocks number e =
           let n : blocks ≤ 0 = leb-true blocks 0 e in
-          ap (λ (b : Bool). passed (cond b (Failed BlockNumber) Passed)) (le-leb blocks number (omega arith))
+          ap (λ (b : Bool). passed (cond b (Err BlockNumber) (Ok tt))) (le-leb blocks number (omega arith))
           ∙ ap not (sym (le-leb 0 number (omega arith)))
       by_blocks false blocks number e = plain (leb blocks number)
 
-      by_ahead : (c : Check) (blocks number : ℕ) →
+      by_ahead : (c : Result Unit Fault) (blocks number : ℕ) →
           passed (then_check c (block_check blocks number)) ≡ not (leb (if_passed (then_check c (block_check blocks 0)) blocks) number)
-      by_ahead (Failed f) blocks number = ap not (sym (le-leb 0 number (omega arith)))
-      by_ahead Passed blocks number = by_blocks (leb blocks 0) blocks number refl
+      by_ahead (Err f) blocks number = ap not (sym (le-leb 0 number (omega arith)))
+      by_ahead (Ok tt) blocks number = by_blocks (leb blocks 0) blocks number refl
 
 -- by way of no row, none may be named
-if_none : (c : Check) → if_passed c 0 ≡ 0
-if_none Passed = refl
-if_none (Failed f) = refl
+if_none : (c : Result Unit Fault) → if_passed c 0 ≡ 0
+if_none (Ok tt) = refl
+if_none (Err f) = refl
 
 pub no_row_bound : (write «open» : Bool) (mode : ℕ) → bound_of no_row write «open» mode ≡ 0
 unfolding bound_of
@@ -110,7 +107,7 @@ unfolding element_check
 verdict rows write «open» e = by_index (leb (length rows) e.index) refl
   where
     by_index : (b : Bool) → leb (length rows) e.index ≡ b →
-        passed (cond b (Failed ListIndex) (row_check (row_in rows e) write «open» e.number e.mode))
+        passed (cond b (Err ListIndex) (row_check (row_in rows e) write «open» e.number e.mode))
         ≡ not (leb (bound_of (row_in rows e) write «open» e.mode) e.number)
     by_index true k =
         let none : row_in rows e ≡ no_row = get_or-eq_default rows no_row (leb-true (length rows) e.index k) in
@@ -217,11 +214,11 @@ pub lent : (rows : List Row) (write «open» : Bool) (bounds : List ℕ) → (le
 lent rows write «open» bounds h = rw (take_all 128 bounds (omega (arith, h.0))) h.1
 
 -- the bound of a row, by how the check of its block 0 ends
-module _ (w : Row) (write «open» : Bool) (mode : ℕ) {c : Check} (told : c ≡ row_check w write «open» 0 mode) where
-  pub bound_all : c ≡ Passed → w.blocks ≡ bound_of w write «open» mode
+module _ (w : Row) (write «open» : Bool) (mode : ℕ) {c : Result Unit Fault} (told : c ≡ row_check w write «open» 0 mode) where
+  pub bound_all : c ≡ Ok tt → w.blocks ≡ bound_of w write «open» mode
   unfolding bound_of
   bound_all h = rw (sym told ∙ h)
 
-  pub bound_none : {f : Fault} → c ≡ Failed f → 0 ≡ bound_of w write «open» mode
+  pub bound_none : {f : Fault} → c ≡ Err f → 0 ≡ bound_of w write «open» mode
   unfolding bound_of
   bound_none h = rw (sym told ∙ h)

@@ -1,4 +1,5 @@
 -- The rows of a table: how they are filled, one code after the other, and how they are read.
+use Rattle.std.proofs.Common.{Option, Some, None}
 use mathlib.Core.Path.{◌≡◌, refl, sym, ◌∙◌, ap}
 use mathlib.Core.List.{List, [], ◌∷◌, ◌++◌, map}
 use Prim.Native.Nat.{ℕ, zero, suc, ◌+◌, ◌-◌, ◌≤◌, ◌<◌, min}
@@ -6,36 +7,30 @@ use native.Mathlib.Nat.{sub-zero, suc-sub-suc}
 use native.Mathlib.Numerals.{add-one}
 use native.Mathlib.Omega.{arith}
 use lib.ListN.{length, get_or, set, take, replicate, length-take, length-map}
-use lib.Seq.{set-set, take-take, take_at}
+use Rattle.std.proofs.lemmas.List.{get_or_default}
+use lib.Seq.{take-take, take_at}
 use Rattle.card_nodes.specs.declared.node.Node.{Node}
 use Rattle.card_nodes.specs.declared.node.Entry.TheVariants.{Area}
-use Rattle.card_nodes.specs.declared.find.Found.{Found}
-use Rattle.card_nodes.specs.declared.find.Found.TheVariants.{At, Nothing}
 use Rattle.card_nodes.specs.Find.{is_service_of, service_of}
 use Rattle.card_nodes.proofs.Scan.{read}
-use Rattle.card_nodes.proofs.Records.{Records, found_node}
+use Rattle.card_nodes.specs.Node.{root_node}
+use Rattle.card_nodes.proofs.Searches.{in_range_lem, first_below}
 use Rattle.request_check.specs.declared.table.Row.{Row}
 use Rattle.request_check.specs.declared.table.Table.{Table}
 use Rattle.request_check.specs.Row.{no_row, row_by, row_of, rows_of, row_table, row_at_index}
 
-module _ {nodes : List Node} {count : ℕ} (r : Records nodes count) (code : ℕ) {f : Found} (told : f ≡ service_of (take count nodes) code) where
-  -- the row of a service that is found is that record's
-  pub found_row_lem : {p : ℕ} → f ≡ At p → (z : Node) → row_by code (get_or nodes p z).entry ≡ row_of (take count nodes) code
+module _ (ns : List Node) (code : ℕ) {f : Option ℕ} (told : f ≡ service_of ns code) where
+  -- the row of a service that is found is that node's, whatever a read past the nodes' end gives
+  pub found_row_lem : {p : ℕ} → f ≡ Some p → (z : Node) → row_by code (get_or ns p z).entry ≡ row_of ns code
   unfolding row_of
-  found_row_lem e z = rw (sym told ∙ e, found_node r (is_service_of code) told e z)
+  found_row_lem {p} e z =
+      let h = in_range_lem (first_below (is_service_of code) 0 ns) (sym told ∙ e) in
+      rw (sym told ∙ e, get_or_default ns p z root_node h)
 
   -- a code that is no service's has an area's row
-  pub no_service : f ≡ Nothing → row_by code (Area 0) ≡ row_of (take count nodes) code
+  pub no_service : f ≡ None → row_by code (Area 0) ≡ row_of ns code
   unfolding row_of
   no_service e = rw (sym told ∙ e)
-
--- a place that was filled, and may have been filled anew
-module _ {x y : Row} (e : x ≡ y) (rows : List Row) (i : ℕ) where
-  pub filled_once : {after : List Row} → after ≡ set rows i x → after ≡ set rows i y
-  filled_once k = k ∙ rw e
-
-  pub filled_anew : {before after : List Row} (z : Row) → before ≡ set rows i z → after ≡ set before i x → after ≡ set rows i y
-  filled_anew z h k = k ∙ rw (h, e) (set-set rows i z y)
 
 -- below the count, the row of the array, whatever a read past its end gives
 pub within : (rows : List Row) (n i : ℕ) (z : Row) → i < n → i < length rows → get_or rows i z ≡ row_at_index (take n rows) i

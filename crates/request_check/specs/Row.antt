@@ -1,14 +1,10 @@
 -- What the codes of a request come to on a card.
-use Rattle.std.specs.Prelude.{ℕ, min, List, ◌++◌, map, true, false, length, get_or, take, replicate}
-use Rattle.service_code.specs.declared.code.Decoded.TheVariants.{Undefined}
+use Rattle.std.specs.Prelude.{ℕ, min, List, ◌++◌, map, true, false, length, get_or, take, replicate, Option, Some, None}
 use Rattle.block_list.specs.declared.element.BlockListElement.{BlockListElement}
 use Rattle.service_code.specs.Code.{attribute_of, number_of}
-use Rattle.service_code.specs.declared.limit.Limit.TheVariants.{Unlimited}
 use Rattle.card_nodes.specs.declared.node.Entry.{Entry}
 use Rattle.card_nodes.specs.declared.node.Entry.TheVariants.{Area, Service}
 use Rattle.card_nodes.specs.declared.node.Node.{Node}
-use Rattle.card_nodes.specs.declared.find.Found.{Found}
-use Rattle.card_nodes.specs.declared.find.Found.TheVariants.{At, Nothing}
 use Rattle.card_nodes.specs.Node.{root_node}
 use Rattle.card_nodes.specs.Find.{service_of}
 use Rattle.request_check.specs.declared.table.Row.{Row}
@@ -16,16 +12,16 @@ use Rattle.request_check.specs.declared.table.Table.{Table}
 
 -- what an element beyond the codes would read: no byte is its
 abbrev pub no_row : Row
-no_row = record { code = 0; attribute = Undefined; found = false; start = 0; blocks = 0; limit = Unlimited }
+no_row = record { code = 0; attribute = None; found = false; start = 0; blocks = 0; limit = None }
 
 -- a service's store and limit; no area is a service
 abbrev pub row_by : ℕ → Entry → Row
-row_by code (Area e) = record { code = code; attribute = attribute_of code; found = false; start = 0; blocks = 0; limit = Unlimited }
+row_by code (Area e) = record { code = code; attribute = attribute_of code; found = false; start = 0; blocks = 0; limit = None }
 row_by code (Service s b l) = record { code = code; attribute = attribute_of code; found = true; start = s; blocks = b; limit = l }
 
-abbrev pub row_at : List Node → ℕ → Found → Row
-row_at ns code (At i) = row_by code (get_or ns i root_node).entry
-row_at ns code Nothing = row_by code (Area 0)
+abbrev pub row_at : List Node → ℕ → Option ℕ → Row
+row_at ns code (Some i) = row_by code (get_or ns i root_node).entry
+row_at ns code None = row_by code (Area 0)
 
 -- the first service of that code, in tree order
 unfoldable pub row_of : List Node → ℕ → Row

@@ -1,21 +1,19 @@
 -- One walk of a list: how far its elements pass, by how many blocks each may name.
-use Rattle.std.specs.Prelude.{ℕ, zero, suc, ◌+◌, ◌*◌, ◌%◌, ◌<◌, ◌≡◌, List, Bool, false, cond, eqb, leb, length, get_or}
+use Rattle.std.specs.Prelude.{ℕ, zero, suc, ◌+◌, ◌*◌, ◌%◌, ◌<◌, ◌≡◌, List, Bool, false, cond, eqb, leb, length, get_or, Result, Ok, Err}
 use Rattle.block_list.specs.Element.{unpack_at, after_element, ends_after, elements_from}
 use Rattle.request_check.specs.declared.table.Row.{Row}
-use Rattle.request_check.specs.declared.check.Check.{Check}
-use Rattle.request_check.specs.declared.check.Check.TheVariants.{Passed, Failed}
-use Rattle.request_check.specs.declared.check.Checked.{Checked}
-use Rattle.request_check.specs.declared.check.Checked.TheVariants.{Passed as AllPassed}
 use Rattle.request_check.specs.declared.walk.Stop.{Stop}
 use Rattle.request_check.specs.declared.walk.Stop.TheVariants.{Over, Stopped}
 use Rattle.request_check.specs.declared.walk.Walked.{Walked}
 use Rattle.request_check.specs.Row.{row_at_index}
 use Rattle.request_check.specs.Check.{row_check, element_check, next_check, checked_from}
+use Rattle.answers.specs.declared.status.Failure.{Failure}
+use Rattle.answers.specs.declared.status.Fault.{Fault}
 
 -- so many after a check that passed, none after one that failed
-abbrev pub if_passed : Check → ℕ → ℕ
-if_passed Passed n = n
-if_passed (Failed f) n = 0
+abbrev pub if_passed : Result Unit Fault → ℕ → ℕ
+if_passed (Ok tt) n = n
+if_passed (Err f) n = 0
 
 -- how many blocks an element of a mode may name by way of a row: all of its store, where block 0 would pass, or none
 unfoldable pub bound_of : Row → Bool → Bool → ℕ → ℕ
@@ -34,8 +32,8 @@ walked_from bounds s (suc n) i at =
     (unpack_at s at)
 
 -- what is at fault with the element at a place, number i
-unfoldable pub fault_at : List Row → Bool → Bool → ℕ → List ℕ → ℕ → Checked
-fault_at rows write «open» i s at = after_element AllPassed (λ e next. next_check i (element_check rows write «open» e) AllPassed) (unpack_at s at)
+unfoldable pub fault_at : List Row → Bool → Bool → ℕ → List ℕ → ℕ → Result Unit Failure
+fault_at rows write «open» i s at = after_element (Ok tt) (λ e next. next_check i (element_check rows write «open» e) (Ok tt)) (unpack_at s at)
 
 -- whether a list is n elements and nothing more, and how the check of those that are there ends
 abbrev pub walked_of : List Row → Bool → Bool → List ℕ → ℕ → Walked

@@ -1,23 +1,23 @@
 // What the codes of a request come to on a card. Each code is looked up once.
-ghost use Rattle.std.specs.Prelude.{◌≡◌, take};
+ghost use Rattle.std.specs.Prelude.{◌≡◌};
 ghost use Rattle.request_check.specs.Row.{no_row, row_by, row_of, row_table};
 
 use byte_parts::spans;
-use card_nodes::find::Found;
+use card_nodes::find;
 use card_nodes::node::{Entry, Node};
-use card_nodes::{count, find};
-use service_code::code::{Decoded, ServiceCode};
+use service_code::code::{ServiceAttribute, ServiceCode};
 use service_code::limit::Limit;
 
-// What a code comes to: its attribute and, where the card has that service, its store and limit.
+// What a code comes to: its attribute and, where the card has that service, its store and limit. `found` stands beside them, and is no
+// Option: clauses of `request_rules` and `request_runs`, and laws, name the start and the blocks of a row as they stand.
 #[derive(Clone, Copy)]
 pub struct Row {
     pub code: u16,
-    pub attribute: Decoded,
+    pub attribute: Option<ServiceAttribute>,
     pub found: bool,
     pub start: u16,
     pub blocks: u16,
-    pub limit: Limit,
+    pub limit: Option<Limit>,
 }
 
 // The rows of a request's codes, of sixteen the first `count`.
@@ -33,11 +33,11 @@ fn no_row() -> Row
 {
     Row {
         code: 0,
-        attribute: Decoded::Undefined,
+        attribute: None,
         found: false,
         start: 0,
         blocks: 0,
-        limit: Limit::Unlimited,
+        limit: None,
     }
 }
 
@@ -53,7 +53,7 @@ fn row_by(code: u16, entry: Entry) -> Row
             found: false,
             start: 0,
             blocks: 0,
-            limit: Limit::Unlimited,
+            limit: None,
         },
         Entry::Service {
             start,
@@ -77,43 +77,25 @@ fn unknown_row(code: u16) -> Row
     row_by(code, Entry::Area { end: 0 })
 }
 
-// Looks a code up among the first `count` nodes: its row is that of the first service of the code.
-pub fn row_of(nodes: [Node; 64], count: usize, code: u16) -> Row
-    ensures { result ≡ row_of (take count nodes) code }
+// Looks a code up among nodes: its row is that of the first service of the code.
+pub fn row_of(nodes: &[Node], code: u16) -> Row
+    ensures { result ≡ row_of nodes.now code }
 {
-    match find::find_service(nodes, count, code) {
-        Found::At(i) => {
-            let node = nodes[i];
-            let entry = node.entry;
-            row_by(code, entry)
-        }
-        Found::Nothing => unknown_row(code),
+    match find::find_service(nodes, code) {
+        Some(i) => row_by(code, nodes[i].entry),
+        None => unknown_row(code),
     }
 }
 
 // Looks the first sixteen codes up, each once.
-pub fn table_of(nodes: [Node; 64], count: usize, codes: &[u16]) -> Table
-    ensures { result ≡ row_table (take count nodes) codes.now }
+pub fn table_of(nodes: &[Node], codes: &[u16]) -> Table
+    ensures { result ≡ row_table nodes.now codes.now }
 {
     let none = no_row();
     let mut rows = [none; 16];
     let n = spans::least(codes.len(), 16);
-    let taken = count::taken(count);
-    let mut i = 0;
-    while i < n {
-        let code = codes[i];
-        rows[i] = unknown_row(code);
-        let mut k = 0;
-        while k < taken {
-            let node = nodes[k];
-            if find::is_service_of(node, code) {
-                let entry = node.entry;
-                rows[i] = row_by(code, entry);
-                break;
-            }
-            k += 1;
-        }
-        i += 1;
+    for i in 0..n {
+        rows[i] = row_of(nodes, codes[i]);
     }
     Table { rows, count: n }
 }

@@ -4,8 +4,8 @@ ghost use Rattle.std.specs.Prelude.{◌≡◌, ◌≤◌, length, take};
 ghost use Rattle.request_check.specs.Walk.{bound_of, Bounds, walked_from, fault_at, walked_of};
 
 use crate::check;
-use crate::check::{Check, Checked};
 use crate::table::{Row, Table};
+use answers::status::Failure;
 use block_list::element::Unpacked;
 use block_list::{element, reader};
 use byte_parts::spans;
@@ -14,10 +14,11 @@ use byte_parts::spans;
 #[derive(Clone, Copy)]
 pub struct Walked {
     pub ends: bool,
-    pub checked: Checked,
+    pub checked: Result<(), Failure>,
 }
 
-// How far the elements of a list pass: all that are there, which then end where the list does or not, or up to one that does not.
+// How far the elements of a list pass: all that are there, which then end where the list does or not, or up to one that does not. No
+// Result: where the walk stops is an answer of its own, and its caller handles both.
 #[derive(Clone, Copy)]
 enum Stop {
     Over(bool),
@@ -29,8 +30,8 @@ fn bound_of(row: Row, write: bool, open: bool, mode: u8) -> u16
     ensures { result ≡ bound_of row write «open» mode }
 {
     match check::row_check(row, write, open, 0, mode) {
-        Check::Passed => row.blocks,
-        Check::Failed(_) => 0,
+        Ok(()) => row.blocks,
+        Err(_) => 0,
     }
 }
 
@@ -40,12 +41,10 @@ fn bounds_of(table: Table, write: bool, open: bool) -> [u16; 128]
 {
     let mut bounds = [0; 128];
     let n = spans::least(table.count, 16);
-    let mut i = 0;
-    while i < n {
+    for i in 0..n {
         let row = table.rows[i];
         bounds[i] = bound_of(row, write, open, 0);
         bounds[16 + i] = bound_of(row, write, open, 1);
-        i += 1;
     }
     bounds
 }
@@ -56,9 +55,8 @@ fn walk(bounds: &[u16], list: &[u8], count: usize) -> Stop
     ensures { result ≡ walked_from bounds.now list.now count 0 0 }
 {
     let mut at = 0;
-    let mut i = 0;
-    while i < count {
-        let Unpacked::Element { element: e, next } = element::unpack(list, at) else {
+    for i in 0..count {
+        let Some(Unpacked { element: e, next }) = element::unpack(list, at) else {
             return Stop::Over(false);
         };
         let head = list[at];
@@ -69,7 +67,6 @@ fn walk(bounds: &[u16], list: &[u8], count: usize) -> Stop
             };
         }
         at = next;
-        i += 1;
     }
     Stop::Over(at == list.len())
 }
@@ -82,21 +79,18 @@ fn fault_at(
     index: usize,
     list: &[u8],
     place: usize,
-) -> Checked
+) -> Result<(), Failure>
     ensures { result ≡ fault_at (take table.count table.rows) write «open» index list.now place }
 {
-    let Unpacked::Element {
-        element: e,
-        next: _,
-    } = element::unpack(list, place)
-    else {
-        return Checked::Passed;
+    let Some(taken) = element::unpack(list, place) else {
+        return Ok(());
     };
+    let e = taken.element;
     let row = table.rows[e.index as usize];
-    if let Check::Failed(fault) = check::element_check(row, table.count, write, open, e) {
-        return Checked::Failed { index, fault };
+    if let Err(fault) = check::element_check(row, table.count, write, open, e) {
+        return Err(Failure { index, fault });
     }
-    Checked::Passed
+    Ok(())
 }
 
 // Checks the counted elements of a list in order, and tells whether they are all of it: behind one that fails the list is walked to its
@@ -108,7 +102,7 @@ pub fn check_all(table: Table, write: bool, open: bool, list: &[u8], count: usiz
     match walk(&bounds[0..128], list, count) {
         Stop::Over(ends) => Walked {
             ends,
-            checked: Checked::Passed,
+            checked: Ok(()),
         },
         Stop::Stopped { index, place } => Walked {
             ends: reader::list_ends(list, count),

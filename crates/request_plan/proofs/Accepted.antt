@@ -1,4 +1,5 @@
 -- What an accepted request comes to; and that only an accepted write changes the arena. Assumes nothing.
+use Rattle.std.proofs.Common.{Result, Ok, Err}
 use Prim.Native.Nat.{ℕ, zero, suc, ◌*◌, ◌<◌}
 use native.Mathlib.Omega.{arith}
 use mathlib.Core.Path.{◌≡◌, refl, sym, ap, ◌∙◌}
@@ -12,8 +13,6 @@ use Rattle.block_list.proofs.ListsLaws.{ends-count}
 use Rattle.card_build.specs.declared.card.Card.{Card}
 use Rattle.card_build.specs.Card.{is_sound}
 use Rattle.byte_parts.specs.Part.{put}
-use Rattle.request_check.specs.declared.check.Checked.{Checked}
-use Rattle.request_check.specs.declared.check.Checked.TheVariants.{Passed as AllPassed, Failed as FailedAt}
 use Rattle.request_check.specs.declared.table.Row.{Row}
 use Rattle.request_check.specs.Check.{checked_from}
 use Rattle.request_check.proofs.Laws.{AllPass, all_pass, Good, good}
@@ -27,21 +26,22 @@ use Rattle.request_plan.specs.Plan.{Plan, stop, go, judged_with, plan_of, rows_i
 use Rattle.request_plan.specs.Serve.{Served, blocks_read, committed, carried, plan_served, serve}
 use Rattle.request_plan.proofs.Ready.{Fitting, fits}
 use Rattle.request_plan.proofs.Serves.{passed}
+use Rattle.answers.specs.declared.status.Failure.{Failure}
 
 module _ (c : Card) (a : List ℕ) (r : Request) where
   -- an accepted request fits, all its elements passed, and so it is carried out
   pub record Accepted : Type 0 where
     pub fit : Fitting c (length a) r
-    pub checked : checked_from (rows_in c r) r.write r.«open» 0 (elements_in r) ≡ AllPassed
+    pub checked : checked_from (rows_in c r) r.write r.«open» 0 (elements_in r) ≡ Ok tt
     pub carries : serve c a r ≡ carried r.write (rows_in c r) (16 * c.used) r.«data» a (elements_in r)
 
   pub accepted : (serve c a r).reply ≡ Done → Accepted
   unfolding serve plan_of
   accepted e = by_judged (judged_of c (length a) r) refl e
     where
-      by_checked : (k : Checked) → (plan_served c a r (checked_plan (elements_in r) k)).reply ≡ Done → k ≡ AllPassed
-      by_checked AllPassed e = refl
-      by_checked (FailedAt i f) e = absurd (let z : ◌≡◌ {A = ℕ} 0 1 = cc in (omega arith))
+      by_checked : (k : Result Unit Failure) → (plan_served c a r (checked_plan (elements_in r) k)).reply ≡ Done → k ≡ Ok tt
+      by_checked (Ok tt) e = refl
+      by_checked (Err failure) e = absurd (let z : ◌≡◌ {A = ℕ} 0 1 = cc in (omega arith))
 
       by_judged : (j : Judged) → judged_of c (length a) r ≡ j → (plan_served c a r (judged_plan c r j)).reply ≡ Done → Accepted
       by_judged (NotFit x) q e = absurd (let z : ◌≡◌ {A = ℕ} 0 1 = cc in (omega arith))

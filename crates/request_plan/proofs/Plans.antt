@@ -1,4 +1,5 @@
 -- What a request is judged to be, in each case.
+use Rattle.std.proofs.Common.{Result, Ok, Err}
 use mathlib.Core.Path.{◌≡◌, refl, sym, ◌∙◌}
 use mathlib.Core.Bool.{Bool, true, false, cond, not}
 use mathlib.Core.List.{List}
@@ -6,8 +7,6 @@ use Prim.Native.Nat.{ℕ, ◌*◌}
 use lib.Dec.{ltb}
 use Rattle.answers.specs.declared.refusal.Refusal.{Refusal}
 use Rattle.answers.specs.declared.refusal.Refusal.TheVariants.{TooManyElements, TooManyCodes, ListLength, ShortArena, NotBuilt}
-use Rattle.answers.specs.declared.refusal.Answer.{Answer}
-use Rattle.answers.specs.declared.refusal.Answer.TheVariants.{Done, Refused}
 use Rattle.block_list.specs.Element.{ends_after}
 use Rattle.request_plan.specs.declared.Sizes.{Sizes}
 use Rattle.request_plan.specs.declared.Judged.{Judged}
@@ -16,19 +15,19 @@ use Rattle.request_plan.specs.Plan.{bounds_judged, write_judged, read_judged, le
 
 module _ (ends : Bool) (n : Sizes) where
   -- too many elements
-  pub elements_refused : ltb 512 n.count ≡ true → Refused TooManyElements ≡ bounds_judged ends n
+  pub elements_refused : ltb 512 n.count ≡ true → Err TooManyElements ≡ bounds_judged ends n
   unfolding bounds_judged
   elements_refused h = rw h
 
   module _ (f : ltb 512 n.count ≡ false) where
     -- too many codes
-    pub codes-refused : ltb 16 n.codes ≡ true → Refused TooManyCodes ≡ bounds_judged ends n
+    pub codes-refused : ltb 16 n.codes ≡ true → Err TooManyCodes ≡ bounds_judged ends n
     unfolding bounds_judged
     codes-refused h = rw (f, h)
 
     module _ (g : ltb 16 n.codes ≡ false) where
       -- Whether the list ends decides.
-      pub by_list_lem : {a : Answer} → a ≡ cond (not ends) (Refused ListLength) Done → a ≡ bounds_judged ends n
+      pub by_list_lem : {a : Result Unit Refusal} → a ≡ cond (not ends) (Err ListLength) (Ok tt) → a ≡ bounds_judged ends n
       unfolding bounds_judged
       by_list_lem h = rw (f, g) h
 
@@ -55,14 +54,14 @@ module _ (sound write ends : Bool) (n : Sizes) where
   unfolding judged_ending
   not_built s = rw s
 
-  module _ (s : sound ≡ true) {b : Answer} (told : b ≡ bounds_judged ends n) where
+  module _ (s : sound ≡ true) {b : Result Unit Refusal} (told : b ≡ bounds_judged ends n) where
     -- out of bounds
-    pub no_bounds : {x : Refusal} → b ≡ Refused x → NotFit x ≡ judged_ending sound write ends n
+    pub no_bounds : {x : Refusal} → b ≡ Err x → NotFit x ≡ judged_ending sound write ends n
     unfolding judged_ending
     no_bounds h = rw (s, sym told ∙ h)
 
     -- in bounds
-    pub to_lent : {j : Judged} → b ≡ Done → j ≡ lent_judged write n → j ≡ judged_ending sound write ends n
+    pub to_lent : {j : Judged} → b ≡ Ok tt → j ≡ lent_judged write n → j ≡ judged_ending sound write ends n
     unfolding judged_ending
     to_lent h k = rw (s, sym told ∙ h) k
 
@@ -74,7 +73,7 @@ ending_with sound write list n =
     (cond (ltb n.arena (16 * n.used)) (NotFit ShortArena) (cond write (write_judged n) (read_judged n)))
   where
     by_tests : (s e c l : Bool) (more : Judged) →
-        cond (not s) (NotFit NotBuilt) (bounded (cond e (Refused TooManyElements) (cond c (Refused TooManyCodes) (cond (not l) (Refused ListLength) Done))) more)
+        cond (not s) (NotFit NotBuilt) (bounded (cond e (Err TooManyElements) (cond c (Err TooManyCodes) (cond (not l) (Err ListLength) (Ok tt)))) more)
         ≡ cond (not s) (NotFit NotBuilt) (cond e (NotFit TooManyElements) (cond c (NotFit TooManyCodes) (cond (not l) (NotFit ListLength) more)))
     by_tests false e c l more = refl
     by_tests true true c l more = refl

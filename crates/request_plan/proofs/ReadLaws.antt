@@ -1,4 +1,5 @@
 -- What reads give: the blocks that their elements name, one after the other, and how many bytes those are. Assumes nothing.
+use Rattle.std.proofs.Common.{Result, Ok, Err}
 use Prim.Native.Nat.{ℕ, zero, suc, ◌+◌, ◌*◌, ◌≤◌, ◌<◌}
 use native.Mathlib.Omega.{arith}
 use mathlib.Core.Path.{◌≡◌, refl, ◌∙◌}
@@ -14,8 +15,6 @@ use Rattle.byte_parts.proofs.Part.{length_part, part-part}
 use Rattle.card_build.specs.declared.card.Card.{Card}
 use Rattle.request_check.specs.declared.table.Row.{Row}
 use Rattle.request_check.specs.Row.{row_in}
-use Rattle.request_check.specs.declared.check.Checked.{Checked}
-use Rattle.request_check.specs.declared.check.Checked.TheVariants.{Passed, Failed as FailedAt}
 use Rattle.request_check.specs.Check.{checked_from}
 use Rattle.request_runs.specs.Runs.{Walked, bad, good}
 use Rattle.request_runs.specs.Staged.{staged}
@@ -27,6 +26,7 @@ use Rattle.request_plan.specs.Plan.{judged_of, rows_in, elements_in, checked_pla
 use Rattle.request_plan.specs.Serve.{Served, store_in, blocks_read, committed, carried, plan_served, serve, length_read}
 use Rattle.request_plan.proofs.Ready.{fits, all_ready}
 use Rattle.request_plan.proofs.Accepted.{nothing}
+use Rattle.answers.specs.declared.status.Failure.{Failure}
 
 -- The blocks read, element by element.
 module _ (rows : List Row) (a : List ℕ) where
@@ -72,12 +72,12 @@ module _ (c : Card) (a : List ℕ) («open» : Bool) (codes : List ℕ) (count :
 
   -- by how its elements are checked
   by_check
-      : judged_of c (length a) reading ≡ Fit → (k : Checked)
+      : judged_of c (length a) reading ≡ Fit → (k : Result Unit Failure)
       → checked_from (rows_in c reading) false «open» 0 (elements_in reading) ≡ k
       → ReadSaid a reading (plan_served c a reading (checked_plan (elements_in reading) k))
   unfolding carried ends_after
-  by_check j (FailedAt i f) e = record { kept = refl; long = refl; room = omega arith; most = omega arith }
-  by_check j Passed e =
+  by_check j (Err failure) e = record { kept = refl; long = refl; room = omega arith; most = omega arith }
+  by_check j (Ok tt) e =
       let f = fits c (length a) reading j in
       let es = elements_in reading in
       let g = all_ready c h f.sound codes false «open» es e (length a) f.arena in
@@ -108,10 +108,10 @@ module _ (c : Card) (a : List ℕ) («open» : Bool) (codes : List ℕ) (count :
   writing = write_request «open» codes count list «data» room
 
   -- by how its elements are checked
-  check_read : (k : Checked) → (plan_served c a writing (checked_plan (elements_in writing) k)).read ≡ []
+  check_read : (k : Result Unit Failure) → (plan_served c a writing (checked_plan (elements_in writing) k)).read ≡ []
   unfolding carried
-  check_read (FailedAt i f) = refl
-  check_read Passed = committed-read (16 * c.used) a (staged (rows_in c writing) «data» (elements_in writing) (take (16 * c.used) a))
+  check_read (Err failure) = refl
+  check_read (Ok tt) = committed-read (16 * c.used) a (staged (rows_in c writing) «data» (elements_in writing) (take (16 * c.used) a))
 
   -- by how it is judged
   judgement_read : (j : Judged) → (plan_served c a writing (judged_plan c writing j)).read ≡ []

@@ -1,4 +1,5 @@
 -- Where a card is sound and all elements passed, each names a block of a store that lies among the blocks in use.
+use Rattle.std.proofs.Common.{Option, Some, None, Ok}
 use mathlib.Core.Path.{◌≡◌}
 use mathlib.Core.Bool.{Bool, true, false, not}
 use mathlib.Core.List.{List, [], ◌∷◌}
@@ -14,8 +15,6 @@ use Rattle.block_list.specs.Element.{ends_after}
 use Rattle.card_nodes.specs.declared.node.Entry.{Entry}
 use Rattle.card_nodes.specs.declared.node.Entry.TheVariants.{Area, Service}
 use Rattle.card_nodes.specs.declared.node.Node.{Node}
-use Rattle.card_nodes.specs.declared.find.Found.{Found}
-use Rattle.card_nodes.specs.declared.find.Found.TheVariants.{At, Nothing}
 use Rattle.card_nodes.specs.Node.{root_node, start_of, blocks_of}
 use Rattle.card_nodes.specs.Find.{service_of}
 use Rattle.card_build.specs.declared.card.Card.{Card}
@@ -23,7 +22,6 @@ use Rattle.card_build.specs.Card.{nodes_of, is_sound}
 use Rattle.card_laws.proofs.Built.{sound_built}
 use Rattle.card_laws.proofs.Laid.{Laid, laid}
 use Rattle.request_check.specs.declared.table.Row.{Row}
-use Rattle.request_check.specs.declared.check.Checked.TheVariants.{Passed as AllPassed}
 use Rattle.request_check.specs.Row.{row_by, row_at, row_of, rows_of, row_at_index}
 use Rattle.request_check.specs.Check.{checked_from}
 use Rattle.request_check.proofs.Laws.{AllPass, all_pass, good}
@@ -45,9 +43,9 @@ module _ {ns : List Node} {used : ℕ} (l : Laid ns used) where
   by_entry_lem code (Service s b k) h = h
 
   -- by what is found
-  by_found : (code : ℕ) (f : Found) → row_end (row_at ns code f) ≤ used
-  by_found code (At i) = by_entry_lem code (get_or ns i root_node).entry (l.within i)
-  by_found code Nothing = omega arith
+  by_found : (code : ℕ) (f : Option ℕ) → row_end (row_at ns code f) ≤ used
+  by_found code (Some i) = by_entry_lem code (get_or ns i root_node).entry (l.within i)
+  by_found code None = omega arith
 
   -- the store of a code lies among the blocks in use
   pub row_within : (code : ℕ) → row_end (row_of ns code) ≤ used
@@ -80,7 +78,7 @@ module _ (c : Card) (h : length c.nodes ≡ 64) (s : is_sound c ≡ true) where
 
   -- all elements passed: each store lies in the blocks in use, and each block in its store
   pub all_ready : (codes : List ℕ) (write «open» : Bool) (es : List BlockListElement) →
-      checked_from (rows_of (nodes_of c) codes) write «open» 0 es ≡ AllPassed → (long : ℕ) → 16 * c.used ≤ long →
+      checked_from (rows_of (nodes_of c) codes) write «open» 0 es ≡ Ok tt → (long : ℕ) → 16 * c.used ≤ long →
       AllReady (rows_of (nodes_of c) codes) long es
   all_ready codes write «open» es e long k =
       pass_ready sound_laid codes write «open» long k es (all_pass (rows_of (nodes_of c) codes) write «open» 0 es e)

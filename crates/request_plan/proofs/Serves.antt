@@ -1,4 +1,5 @@
 -- What a whole request comes to, by how it was judged and checked.
+use Rattle.std.proofs.Common.{Ok}
 use mathlib.Core.Path.{◌≡◌, refl, sym}
 use mathlib.Core.List.{List, []}
 use Prim.Native.Nat.{ℕ, ◌*◌}
@@ -7,7 +8,6 @@ use Rattle.answers.specs.declared.refusal.Refusal.{Refusal}
 use Rattle.answers.specs.declared.status.Fault.{Fault}
 use Rattle.byte_parts.proofs.Part.{put_zero}
 use Rattle.card_build.specs.declared.card.Card.{Card}
-use Rattle.request_check.specs.declared.check.Checked.TheVariants.{Passed as AllPassed, Failed as FailedAt}
 use Rattle.request_check.specs.Check.{checked_from}
 use Rattle.request_plan.specs.declared.Reply.{Reply}
 use Rattle.request_plan.specs.declared.Reply.TheVariants.{Refused, ShortData, Failed}
@@ -15,6 +15,7 @@ use Rattle.request_plan.specs.declared.Judged.TheVariants.{Refused as NotFit, Sh
 use Rattle.request_plan.specs.Request.{Request}
 use Rattle.request_plan.specs.Plan.{rows_in, elements_in, judged_of, plan_of}
 use Rattle.request_plan.specs.Serve.{Served, answered_only, carried, serve, output_after}
+use Rattle.answers.specs.Failure.{failed_at}
 
 module _ (c : Card) (a : List ℕ) (r : Request) where
   -- a request that is refused
@@ -29,13 +30,13 @@ module _ (c : Card) (a : List ℕ) (r : Request) where
 
   module _ (j : judged_of c (length a) r ≡ Fit) where
     -- an element that fails
-    pub failed : {i : ℕ} {f : Fault} → checked_from (rows_in c r) r.write r.«open» 0 (elements_in r) ≡ FailedAt i f →
+    pub failed : {i : ℕ} {f : Fault} → checked_from (rows_in c r) r.write r.«open» 0 (elements_in r) ≡ failed_at i f →
         serve c a r ≡ answered_only a (Failed i f)
     unfolding serve plan_of
     failed e = rw (j, e)
 
     -- all elements pass
-    pub passed : checked_from (rows_in c r) r.write r.«open» 0 (elements_in r) ≡ AllPassed →
+    pub passed : checked_from (rows_in c r) r.write r.«open» 0 (elements_in r) ≡ Ok tt →
         serve c a r ≡ carried r.write (rows_in c r) (16 * c.used) r.«data» a (elements_in r)
     unfolding serve plan_of
     passed e = rw (j, e)

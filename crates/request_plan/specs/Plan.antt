@@ -1,16 +1,12 @@
 -- All that is settled before a stored byte is read. Of the arena only its length is asked, so no stored byte can change a refusal.
-use Rattle.std.specs.Prelude.{ℕ, List, Bool, cond, not, ltb, length}
+use Rattle.std.specs.Prelude.{ℕ, List, Bool, cond, not, ltb, length, Result, Ok, Err}
 use Rattle.byte_parts.specs.Sizes.{most_elements, most_codes}
 use Rattle.block_list.specs.declared.element.BlockListElement.{BlockListElement}
 use Rattle.answers.specs.declared.refusal.Refusal.TheVariants.{TooManyElements, TooManyCodes, ListLength, ShortStaging, ShortOutput, ShortArena, NotBuilt}
-use Rattle.answers.specs.declared.refusal.Answer.{Answer}
-use Rattle.answers.specs.declared.refusal.Answer.TheVariants.{Done as Within, Refused as OutOfBounds}
 use Rattle.block_list.specs.Element.{ends_after, elements_from}
 use Rattle.card_build.specs.declared.card.Card.{Card}
 use Rattle.card_build.specs.Card.{nodes_of, is_sound, too_short, is_short}
 use Rattle.request_check.specs.declared.table.Row.{Row}
-use Rattle.request_check.specs.declared.check.Checked.{Checked}
-use Rattle.request_check.specs.declared.check.Checked.TheVariants.{Passed as AllPassed, Failed as FailedAt}
 use Rattle.request_check.specs.Row.{rows_of}
 use Rattle.request_check.specs.Check.{checked_from}
 use Rattle.request_plan.specs.declared.Reply.{Reply}
@@ -19,6 +15,8 @@ use Rattle.request_plan.specs.declared.Sizes.{Sizes}
 use Rattle.request_plan.specs.declared.Judged.{Judged}
 use Rattle.request_plan.specs.declared.Judged.TheVariants.{Refused as NotFit, ShortData as NoData, Fit}
 use Rattle.request_plan.specs.Request.{Request}
+use Rattle.answers.specs.declared.refusal.Refusal.{Refusal}
+use Rattle.answers.specs.declared.status.Failure.{Failure}
 
 -- the reply, or the elements to carry out
 pub data Plan : Type 0 where
@@ -34,12 +32,12 @@ abbrev pub elements_in : Request → List BlockListElement
 elements_in r = elements_from r.list r.count 0
 
 -- 1, 2, 3, of a list that ends where its elements do, or not
-unfoldable pub bounds_judged : Bool → Sizes → Answer
+unfoldable pub bounds_judged : Bool → Sizes → Result Unit Refusal
 bounds_judged ends n =
-    cond (ltb most_elements n.count) (OutOfBounds TooManyElements)
-    (cond (ltb most_codes n.codes) (OutOfBounds TooManyCodes)
-    (cond (not ends) (OutOfBounds ListLength)
-    Within))
+    cond (ltb most_elements n.count) (Err TooManyElements)
+    (cond (ltb most_codes n.codes) (Err TooManyCodes)
+    (cond (not ends) (Err ListLength)
+    (Ok tt)))
 
 -- 4 (staging: 16 bytes per block in use), then FF AC (data: 16 bytes per element)
 -- RULES 2.4, 2.6, 9.1
@@ -74,9 +72,9 @@ judged_with sound write list n =
     (cond write (write_judged n) (read_judged n))))))
 
 -- what is out of bounds is refused, and of what is not the rest is judged
-abbrev pub bounded : Answer → Judged → Judged
-bounded (OutOfBounds x) more = NotFit x
-bounded Within more = more
+abbrev pub bounded : Result Unit Refusal → Judged → Judged
+bounded (Err x) more = NotFit x
+bounded (Ok tt) more = more
 
 -- the same, of a list of which it is known whether it ends where its elements do
 unfoldable pub judged_ending : Bool → Bool → Bool → Sizes → Judged
@@ -96,9 +94,9 @@ judged_of c arena_len r =
     })
 
 -- the first element that fails is told, else all are carried out
-abbrev pub checked_plan : List BlockListElement → Checked → Plan
-checked_plan es AllPassed = go es
-checked_plan es (FailedAt i f) = stop (Failed i f)
+abbrev pub checked_plan : List BlockListElement → Result Unit Failure → Plan
+checked_plan es (Ok tt) = go es
+checked_plan es (Err failure) = stop (Failed failure.index failure.fault)
 
 -- then each element's check
 abbrev pub judged_plan : Card → Request → Judged → Plan

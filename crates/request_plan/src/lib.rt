@@ -1,20 +1,20 @@
 // What is settled of a request before its elements are looked at.
 #![tactic(auto)]
 
-ghost use Rattle.std.specs.Prelude.{◌≡◌, cond, not, ltb};
+ghost use Rattle.std.specs.Prelude.{◌≡◌, cond, not, ltb, Ok, Err};
 ghost use Rattle.byte_parts.specs.Sizes.{most_elements, most_codes};
 ghost use Rattle.answers.specs.Refusal.{refusal_number};
 ghost use Rattle.card_build.specs.Card.{too_short};
 ghost use Rattle.request_plan.specs.Request.{flag1_in, flag2_in, response_of, cause_in};
 ghost use Rattle.request_plan.specs.Plan.{bounds_judged, write_judged, read_judged, lent_judged, judged_ending};
 
-use answers::refusal::{Answer, Refusal};
+use answers::refusal::Refusal;
 use answers::status;
 use answers::status::Fault;
 use byte_parts::sizes::{MOST_CODES, MOST_ELEMENTS};
 use card_build::card;
 
-// The reply to a request. Only `Done` is a request carried out.
+// The reply to a request. Only `Done` is a request carried out. No Result: a refusal is told by its number, the other three by a status pair.
 #[derive(Clone, Copy)]
 pub enum Reply {
     Refused(Refusal),
@@ -45,8 +45,7 @@ impl Reply {
         ensures { result ≡ flag1_in self }
     {
         match self {
-            Reply::Refused(_) => 0x00,
-            Reply::Done => 0x00,
+            Reply::Refused(_) | Reply::Done => 0x00,
             Reply::ShortData => 0xff,
             Reply::Failed { index, fault: _ } => status::list_error_index(index),
         }
@@ -57,8 +56,7 @@ impl Reply {
         ensures { result ≡ flag2_in self }
     {
         match self {
-            Reply::Refused(_) => 0x00,
-            Reply::Done => 0x00,
+            Reply::Refused(_) | Reply::Done => 0x00,
             Reply::ShortData => 0xac,
             Reply::Failed { index: _, fault } => fault.status_flag2(),
         }
@@ -83,15 +81,14 @@ impl Reply {
         ensures { result ≡ cause_in self }
     {
         match self {
-            Reply::Refused(_) => 0,
-            Reply::Done => 0,
-            Reply::ShortData => 0,
+            Reply::Refused(_) | Reply::Done | Reply::ShortData => 0,
             Reply::Failed { index: _, fault } => fault.cause(),
         }
     }
 }
 
-// What a request and the buffers lent to it are judged to be.
+// What a request and the buffers lent to it are judged to be. No Result: a refusal leaves the staging, short data clear it, so that its
+// callers tell three outcomes apart.
 #[derive(Clone, Copy)]
 pub enum Judged {
     Refused(Refusal),
@@ -126,24 +123,24 @@ fn many_codes(codes: usize) -> bool
 }
 
 // The refusal of a list that does not end where its elements do, or none.
-fn list_judged(ends: bool) -> Answer
-    ensures { result ≡ cond (not ends) (Answer.Refused Refusal.ListLength) Answer.Done }
+fn list_judged(ends: bool) -> Result<(), Refusal>
+    ensures { result ≡ cond (not ends) (Err Refusal.ListLength) (Ok tt) }
 {
     if !ends {
-        return Answer::Refused(Refusal::ListLength); // 3: the list ends early, or runs on
+        return Err(Refusal::ListLength); // 3: the list ends early, or runs on
     }
-    Answer::Done
+    Ok(())
 }
 
 // Judges the counts of a request, and whether its list ends: 1, 2, 3.
-fn bounds_judged(ends: bool, sizes: Sizes) -> Answer
+fn bounds_judged(ends: bool, sizes: Sizes) -> Result<(), Refusal>
     ensures { result ≡ bounds_judged ends sizes }
 {
     if many_elements(sizes.count) {
-        return Answer::Refused(Refusal::TooManyElements); // 1
+        return Err(Refusal::TooManyElements); // 1
     }
     if many_codes(sizes.codes) {
-        return Answer::Refused(Refusal::TooManyCodes); // 2
+        return Err(Refusal::TooManyCodes); // 2
     }
     list_judged(ends) // 3
 }
@@ -200,7 +197,7 @@ pub fn judge(sound: bool, write: bool, ends: bool, sizes: Sizes) -> Judged
     if !sound {
         return Judged::Refused(Refusal::NotBuilt); // 8
     }
-    if let Answer::Refused(refusal) = bounds_judged(ends, sizes) {
+    if let Err(refusal) = bounds_judged(ends, sizes) {
         return Judged::Refused(refusal);
     }
     lent_judged(write, sizes)

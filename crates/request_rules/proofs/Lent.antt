@@ -1,4 +1,5 @@
 -- A rule on a part that was lent is the rule on the whole. Assumes nothing.
+use Rattle.std.proofs.Common.{Result, Ok, Err}
 use Prim.Native.Nat.{ℕ, ◌+◌, ◌-◌, ◌*◌, ◌≤◌}
 use native.Mathlib.Omega.{arith}
 use mathlib.Core.Path.{◌≡◌, refl, ap, ◌∙◌}
@@ -9,18 +10,17 @@ use lib.ListN.{length, take, drop}
 use Rattle.byte_parts.specs.Part.{part, put}
 use Rattle.byte_parts.proofs.Part.{length_part, put-part, put_lent}
 use Rattle.answers.specs.declared.status.Fault.TheVariants.{CyclicBlock}
-use Rattle.answers.specs.declared.status.Written.{Written}
-use Rattle.answers.specs.declared.status.Written.TheVariants.{Done, Failed}
 use Rattle.answers.specs.Outcome.{Outcome, passed, failed, written_of, bytes_after}
 use Rattle.request_check.specs.declared.table.Row.{Row}
 use Rattle.request_rules.specs.Lens.{back, within}
 use Rattle.request_rules.specs.Rules.{cyclic_element, on_store}
+use Rattle.answers.specs.declared.status.Fault.{Fault}
 
 -- what a function that keeps a rule tells: how it ended, and the bytes that it left
-abbrev pub Told : List ℕ → Outcome → Written → List ℕ → Type 0
+abbrev pub Told : List ℕ → Outcome → Result Unit Fault → List ℕ → Type 0
 Told s o r t = (r ≡ written_of o) × (t ≡ bytes_after s o)
 
-module _ (s : List ℕ) (at n : ℕ) (rule : List ℕ → Outcome) (fits : at + n ≤ length s) (r : Written) (ys : List ℕ) where
+module _ (s : List ℕ) (at n : ℕ) (rule : List ℕ → Outcome) (fits : at + n ≤ length s) (r : Result Unit Fault) (ys : List ℕ) where
   -- the part that comes back, put where it was
   told_back : (o : Outcome) → Told (part s at n) o r ys → Told s (back s at n o) r (put s at n ys)
   unfolding back
@@ -40,7 +40,7 @@ module _ (s : List ℕ) (at n : ℕ) (rule : List ℕ → Outcome) (fits : at + 
 
 -- the same of a row's store in the stage, which begins at `at`
 pub store_lent
-    : (w : Row) (s : List ℕ) (rule : List ℕ → Outcome) (r : Written) (ys : List ℕ) (at : ℕ) → at ≡ 16 * w.start
+    : (w : Row) (s : List ℕ) (rule : List ℕ → Outcome) (r : Result Unit Fault) (ys : List ℕ) (at : ℕ) → at ≡ 16 * w.start
     → let size = at + 16 * w.blocks - at in
     let lent = take size (drop at s) in
     16 * w.start + 16 * w.blocks ≤ length s → length ys ≡ length lent → Told lent (rule lent) r ys
@@ -49,10 +49,10 @@ unfolding on_store
 store_lent w s rule r ys at q fits l e = rw (← q) (within_lent_lem s at (16 * w.blocks) rule (omega (arith, q, fits)) r ys l e)
 
 -- an element of a cyclic store leaves it as it was
-pub cyclic_ends : (number : ℕ) (s : List ℕ) {r : Written} → r ≡ cyclic_element number → Told s (cond (eqb number 0) (passed s) (failed CyclicBlock)) r s
+pub cyclic_ends : (number : ℕ) (s : List ℕ) {r : Result Unit Fault} → r ≡ cyclic_element number → Told s (cond (eqb number 0) (passed s) (failed CyclicBlock)) r s
 unfolding cyclic_element
 cyclic_ends number s e = by_test_lem (eqb number 0) e
   where
-    by_test_lem : (b : Bool) {r : Written} → r ≡ cond b Done (Failed CyclicBlock) → Told s (cond b (passed s) (failed CyclicBlock)) r s
+    by_test_lem : (b : Bool) {r : Result Unit Fault} → r ≡ cond b (Ok tt) (Err CyclicBlock) → Told s (cond b (passed s) (failed CyclicBlock)) r s
     by_test_lem true e = (e, refl)
     by_test_lem false e = (e, refl)

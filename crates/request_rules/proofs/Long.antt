@@ -1,4 +1,5 @@
 -- Every rule leaves a store as long as it was. Assumes nothing.
+use Rattle.std.proofs.Common.{Option, Some, None}
 use Prim.Native.Nat.{ℕ, ◌*◌}
 use native.Mathlib.Omega.{arith}
 use mathlib.Core.Path.{◌≡◌}
@@ -7,8 +8,6 @@ use mathlib.Core.List.{List}
 use lib.Dec.{eqb}
 use lib.ListN.{length}
 use Rattle.service_code.specs.declared.code.ServiceAttribute.TheVariants.{RandomReadWrite, RandomReadOnly, CyclicReadWrite, CyclicReadOnly, PurseDirect, PurseCashback, PurseDecrement, PurseReadOnly}
-use Rattle.service_code.specs.declared.code.Decoded.{Decoded}
-use Rattle.service_code.specs.declared.code.Decoded.TheVariants.{Defined, Undefined}
 use Rattle.service_code.specs.declared.limit.Limit.{Limit}
 use Rattle.answers.specs.declared.status.Fault.{Fault}
 use Rattle.answers.specs.declared.status.Fault.TheVariants.{CyclicBlock}
@@ -18,6 +17,7 @@ use Rattle.byte_parts.proofs.Part.{length-put}
 use Rattle.rule_cyclic.proofs.Again.{ring_holds}
 use Rattle.request_rules.specs.Lens.{back, within}
 use Rattle.request_rules.specs.Rules.{element_by, end_by}
+use Rattle.service_code.specs.declared.code.ServiceAttribute.{ServiceAttribute}
 
 -- an outcome that passes is what was stored
 stored_is : {t u : List ℕ} → passed u ≡ passed t → u ≡ t
@@ -40,31 +40,31 @@ within-long at n rule s t e = here (rule (part s at n)) e
     here (failed f) h = never h
 
 -- so does each element
-pub element_long : (d : Decoded) (limit : Limit) (number mode : ℕ) (block : List ℕ) → Long (element_by d limit number mode block)
+pub element_long : (d : Option ServiceAttribute) (limit : Option Limit) (number mode : ℕ) (block : List ℕ) → Long (element_by d limit number mode block)
 unfolding element_by
-element_long (Defined RandomReadWrite) limit number mode block s t e = rw (← stored_is e) (length-put s (16 * number) 16 block)
-element_long (Defined RandomReadOnly) limit number mode block s t e = never e
-element_long (Defined CyclicReadWrite) limit number mode block s t e = here (eqb number 0) e
+element_long (Some RandomReadWrite) limit number mode block s t e = rw (← stored_is e) (length-put s (16 * number) 16 block)
+element_long (Some RandomReadOnly) limit number mode block s t e = never e
+element_long (Some CyclicReadWrite) limit number mode block s t e = here (eqb number 0) e
   where
     here : (b : Bool) → cond b (passed s) (failed CyclicBlock) ≡ passed t → length t ≡ length s
     here true h = rw (stored_is h)
     here false h = never h
-element_long (Defined CyclicReadOnly) limit number mode block s t e = never e
-element_long (Defined PurseDirect) limit number mode block s t e = within-long (16 * number) 16 _ s t e
-element_long (Defined PurseCashback) limit number mode block s t e = within-long (16 * number) 16 _ s t e
-element_long (Defined PurseDecrement) limit number mode block s t e = within-long (16 * number) 16 _ s t e
-element_long (Defined PurseReadOnly) limit number mode block s t e = never e
-element_long Undefined limit number mode block s t e = never e
+element_long (Some CyclicReadOnly) limit number mode block s t e = never e
+element_long (Some PurseDirect) limit number mode block s t e = within-long (16 * number) 16 _ s t e
+element_long (Some PurseCashback) limit number mode block s t e = within-long (16 * number) 16 _ s t e
+element_long (Some PurseDecrement) limit number mode block s t e = within-long (16 * number) 16 _ s t e
+element_long (Some PurseReadOnly) limit number mode block s t e = never e
+element_long None limit number mode block s t e = never e
 
 -- and each run's end
-pub end-long : (d : Decoded) (run : List ℕ) → Long (end_by d run)
+pub end-long : (d : Option ServiceAttribute) (run : List ℕ) → Long (end_by d run)
 unfolding end_by
-end-long (Defined RandomReadWrite) run s t e = rw (stored_is e)
-end-long (Defined RandomReadOnly) run s t e = rw (stored_is e)
-end-long (Defined CyclicReadWrite) run s t e = (ring_holds s run t e).0
-end-long (Defined CyclicReadOnly) run s t e = rw (stored_is e)
-end-long (Defined PurseDirect) run s t e = rw (stored_is e)
-end-long (Defined PurseCashback) run s t e = rw (stored_is e)
-end-long (Defined PurseDecrement) run s t e = rw (stored_is e)
-end-long (Defined PurseReadOnly) run s t e = rw (stored_is e)
-end-long Undefined run s t e = rw (stored_is e)
+end-long (Some RandomReadWrite) run s t e = rw (stored_is e)
+end-long (Some RandomReadOnly) run s t e = rw (stored_is e)
+end-long (Some CyclicReadWrite) run s t e = (ring_holds s run t e).0
+end-long (Some CyclicReadOnly) run s t e = rw (stored_is e)
+end-long (Some PurseDirect) run s t e = rw (stored_is e)
+end-long (Some PurseCashback) run s t e = rw (stored_is e)
+end-long (Some PurseDecrement) run s t e = rw (stored_is e)
+end-long (Some PurseReadOnly) run s t e = rw (stored_is e)
+end-long None run s t e = rw (stored_is e)

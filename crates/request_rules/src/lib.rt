@@ -1,17 +1,17 @@
 // What an element, and the end of a run, do to one store; and to that store where it lies in the stage.
 #![tactic(auto)]
 
-ghost use Rattle.std.specs.Prelude.{◌≡◌, ◌+◌, ◌*◌, ◌≤◌, length};
+ghost use Rattle.std.specs.Prelude.{◌≡◌, ◌+◌, ◌*◌, ◌≤◌, length, Some};
 ghost use Rattle.byte_parts.specs.Sizes.{block_size};
 ghost use Rattle.answers.specs.Outcome.{written_of, bytes_after};
 ghost use Rattle.request_rules.specs.Rules.{purse_in, cashback_in, cyclic_element, element_by, end_by, on_store};
 
-use answers::status::{Fault, Written};
+use answers::status::Fault;
 use byte_parts::sizes::BLOCK_SIZE;
 use request_check::table::Row;
 use rule_purse::bytes;
 use rule_purse::fields::PurseOperation;
-use service_code::code::{Decoded, ServiceAttribute};
+use service_code::code::ServiceAttribute;
 use service_code::limit::Limit;
 
 // Applies a purse operation to block `number` of a purse store, with the element's sixteen bytes.
@@ -19,9 +19,9 @@ fn purse_in(
     store: &mut [u8],
     block: &[u8],
     operation: PurseOperation,
-    limit: Limit,
+    limit: Option<Limit>,
     number: u16,
-) -> Written
+) -> Result<(), Fault>
     requires { (block_size * number + block_size ≤ length store.old) × (16 ≤ length block.now) }
     ensures value { result ≡ written_of (purse_in operation limit number block.now store.old) }
     ensures store_after { store.new ≡ bytes_after store.old (purse_in operation limit number block.now store.old) }
@@ -42,13 +42,13 @@ fn cashback_in(mode: u8) -> PurseOperation
 }
 
 // Tells how an element of a cyclic store ends: it must name block 0.
-fn cyclic_element(number: u16) -> Written
+fn cyclic_element(number: u16) -> Result<(), Fault>
     ensures { result ≡ cyclic_element number }
 {
     if number == 0 {
-        Written::Done
+        Ok(())
     } else {
-        Written::Failed(Fault::CyclicBlock)
+        Err(Fault::CyclicBlock)
     }
 }
 
@@ -58,22 +58,20 @@ fn element_by(
     store: &mut [u8],
     block: &[u8],
     attribute: ServiceAttribute,
-    limit: Limit,
+    limit: Option<Limit>,
     number: u16,
     mode: u8,
-) -> Written
+) -> Result<(), Fault>
     requires { (block_size * number + block_size ≤ length store.old) × (16 ≤ length block.now) }
-    ensures value { result ≡ written_of (element_by (Decoded.Defined attribute) limit number mode block.now store.old) }
-    ensures store_after { store.new ≡ bytes_after store.old (element_by (Decoded.Defined attribute) limit number mode block.now store.old) }
+    ensures value { result ≡ written_of (element_by (Some attribute) limit number mode block.now store.old) }
+    ensures store_after { store.new ≡ bytes_after store.old (element_by (Some attribute) limit number mode block.now store.old) }
 {
     match attribute {
         ServiceAttribute::RandomReadWrite => {
             byte_block::copy_block(store, BLOCK_SIZE * (number as usize), block, 0);
-            Written::Done
+            Ok(())
         }
-        ServiceAttribute::RandomReadOnly => Written::Failed(Fault::ReadOnly),
         ServiceAttribute::CyclicReadWrite => cyclic_element(number),
-        ServiceAttribute::CyclicReadOnly => Written::Failed(Fault::ReadOnly),
         ServiceAttribute::PurseDirect => {
             purse_in(store, block, PurseOperation::Direct, limit, number)
         }
@@ -83,7 +81,9 @@ fn element_by(
         ServiceAttribute::PurseDecrement => {
             purse_in(store, block, PurseOperation::Decrement, limit, number)
         }
-        ServiceAttribute::PurseReadOnly => Written::Failed(Fault::ReadOnly),
+        ServiceAttribute::RandomReadOnly
+        | ServiceAttribute::CyclicReadOnly
+        | ServiceAttribute::PurseReadOnly => Err(Fault::ReadOnly),
     }
 }
 
@@ -95,51 +95,55 @@ fn place_of(row: Row) -> usize
 }
 
 // Carries out one element where its row's store lies in the stage.
-pub fn element_on(stage: &mut [u8], block: &[u8], row: Row, number: u16, mode: u8) -> Written
+pub fn element_on(
+    stage: &mut [u8],
+    block: &[u8],
+    row: Row,
+    number: u16,
+    mode: u8,
+) -> Result<(), Fault>
     requires { (block_size * row.start + block_size * row.blocks ≤ length stage.old) × (block_size * number + block_size ≤ block_size * row.blocks) × (16 ≤ length block.now) }
     ensures value { result ≡ written_of (on_store row (element_by row.attribute row.limit number mode block.now) stage.old) }
     ensures stage_after { stage.new ≡ bytes_after stage.old (on_store row (element_by row.attribute row.limit number mode block.now) stage.old) }
 {
     let at = place_of(row);
     let end = at + BLOCK_SIZE * (row.blocks as usize);
-    let decoded = row.attribute;
-    let limit = row.limit;
-    match decoded {
-        Decoded::Defined(attribute) => {
-            element_by(&mut stage[at..end], block, attribute, limit, number, mode)
+    match row.attribute {
+        Some(attribute) => {
+            element_by(
+                &mut stage[at..end],
+                block,
+                attribute,
+                row.limit,
+                number,
+                mode,
+            )
         }
-        Decoded::Undefined => Written::Failed(Fault::Attribute),
+        None => Err(Fault::Attribute),
     }
 }
 
 // Ends a run on its store, `run` being the bytes of all its elements: a cyclic store takes them in.
-fn end_by(store: &mut [u8], run: &[u8], attribute: ServiceAttribute) -> Written
-    ensures value { result ≡ written_of (end_by (Decoded.Defined attribute) run.now store.old) }
-    ensures store_after { store.new ≡ bytes_after store.old (end_by (Decoded.Defined attribute) run.now store.old) }
+fn end_by(store: &mut [u8], run: &[u8], attribute: ServiceAttribute) -> Result<(), Fault>
+    ensures value { result ≡ written_of (end_by (Some attribute) run.now store.old) }
+    ensures store_after { store.new ≡ bytes_after store.old (end_by (Some attribute) run.now store.old) }
 {
     match attribute {
         ServiceAttribute::CyclicReadWrite => rule_cyclic::apply_cyclic_write(store, run),
-        ServiceAttribute::RandomReadWrite => Written::Done,
-        ServiceAttribute::RandomReadOnly => Written::Done,
-        ServiceAttribute::CyclicReadOnly => Written::Done,
-        ServiceAttribute::PurseDirect => Written::Done,
-        ServiceAttribute::PurseCashback => Written::Done,
-        ServiceAttribute::PurseDecrement => Written::Done,
-        ServiceAttribute::PurseReadOnly => Written::Done,
+        _ => Ok(()),
     }
 }
 
 // Ends a run where its row's store lies in the stage.
-pub fn end_on(stage: &mut [u8], run: &[u8], row: Row) -> Written
+pub fn end_on(stage: &mut [u8], run: &[u8], row: Row) -> Result<(), Fault>
     requires { block_size * row.start + block_size * row.blocks ≤ length stage.old }
     ensures value { result ≡ written_of (on_store row (end_by row.attribute run.now) stage.old) }
     ensures stage_after { stage.new ≡ bytes_after stage.old (on_store row (end_by row.attribute run.now) stage.old) }
 {
     let at = place_of(row);
     let end = at + BLOCK_SIZE * (row.blocks as usize);
-    let decoded = row.attribute;
-    match decoded {
-        Decoded::Defined(attribute) => end_by(&mut stage[at..end], run, attribute),
-        Decoded::Undefined => Written::Done,
+    match row.attribute {
+        Some(attribute) => end_by(&mut stage[at..end], run, attribute),
+        None => Ok(()),
     }
 }

@@ -1,4 +1,5 @@
 -- The loop that copies the blocks: what is left to put after i elements.
+use Rattle.std.proofs.Common.{Option, None}
 use mathlib.Core.Path.{◌≡◌, refl, sym, ◌∙◌, subst}
 use mathlib.Core.List.{List, [], ◌∷◌, ◌++◌}
 use Prim.Native.Nat.{ℕ, suc, ◌+◌, ◌-◌, ◌*◌, ◌≤◌, ◌<◌}
@@ -8,7 +9,6 @@ use lib.ListN.{length, drop}
 use lib.Seq.{take-length}
 use Rattle.block_list.specs.declared.element.BlockListElement.{BlockListElement}
 use Rattle.block_list.specs.declared.element.Unpacked.{Unpacked}
-use Rattle.block_list.specs.declared.element.Unpacked.TheVariants.{Element, Short}
 use Rattle.block_list.specs.Element.{unpack_at, elements_from}
 use Rattle.block_list.proofs.ListsLaws.{elements_short, elements_element}
 use Rattle.byte_parts.specs.Part.{part, put}
@@ -17,6 +17,7 @@ use Rattle.request_check.specs.declared.table.Row.{Row}
 use Rattle.request_check.specs.Row.{row_in}
 use Rattle.request_runs.specs.Ready.{Ready, AllReady}
 use Rattle.request_plan.specs.Serve.{store_in, blocks_read}
+use Rattle.block_list.specs.Unpacked.{unpacked_as}
 
 -- bytes put from a place on
 abbrev pub filled : List ℕ → ℕ → List ℕ → List ℕ
@@ -46,14 +47,14 @@ module _ {rows : List Row} {arena list : List ℕ} {count : ℕ} {old out : List
   unfolding blocks_read elements_from
   over h = let z : count - i ≡ 0 = omega arith in sym (k.same ∙ rw z (put_zero out (16 * i) []))
 
-  module _ {u : Unpacked} (told : u ≡ unpack_at list at) (h : i < count) where
+  module _ {u : Option Unpacked} (told : u ≡ unpack_at list at) (h : i < count) where
     -- too few bytes are left for one
-    pub cut : u ≡ Short → out ≡ filled old 0 (blocks_read rows arena (elements_from list count 0))
+    pub cut : u ≡ None → out ≡ filled old 0 (blocks_read rows arena (elements_from list count 0))
     unfolding blocks_read
     cut short =
         let e = elements_short list at (count - i) (omega arith) (sym told ∙ short) in sym (k.same ∙ rw e (put_zero out (16 * i) []))
 
-    module _ {e : BlockListElement} {next : ℕ} (here : u ≡ Element e next) where
+    module _ {e : BlockListElement} {next : ℕ} (here : u ≡ unpacked_as e next) where
       -- it is the first of those left
       head : elements_from list (count - i) at ≡ e ∷ elements_from list (count - (i + 1)) next
       head = let n : count - i ≡ suc (count - (i + 1)) = omega arith in elements_element list at n (sym told ∙ here)
@@ -66,7 +67,7 @@ module _ {rows : List Row} {arena list : List ℕ} {count : ℕ} {old out : List
       pub ready_here : Ready rows (length arena) e
       ready_here = each.0
 
-    module _ {e : BlockListElement} {next : ℕ} (here : u ≡ Element e next) {w : Row} (r : w ≡ row_in rows e) where
+    module _ {e : BlockListElement} {next : ℕ} (here : u ≡ unpacked_as e next) {w : Row} (r : w ≡ row_in rows e) where
       -- its block lies in the arena
       within : 16 * w.start + 16 * e.number + 16 ≤ length arena
       within = let f = ready_here here in rw r (omega arith)

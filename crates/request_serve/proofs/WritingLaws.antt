@@ -1,4 +1,5 @@
 -- What a whole write comes to: the stores are staged, the runs work on them, the arena takes them over, the staging is zeroed.
+use Rattle.std.proofs.Common.{Result, Ok, Err}
 use mathlib.Core.Path.{◌≡◌, refl, sym, ap, ◌∙◌}
 use mathlib.Core.Bool.{true, not}
 use mathlib.Core.List.{List, ◌++◌}
@@ -20,12 +21,8 @@ use Rattle.card_build.specs.declared.card.Card.{Card}
 use Rattle.card_build.specs.Card.{nodes_of, is_sound}
 use Rattle.request_check.specs.declared.table.Row.{Row}
 use Rattle.request_check.specs.declared.table.Table.{Table}
-use Rattle.request_check.specs.declared.check.Checked.{Checked}
-use Rattle.request_check.specs.declared.check.Checked.TheVariants.{Passed as AllPassed, Failed as FailedAt}
 use Rattle.request_check.specs.Row.{row_table}
 use Rattle.request_check.specs.Check.{checked_from}
-use Rattle.request_runs.specs.declared.run.Applied.{Applied}
-use Rattle.request_runs.specs.declared.run.Applied.TheVariants.{Done as AllDone, Failed as RunFailed}
 use Rattle.request_runs.specs.Runs.{Walked, bad, good}
 use Rattle.request_runs.specs.Staged.{staged}
 use Rattle.request_runs.specs.Ready.{AllReady, walked_to}
@@ -43,6 +40,8 @@ use Rattle.request_plan.proofs.Same.{Same, same_refl, same_sym_lem, same_trans_l
 use Rattle.request_plan.proofs.Frame.{Alike, Spared, staged_keeps, staged_spares}
 use Rattle.request_serve.specs.Stores.{AllIn, stores_put}
 use Rattle.request_serve.proofs.Stores.{Named, stores_spare, stores_front, stores_rest}
+use Rattle.answers.specs.Failure.{failed_at}
+use Rattle.answers.specs.declared.status.Failure.{Failure}
 
 -- the staging s, once the rows' stores of the arena a were copied over its old bytes g
 module _ (rows : List Row) (a g s : List ℕ) (size : ℕ) (fa : size ≤ length a) (fg : size ≤ length g) (n : AllIn rows size)
@@ -70,13 +69,13 @@ module _ (rows : List Row) (a g s : List ℕ) (size : ℕ) (fa : size ≤ length
     pub staged_in : AllIn rows (length (take 0 s ++ (t ++ drop (size - 0) (drop 0 s))))
     staged_in j = simp length-append (omega (arith, l, lent_long, n j))
 
-    module _ («data» : List ℕ) (es : List BlockListElement) {r : Applied} (h : staged rows «data» es (take (size - 0) (drop 0 s)) ≡ walked_to r t) where
+    module _ («data» : List ℕ) (es : List BlockListElement) {r : Result Unit Failure} (h : staged rows «data» es (take (size - 0) (drop 0 s)) ≡ walked_to r t) where
       -- on the arena's front the runs fail alike, or leave the stores alike
-      alike : {x : Applied} → r ≡ x → Alike (Named rows) (walked_to x t) (staged rows «data» es (take size a))
-      alike k = rw (h ∙ ap (λ (x : Applied). walked_to x t) k) at (staged_keeps (Named rows) rows «data» es (λ j i l. (j, l)) _ _ front)
+      alike : {x : Result Unit Failure} → r ≡ x → Alike (Named rows) (walked_to x t) (staged rows «data» es (take size a))
+      alike k = rw (h ∙ ap (λ (x : Result Unit Failure). walked_to x t) k) at (staged_keeps (Named rows) rows «data» es (λ j i l. (j, l)) _ _ front)
 
       -- a run that fails leaves the arena
-      pub run_failed : {i : ℕ} {x : Fault} → r ≡ RunFailed i x → let y = committed size a (staged rows «data» es (take size a)) in
+      pub run_failed : {i : ℕ} {x : Fault} → r ≡ failed_at i x → let y = committed size a (staged rows «data» es (take size a)) in
           (Failed i x ≡ y.reply) × (a ≡ y.arena)
       unfolding committed
       run_failed {i = i} {x = x} k = by_walked (staged rows «data» es (take size a)) (alike k)
@@ -86,7 +85,7 @@ module _ (rows : List Row) (a g s : List ℕ) (size : ℕ) (fa : size ≤ length
           by_walked (good u) m = absurd m
 
       -- all runs pass: the arena takes the staged stores over
-      pub runs_done : {new : List ℕ} → r ≡ AllDone → new ≡ stores_put a (take 0 s ++ (t ++ drop (size - 0) (drop 0 s))) rows →
+      pub runs_done : {new : List ℕ} → r ≡ Ok tt → new ≡ stores_put a (take 0 s ++ (t ++ drop (size - 0) (drop 0 s))) rows →
           let y = committed size a (staged rows «data» es (take size a)) in (Done ≡ y.reply) × (new ≡ y.arena)
       unfolding committed
       runs_done {new = new} k q =
@@ -118,13 +117,13 @@ module _ (c : Card) (a : List ℕ) (r : Request) (j : judged_of c (length a) r �
   pub stores_fit : r.write ≡ true → (16 * c.used ≤ length a) × (16 * c.used ≤ r.room)
   stores_fit w = let f = fit c a r j in (f.arena, f.staging w)
 
-  module _ {t : Table} (made : t ≡ row_table (nodes_of c) r.codes) {k : Checked}
+  module _ {t : Table} (made : t ≡ row_table (nodes_of c) r.codes) {k : Result Unit Failure}
       (e : k ≡ checked_from (take t.count t.rows) r.write r.«open» 0 (elements_in r)) where
     -- an element that fails
-    pub write-failed : {i : ℕ} {f : Fault} → k ≡ FailedAt i f → (Failed i f ≡ (serve c a r).reply) × (a ≡ (serve c a r).arena)
+    pub write-failed : {i : ℕ} {f : Fault} → k ≡ failed_at i f → (Failed i f ≡ (serve c a r).reply) × (a ≡ (serve c a r).arena)
     write-failed h = unchanged (failed c a r j (checked c a r j made e h))
 
-    module _ (w : r.write ≡ true) (p : k ≡ AllPassed) where
+    module _ (w : r.write ≡ true) (p : k ≡ Ok tt) where
       -- all pass: the stores are there, and each element names a block of one
       pub write_ready : length c.nodes ≡ 64 →
           (16 * c.used ≤ length a) × (16 * c.used ≤ r.room) × (16 * r.count ≤ length r.«data»)
@@ -161,11 +160,11 @@ committed_zeroes size a (bad i f) = λ n g. refl
 committed_zeroes size a (good s) = λ n g. refl
 
 -- and after the checks
-checked_zeroes : (c : Card) (a : List ℕ) (r : Request) (k : Checked) → r.write ≡ true →
+checked_zeroes : (c : Card) (a : List ℕ) (r : Request) (k : Result Unit Failure) → r.write ≡ true →
     Zeroes (plan_served c a r (checked_plan (elements_in r) k)).reply
 unfolding carried
-checked_zeroes c a r (FailedAt i f) w = λ n g. refl
-checked_zeroes c a r AllPassed w =
+checked_zeroes c a r (Err failure) w = λ n g. refl
+checked_zeroes c a r (Ok tt) w =
     rw w (committed_zeroes (16 * c.used) a (staged (rows_in c r) r.«data» (elements_in r) (take (16 * c.used) a)))
 
 -- a write that fits gets a status pair

@@ -8,11 +8,11 @@ ghost use Rattle.request_plan.specs.Serve.{blocks_read, serve, output_after};
 ghost use Rattle.request_serve.specs.Steps.{rows_held, front_filled};
 
 use crate::settle;
+use answers::status::Failure;
 use block_list::element;
 use block_list::element::{BlockListElement, Unpacked};
 use byte_parts::sizes::BLOCK_SIZE;
 use card_build::card::Card;
-use request_check::check::Checked;
 use request_check::table::{Row, Table};
 use request_plan::{Judged, Reply, Sizes};
 
@@ -29,16 +29,14 @@ fn copy_blocks(out: &mut [u8], arena: &[u8], table: Table, list: &[u8], count: u
     ensures { out.new ≡ front_filled out.old (blocks_read (rows_held table) arena.now (elements_from list.now count 0)) }
 {
     let mut at = 0;
-    let mut i = 0;
-    while i < count {
-        let Unpacked::Element { element: e, next } = element::unpack(list, at) else {
+    for i in 0..count {
+        let Some(Unpacked { element: e, next }) = element::unpack(list, at) else {
             break;
         };
         let own = table.rows[e.index as usize];
         let from = block_at(own, e);
         byte_block::copy_block(out, BLOCK_SIZE * i, arena, from);
         at = next;
-        i += 1;
     }
 }
 
@@ -65,17 +63,15 @@ pub fn read(
         room: out.len(),
     };
     let settled = settle::settle(sound, card, false, open, codes, list, sizes);
-    let judged = settled.judged;
-    match judged {
+    match settled.judged {
         Judged::Refused(refusal) => Reply::Refused(refusal),
         Judged::ShortData => Reply::ShortData,
         Judged::Fit => {
-            let checked = settled.checked;
+            let checked = settled.checked; // a pattern with fields, at a field, is not proved
             match checked {
-                Checked::Failed { index, fault } => Reply::Failed { index, fault },
-                Checked::Passed => {
-                    let table = settled.table;
-                    copy_blocks(out, arena, table, list, count as usize);
+                Err(Failure { index, fault }) => Reply::Failed { index, fault },
+                Ok(()) => {
+                    copy_blocks(out, arena, settled.table, list, count as usize);
                     Reply::Done
                 }
             }

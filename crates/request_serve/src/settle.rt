@@ -3,8 +3,9 @@ ghost use Rattle.std.specs.Prelude.{◌≡◌};
 ghost use Rattle.request_plan.specs.Plan.{judged_with};
 ghost use Rattle.request_serve.specs.Steps.{Looked};
 
+use answers::status::Failure;
 use card_build::card::Card;
-use request_check::check::Checked;
+use card_nodes::count;
 use request_check::table::Table;
 use request_check::{table, walk};
 use request_plan::{Judged, Sizes};
@@ -13,7 +14,7 @@ use request_plan::{Judged, Sizes};
 #[derive(Clone, Copy)]
 pub(crate) struct Settled {
     pub judged: Judged,
-    pub checked: Checked,
+    pub checked: Result<(), Failure>,
     pub table: Table,
 }
 
@@ -29,14 +30,13 @@ pub(crate) fn settle(
 ) -> Settled
     ensures { (result.judged ≡ judged_with sound write list.now sizes) × Looked card write «open» codes.now list.now sizes.count result }
 {
-    let nodes = card.nodes;
-    let table = table::table_of(nodes, card.count, codes);
+    let nodes = count::records(&card.nodes, card.count);
+    let table = table::table_of(nodes, codes);
     let walked = walk::check_all(table, write, open, list, sizes.count);
     let judged = request_plan::judge(sound, write, walked.ends, sizes);
-    let checked = walked.checked;
     Settled {
         judged,
-        checked,
+        checked: walked.checked,
         table,
     }
 }

@@ -14,26 +14,23 @@ ghost use Rattle.request_serve.specs.Steps.{rows_held, staging_left, SameFrom, W
 
 use crate::settle;
 use crate::settle::Settled;
+use answers::status::Failure;
 use byte_parts::sizes::BLOCK_SIZE;
 use byte_parts::spans;
 use card_build::card::Card;
-use request_check::check::Checked;
 use request_check::table::Table;
 use request_plan::{Judged, Reply, Sizes};
 use request_runs::run;
-use request_runs::run::Applied;
 
 // Copies the stores of the table's rows to where they stand in the other slice.
 fn copy_stores(to: &mut [u8], from: &[u8], table: Table)
     requires { (table.count ≤ 16) × AllIn (rows_held table) (length to.old) × AllIn (rows_held table) (length from.now) }
     ensures { to.new ≡ stores_put to.old from.now (rows_held table) }
 {
-    let mut i = 0;
-    while i < table.count {
+    for i in 0..table.count {
         let row = table.rows[i];
         let at = BLOCK_SIZE * (row.start as usize);
         spans::copy(to, at, from, at, BLOCK_SIZE * (row.blocks as usize));
-        i += 1;
     }
 }
 
@@ -53,8 +50,8 @@ fn carry_out(
 {
     copy_stores(staging, arena, table);
     match run::apply(&mut staging[0..size], table, list, count, data) {
-        Applied::Failed { index, fault } => Reply::Failed { index, fault },
-        Applied::Done => {
+        Err(Failure { index, fault }) => Reply::Failed { index, fault },
+        Ok(()) => {
             copy_stores(arena, staging, table);
             Reply::Done
         }
@@ -76,15 +73,14 @@ fn checked_write(
     requires { (judged_of card (length arena.old) (write_request «open» codes.now count list.now «data».now (length staging.old)) ≡ Fit) × Looked card true «open» codes.now list.now count settled }
     ensures { WriteLeaves (serve card arena.old (write_request «open» codes.now count list.now «data».now (length staging.old))) result arena.new (SameFrom (block_size * card.used) staging.new staging.old) }
 {
-    let checked = settled.checked;
-    let table = settled.table;
+    let checked = settled.checked; // a pattern with fields, at a field, is not proved
     match checked {
-        Checked::Failed { index, fault } => Reply::Failed { index, fault },
-        Checked::Passed => carry_out(
+        Err(Failure { index, fault }) => Reply::Failed { index, fault },
+        Ok(()) => carry_out(
             arena,
             staging,
             BLOCK_SIZE * card.used,
-            table,
+            settled.table,
             list,
             count,
             data,
@@ -139,8 +135,7 @@ pub fn write(
         room: staging.len(),
     };
     let settled = settle::settle(sound, card, true, open, codes, list, sizes);
-    let judged = settled.judged;
-    match judged {
+    match settled.judged {
         Judged::Refused(refusal) => Reply::Refused(refusal),
         Judged::ShortData => {
             spans::zero(staging, 0, BLOCK_SIZE * card.used); // as after every status pair

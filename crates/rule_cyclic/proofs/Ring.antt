@@ -1,18 +1,20 @@
 -- The cyclic rule: a turn of the shift, and the rule in each of its cases. Assumes nothing.
-use Prim.Native.Nat.{ℕ, suc, ◌+◌, ◌-◌, ◌≤◌, ◌<◌}
+use Prim.Native.Nat.{ℕ, zero, suc, ◌+◌, ◌-◌, ◌≤◌, ◌<◌}
 use native.Mathlib.Omega.{arith}
 use native.Mathlib.Numerals.{add-one}
 use native.Mathlib.Nat.{zero-add}
-use mathlib.Core.Path.{◌≡◌, sym, ap, ◌∙◌}
+use mathlib.Core.Path.{◌≡◌, refl, sym, ap, ◌∙◌}
 use mathlib.Core.Logic.{inl}
 use mathlib.Core.Bool.{true, false}
-use mathlib.Core.List.{List, ◌++◌}
+use mathlib.Core.List.{List, [], ◌∷◌, ◌++◌}
+use lib.Dec.{eqb, eqb-zero-suc, eqb-suc-zero, eqb-suc-suc}
 use lib.ListN.{length, get_or, set, take, drop, length-drop}
 use lib.Seq.{drop-cons, take_all, take-length}
 use borrow.Author.Tests.{lt-ltb, le-ltb}
 use Rattle.answers.specs.declared.status.Fault.TheVariants.{CyclicTooLong}
 use Rattle.byte_parts.specs.Part.{part, put, same_bytes}
-use Rattle.byte_parts.proofs.Part.{put_cons, put-split, length-put, part-put, get_d_put_apart}
+use Rattle.std.specs.Cmp.Lexicographic.{pointwise}
+use Rattle.byte_parts.proofs.Part.{pointwise_same, put_cons, put-split, length-put, part-put, get_d_put_apart}
 use Rattle.answers.specs.Outcome.{passed, failed}
 use Rattle.rule_cyclic.specs.Cyclic.{cyclic_of}
 
@@ -64,3 +66,22 @@ module _ (s r : List ℕ) where
         let k : length (drop n t) ≤ m = rw (length-drop n t, l) (omega arith) in
         let f : drop n t ≡ take m s = sym (take_all m (drop n t) k) ∙ rw et (part-put s n m s (omega arith) (omega arith)) in
         rw (eu, put-split t 0 n r (omega arith) (omega arith), zero-add n, f, take-length r)
+
+-- A test of two numbers, the other way round.
+eqb_turned : (x y : ℕ) → eqb x y ≡ eqb y x
+eqb_turned zero zero = refl
+eqb_turned zero (suc y) = eqb-zero-suc y ∙ sym (eqb-suc-zero y)
+eqb_turned (suc x) zero = eqb-suc-zero x ∙ sym (eqb-zero-suc x)
+eqb_turned (suc x) (suc y) = eqb-suc-suc x y ∙ eqb_turned x y ∙ sym (eqb-suc-suc y x)
+
+-- A test of two lists, the other way round.
+same_turned : (s t : List ℕ) → same_bytes s t ≡ same_bytes t s
+unfolding same_bytes
+same_turned [] [] = refl
+same_turned [] (y ∷ t) = refl
+same_turned (x ∷ s) [] = refl
+same_turned (x ∷ s) (y ∷ t) = rw (eqb_turned x y, same_turned s t)
+
+-- What `starts_with` says of a store and a run.
+pub starts_same : (s r : List ℕ) → pointwise eqb r (take (length r) s) ≡ same_bytes (take (length r) s) r
+starts_same s r = pointwise_same r (take (length r) s) ∙ same_turned r (take (length r) s)

@@ -7,32 +7,32 @@ ghost use Rattle.byte_parts.specs.Part.{put, same_bytes};
 ghost use Rattle.answers.specs.Outcome.{written_of, bytes_after};
 ghost use Rattle.rule_cyclic.specs.Cyclic.{cyclic_of};
 
-use answers::status::{Fault, Written};
+use answers::status::Fault;
 use byte_parts::spans;
 
 // Writes a run of blocks to a cyclic store. A run longer than the store fails (AF); one that the store begins with already changes
 // nothing; else the run comes first and the store's first blocks follow, as many as still fit.
-pub fn apply_cyclic_write(store: &mut [u8], run: &[u8]) -> Written
+pub fn apply_cyclic_write(store: &mut [u8], run: &[u8]) -> Result<(), Fault>
     ensures value { result ≡ written_of (cyclic_of store.old run.now) }
     ensures store_after { store.new ≡ bytes_after store.old (cyclic_of store.old run.now) }
 {
     if store.len() < run.len() {
-        return Written::Failed(Fault::CyclicTooLong);
+        return Err(Fault::CyclicTooLong);
     }
     if begins(store, run) {
-        return Written::Done;
+        return Ok(());
     }
     push(store, run);
-    Written::Done
+    Ok(())
 }
 
 // Tells whether a store begins with a run.
+#[tactic(auto, using(crate::proofs::Ring::starts_same))]
 fn begins(store: &[u8], run: &[u8]) -> bool
     requires { length run.now ≤ length store.now }
     ensures { result ≡ same_bytes (take (length run.now) store.now) run.now }
 {
-    let n = run.len();
-    spans::same(&store[0..n], &run[0..n])
+    store.starts_with(run)
 }
 
 // Puts a run ahead of what a store has; as many of its last bytes are lost.
@@ -50,9 +50,7 @@ fn shift(store: &mut [u8], n: usize)
     requires { n ≤ length store.old }
     ensures { store.new ≡ put store.old n (length store.old - n) store.old }
 {
-    let mut i = store.len();
-    while n < i {
-        i -= 1;
+    for i in (n..store.len()).rev() {
         store[i] = store[i - n];
     }
 }

@@ -1,4 +1,5 @@
 -- A purse write that passed passes again on the block that it left, and changes nothing of it. Assumes nothing.
+use Rattle.std.proofs.Common.{Option, Result, Ok, Err}
 use Prim.Native.Nat.{ℕ, suc, ◌+◌, ◌-◌, ◌≤◌, ◌<◌}
 use native.Mathlib.Omega.{arith}
 use native.Mathlib.Decide.{dec_lt}
@@ -21,7 +22,7 @@ use Rattle.rule_purse.specs.declared.fields.PurseOperation.{PurseOperation}
 use Rattle.rule_purse.specs.declared.fields.PurseOperation.TheVariants.{Direct, Decrement, Cashback}
 use Rattle.rule_purse.specs.declared.fields.PurseData.{PurseData}
 use Rattle.rule_purse.specs.declared.fields.PurseWrite.{PurseWrite}
-use Rattle.rule_purse.specs.declared.fields.PurseWrite.TheVariants.{Unchanged, Whole, Stored, Failed}
+use Rattle.rule_purse.specs.declared.fields.PurseWrite.TheVariants.{Unchanged, Whole, Stored}
 use Rattle.rule_purse.specs.Purse.{value_of, inside_of, outside_of, purse_rule}
 use Rattle.rule_purse.specs.Bytes.{purse_data_of, block_of, purse_applied}
 
@@ -57,20 +58,20 @@ sum_below m (negsuc p) (negsuc c) (pos k) h e = sub_below m k (suc c) (omega (ar
 sum_below m (negsuc p) (negsuc c) (negsuc k) h e = refl
 
 -- a failure stores nothing
-no_write : {A : Type 0} {f : Fault} {w : PurseWrite} → Failed f ≡ w → (w ≡ Whole) → A
+no_write : {A : Type 0} {f : Fault} {w : Result PurseWrite Fault} → Err f ≡ w → (w ≡ Ok Whole) → A
 no_write e k = absurd (let z : ◌≡◌ {A = ℕ} 0 1 = cc in (omega arith))
 
 -- a test that would have failed did not
-must_not : (f : Fault) (t : Bool) (more : PurseWrite) → cond t (Failed f) more ≡ Whole → (t ≡ false) × (more ≡ Whole)
+must_not : (f : Fault) (t : Bool) (more : Result PurseWrite Fault) → cond t (Err f) more ≡ Ok Whole → (t ≡ false) × (more ≡ Ok Whole)
 must_not f true more e = no_write refl e
 must_not f false more e = (refl, e)
 
-must : (f : Fault) (t : Bool) → cond t Whole (Failed f) ≡ Whole → t ≡ true
+must : (f : Fault) (t : Bool) → cond t (Ok Whole) (Err f) ≡ Ok Whole → t ≡ true
 must f true e = refl
 must f false e = no_write refl e
 
 -- a direct write that passed, on what it stored: nothing is raised, and the sum is no larger than it was
-pub direct_again : (limit : Limit) (s c : PurseData) → purse_rule Direct limit s c ≡ Whole → purse_rule Direct limit c c ≡ Whole
+pub direct_again : (limit : Option Limit) (s c : PurseData) → purse_rule Direct limit s c ≡ Ok Whole → purse_rule Direct limit c c ≡ Ok Whole
 unfolding purse_rule
 direct_again limit s c e =
     let a = must_not PurseRaised (lt_z (value_of limit s.purse) (value_of limit c.purse)) _ e in
@@ -85,11 +86,11 @@ direct_again limit s c e =
     )
 
 -- so no direct write stores fields
-unstored : {p k : ℕ} (f : Fault) (t : Bool) (more : PurseWrite) → (more ≡ Stored p k → ⊥) → cond t (Failed f) more ≡ Stored p k → ⊥
+unstored : {p k : ℕ} (f : Fault) (t : Bool) (more : Result PurseWrite Fault) → (more ≡ Ok (Stored p k) → ⊥) → cond t (Err f) more ≡ Ok (Stored p k) → ⊥
 unstored f true more h e = absurd (let z : ◌≡◌ {A = ℕ} 0 1 = cc in (omega arith))
 unstored f false more h e = h e
 
-direct_whole : (limit : Limit) (s c : PurseData) {p k : ℕ} → purse_rule Direct limit s c ≡ Stored p k → ⊥
+direct_whole : (limit : Option Limit) (s c : PurseData) {p k : ℕ} → purse_rule Direct limit s c ≡ Ok (Stored p k) → ⊥
 unfolding purse_rule
 direct_whole limit s c {p} {k} e =
     unstored PurseRaised (lt_z (value_of limit s.purse) (value_of limit c.purse)) _
@@ -97,7 +98,7 @@ direct_whole limit s c {p} {k} e =
     (unstored SumTooLarge (lt_z (pos 4294967295) (value_of limit s.purse +ℤ value_of limit c.cashback)) _
     (last (inside_of limit (value_of limit c.purse))))) e
   where
-    last : (t : Bool) → cond t Whole (Failed (outside_of limit)) ≡ Stored p k → ⊥
+    last : (t : Bool) → cond t (Ok Whole) (Err (outside_of limit)) ≡ Ok (Stored p k) → ⊥
     last true h = absurd (let z : ◌≡◌ {A = ℕ} 0 1 = cc in (omega arith))
     last false h = absurd (let z : ◌≡◌ {A = ℕ} 0 1 = cc in (omega arith))
 
@@ -125,7 +126,7 @@ stored_id s c p k ls lc =
     let l : length u ≡ 16 = length-put (put s 0 4 (word_bytes p)) 4 4 (word_bytes k) ∙ length-put s 0 4 (word_bytes p) ∙ ls in
     part-put u 12 4 (drop 12 c) (omega arith) (simp length-drop (omega arith))
 
-module _ (limit : Limit) (c : List ℕ) where
+module _ (limit : Option Limit) (c : List ℕ) where
   -- equal execution ids leave the block
   decrement_again : (t : List ℕ) → part t 12 4 ≡ part c 12 4 → purse_applied Decrement limit t c ≡ passed t
   unfolding purse_applied purse_rule block_of
@@ -137,30 +138,30 @@ module _ (limit : Limit) (c : List ℕ) where
 
   module _ (s t : List ℕ) (ls : length s ≡ 16) (lc : length c ≡ 16) where
     -- the whole block was stored
-    whole_again : (o : PurseOperation) → purse_rule o limit (purse_data_of s) (purse_data_of c) ≡ Whole → t ≡ c → purse_applied o limit t c ≡ passed t
+    whole_again : (o : PurseOperation) → purse_rule o limit (purse_data_of s) (purse_data_of c) ≡ Ok Whole → t ≡ c → purse_applied o limit t c ≡ passed t
     unfolding purse_applied block_of
     whole_again Direct h e = rw (e, direct_again limit (purse_data_of s) (purse_data_of c) h) (ap passed (whole_is c c lc lc))
     whole_again Decrement h e = decrement_again t (ap (λ (l : List ℕ). part l 12 4) e)
     whole_again Cashback h e = cashback-again t (ap (λ (l : List ℕ). part l 12 4) e)
 
     -- fields were
-    fields_again : (o : PurseOperation) {p k : ℕ} → purse_rule o limit (purse_data_of s) (purse_data_of c) ≡ Stored p k → part t 12 4 ≡ part c 12 4 →
+    fields_again : (o : PurseOperation) {p k : ℕ} → purse_rule o limit (purse_data_of s) (purse_data_of c) ≡ Ok (Stored p k) → part t 12 4 ≡ part c 12 4 →
         purse_applied o limit t c ≡ passed t
     fields_again Direct h e = absurd (direct_whole limit (purse_data_of s) (purse_data_of c) h)
     fields_again Decrement h e = decrement_again t e
     fields_again Cashback h e = cashback-again t e
 
-    by_write : (o : PurseOperation) (w : PurseWrite) → purse_rule o limit (purse_data_of s) (purse_data_of c) ≡ w → block_of s c w ≡ passed t →
+    by_write : (o : PurseOperation) (w : Result PurseWrite Fault) → purse_rule o limit (purse_data_of s) (purse_data_of c) ≡ w → block_of s c w ≡ passed t →
         purse_applied o limit t c ≡ passed t
     unfolding block_of purse_applied
-    by_write o Unchanged h e = let q : s ≡ t = cc in rw (← q, h)
-    by_write o Whole h e =
+    by_write o (Ok Unchanged) h e = let q : s ≡ t = cc in rw (← q, h)
+    by_write o (Ok Whole) h e =
         let q : put s 0 16 c ≡ t = cc in
         whole_again o h (sym q ∙ whole_is s c ls lc)
-    by_write o (Stored p k) h e =
+    by_write o (Ok (Stored p k)) h e =
         let q : put (put (put s 0 4 (word_bytes p)) 4 4 (word_bytes k)) 12 4 (drop 12 c) ≡ t = cc in
         fields_again o h (ap (λ (l : List ℕ). part l 12 4) (sym q) ∙ stored_id s c p k ls lc)
-    by_write o (Failed f) h e = absurd (let z : ◌≡◌ {A = ℕ} 0 1 = cc in (omega arith))
+    by_write o (Err f) h e = absurd (let z : ◌≡◌ {A = ℕ} 0 1 = cc in (omega arith))
 
     -- a purse write that passed, on the block that it left: it passes, and leaves that block
     pub purse_again : (o : PurseOperation) → purse_applied o limit s c ≡ passed t → purse_applied o limit t c ≡ passed t
@@ -172,11 +173,11 @@ module _ (limit : Limit) (c : List ℕ) where
     unfolding purse_applied block_of
     purse_long o e = by_block (purse_rule o limit (purse_data_of s) (purse_data_of c)) e
       where
-        by_block : (w : PurseWrite) → block_of s c w ≡ passed t → length t ≡ 16
-        by_block Unchanged h = let q : s ≡ t = cc in rw (← q) ls
-        by_block Whole h = let q : put s 0 16 c ≡ t = cc in rw (← q) (length-put s 0 16 c ∙ ls)
-        by_block (Stored p k) h =
+        by_block : (w : Result PurseWrite Fault) → block_of s c w ≡ passed t → length t ≡ 16
+        by_block (Ok Unchanged) h = let q : s ≡ t = cc in rw (← q) ls
+        by_block (Ok Whole) h = let q : put s 0 16 c ≡ t = cc in rw (← q) (length-put s 0 16 c ∙ ls)
+        by_block (Ok (Stored p k)) h =
             let q : put (put (put s 0 4 (word_bytes p)) 4 4 (word_bytes k)) 12 4 (drop 12 c) ≡ t = cc in
             rw (← q) (length-put (put (put s 0 4 (word_bytes p)) 4 4 (word_bytes k)) 12 4 (drop 12 c)
             ∙ length-put (put s 0 4 (word_bytes p)) 4 4 (word_bytes k) ∙ length-put s 0 4 (word_bytes p) ∙ ls)
-        by_block (Failed f) h = absurd (let z : ◌≡◌ {A = ℕ} 0 1 = cc in (omega arith))
+        by_block (Err f) h = absurd (let z : ◌≡◌ {A = ℕ} 0 1 = cc in (omega arith))

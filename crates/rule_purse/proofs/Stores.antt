@@ -1,4 +1,5 @@
 -- The block that is stored, field by field. Assumes nothing.
+use Rattle.std.proofs.Common.{Ok}
 use Prim.Native.Nat.{ℕ}
 use mathlib.Core.Path.{◌≡◌}
 use mathlib.Core.List.{List}
@@ -12,6 +13,6 @@ use Rattle.rule_purse.specs.Bytes.{block_of}
 -- A block after three stores: the purse, the cashback, the execution id.
 pub stored-block
     : (s c : List ℕ) (p k : ℕ) (t u v : List ℕ) → t ≡ put s 0 4 (word_bytes p) → u ≡ put t 4 4 (word_bytes k)
-    → v ≡ put u 12 4 (drop 12 c) → block_of s c (Stored p k) ≡ passed v
+    → v ≡ put u 12 4 (drop 12 c) → block_of s c (Ok (Stored p k)) ≡ passed v
 unfolding block_of
 stored-block s c p k t u v et eu ev = rw (ev, eu, et)

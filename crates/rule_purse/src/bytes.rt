@@ -6,7 +6,7 @@ ghost use Rattle.answers.specs.Outcome.{written_of, bytes_after};
 ghost use Rattle.rule_purse.specs.Bytes.{purse_data_of, purse_applied};
 
 use crate::fields::{PurseData, PurseOperation, PurseWrite, purse_write};
-use answers::status::Written;
+use answers::status::Fault;
 use byte_parts::sizes::BLOCK_SIZE;
 use byte_parts::{spans, word};
 use service_code::limit::Limit;
@@ -44,26 +44,25 @@ pub fn apply_purse_write(
     block: &mut [u8],
     command: &[u8],
     operation: PurseOperation,
-    limit: Limit,
-) -> Written
+    limit: Option<Limit>,
+) -> Result<(), Fault>
     requires { (block_size ≤ length block.old) × (block_size ≤ length command.now) }
     ensures value { result ≡ written_of (purse_applied operation limit block.old command.now) }
     ensures block_after { block.new ≡ bytes_after block.old (purse_applied operation limit block.old command.now) }
 {
     let stored = purse_data(block);
     let asked = purse_data(command);
-    match purse_write(operation, limit, stored, asked) {
-        PurseWrite::Unchanged => Written::Done,
+    match purse_write(operation, limit, stored, asked)? {
+        PurseWrite::Unchanged => Ok(()),
         PurseWrite::Whole => {
             spans::copy(block, 0, command, 0, BLOCK_SIZE);
-            Written::Done
+            Ok(())
         }
         PurseWrite::Stored { purse, cashback } => {
             word::put_word(block, 0, purse);
             word::put_word(block, 4, cashback);
             put_id(block, command);
-            Written::Done
+            Ok(())
         }
-        PurseWrite::Failed(fault) => Written::Failed(fault),
     }
 }

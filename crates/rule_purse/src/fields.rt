@@ -1,7 +1,7 @@
 // The purse rule on a block's fields (`blocks.rs` of the Rust): a stored value is lowered, raised by what was taken last, or written
 // outright. Fields have a sign where the service has a limit, so few functions meet signed numbers; the rest go by bits and answers.
-ghost use Rattle.std.specs.Prelude.{◌≡◌, true, false, ◌<◌, ◌^◌, pos, ◌+ℤ◌, ◌-ℤ◌};
-ghost use Rattle.std.specs.Int.Signed.{mag, lt_z};
+ghost use Rattle.std.specs.Prelude.{◌≡◌, ◌&&◌, true, false, ◌<◌, ◌^◌, pos, ◌+ℤ◌, ◌-ℤ◌};
+ghost use Rattle.std.specs.Int.Signed.{mag, lt_z, le_z};
 ghost use Rattle.rule_purse.specs.Purse.{value_of, inside_of, outside_of, sum_of, stored_of, purse_rule};
 
 use answers::status::Fault;
@@ -25,76 +25,53 @@ pub struct PurseData {
     pub id: u32,
 }
 
-// What becomes of a block: it stays, it is replaced whole, two of its fields are replaced; or the write fails.
+// What becomes of a block: it stays, it is replaced whole, or two of its fields are replaced.
 #[derive(Clone, Copy)]
 pub enum PurseWrite {
     Unchanged,
     Whole,
     Stored { purse: u32, cashback: u32 },
-    Failed(Fault),
-}
-
-// A sum or a difference: its 32 bits if it is in range, else that it is outside.
-#[derive(Clone, Copy)]
-enum Sum {
-    Inside(u32),
-    Outside,
 }
 
 // Gives what the bits `raw` of a field stand for: with a sign if the service has a limit, else without.
-fn value(limit: Limit, raw: u32) -> i64
+fn value(limit: Option<Limit>, raw: u32) -> i64
     ensures { (result ≡ value_of limit raw) × (mag result < 2 ^ 32) }
 {
     match limit {
-        Limit::Unlimited => raw as i64,
-        Limit::Limited {
-            upper: _,
-            lower: _,
-            generation: _,
-        } => word::signed(raw),
+        None => raw as i64,
+        Some(_) => word::signed(raw),
     }
 }
 
+// Tells whether v lies within a limit, ends included.
+fn between(limit: Limit, v: i64) -> bool
+    ensures { (result ≡ (le_z limit.lower v && le_z v limit.upper)) × (result ≡ true → mag v < 2 ^ 32) }
+{
+    limit.lower as i64 <= v && v <= limit.upper as i64
+}
+
 // Tells whether a purse may hold v: lower to upper, or 0 to the most that four bytes hold, ends included.
-fn inside(limit: Limit, v: i64) -> bool
+fn inside(limit: Option<Limit>, v: i64) -> bool
     ensures { (result ≡ inside_of limit v) × (result ≡ true → mag v < 2 ^ 32) }
 {
     match limit {
-        Limit::Unlimited => {
-            if v < 0 {
-                return false;
-            }
-            v <= 0xffff_ffff
-        }
-        Limit::Limited {
-            upper,
-            lower,
-            generation: _,
-        } => {
-            if v < lower as i64 {
-                return false;
-            }
-            v <= upper as i64
-        }
+        None => 0 <= v && v <= 0xffff_ffff,
+        Some(limit) => between(limit, v),
     }
 }
 
 // Gives the fault of a value outside the range: 03 with a limit, 01 without.
-fn outside(limit: Limit) -> Fault
+fn outside(limit: Option<Limit>) -> Fault
     ensures { result ≡ outside_of limit }
 {
     match limit {
-        Limit::Unlimited => Fault::OutsideWord,
-        Limit::Limited {
-            upper: _,
-            lower: _,
-            generation: _,
-        } => Fault::OutsideLimits,
+        None => Fault::OutsideWord,
+        Some(_) => Fault::OutsideLimits,
     }
 }
 
 // Tells whether field a is below field b.
-fn below(limit: Limit, a: u32, b: u32) -> bool
+fn below(limit: Option<Limit>, a: u32, b: u32) -> bool
     ensures { result ≡ lt_z (value_of limit a) (value_of limit b) }
 {
     let x = value(limit, a);
@@ -103,7 +80,7 @@ fn below(limit: Limit, a: u32, b: u32) -> bool
 }
 
 // Tells whether fields a and b add up to more than four bytes hold, limit or not.
-fn over(limit: Limit, a: u32, b: u32) -> bool
+fn over(limit: Option<Limit>, a: u32, b: u32) -> bool
     ensures { result ≡ lt_z (pos 4294967295) (value_of limit a +ℤ value_of limit b) }
 {
     let x = value(limit, a);
@@ -112,18 +89,18 @@ fn over(limit: Limit, a: u32, b: u32) -> bool
 }
 
 // Gives v as its 32 bits, if a purse may hold it.
-fn ranged(limit: Limit, v: i64) -> Sum
+fn ranged(limit: Option<Limit>, v: i64) -> Option<u32>
     ensures { result ≡ sum_of limit v }
 {
     if inside(limit, v) {
-        Sum::Inside(word::unsigned(v))
+        Some(word::unsigned(v))
     } else {
-        Sum::Outside
+        None
     }
 }
 
 // Adds field b to field a.
-fn more(limit: Limit, a: u32, b: u32) -> Sum
+fn more(limit: Option<Limit>, a: u32, b: u32) -> Option<u32>
     ensures { result ≡ sum_of limit (value_of limit a +ℤ value_of limit b) }
 {
     let x = value(limit, a);
@@ -132,7 +109,7 @@ fn more(limit: Limit, a: u32, b: u32) -> Sum
 }
 
 // Takes field b from field a.
-fn less(limit: Limit, a: u32, b: u32) -> Sum
+fn less(limit: Option<Limit>, a: u32, b: u32) -> Option<u32>
     ensures { result ≡ sum_of limit (value_of limit a -ℤ value_of limit b) }
 {
     let x = value(limit, a);
@@ -141,53 +118,57 @@ fn less(limit: Limit, a: u32, b: u32) -> Sum
 }
 
 // Tells whether a purse may hold field a.
-fn fits(limit: Limit, a: u32) -> bool
+fn fits(limit: Option<Limit>, a: u32) -> bool
     ensures { result ≡ inside_of limit (value_of limit a) }
 {
     inside(limit, value(limit, a))
 }
 
 // Stores a sum in range as the new purse, with a new cashback; a sum that is outside fails.
-fn stored_of(limit: Limit, cashback: u32, sum: Sum) -> PurseWrite
+fn stored_of(limit: Option<Limit>, cashback: u32, sum: Option<u32>) -> Result<PurseWrite, Fault>
     ensures { result ≡ stored_of limit cashback sum }
 {
     match sum {
-        Sum::Inside(purse) => PurseWrite::Stored { purse, cashback },
-        Sum::Outside => PurseWrite::Failed(outside(limit)),
+        Some(purse) => Ok(PurseWrite::Stored { purse, cashback }),
+        None => Err(outside(limit)),
     }
 }
 
 // Writes outright: the whole block is replaced, but neither purse nor cashback may rise, nor may what could be given back exceed four
 // bytes. The new purse has to be in range, which is tested last.
-fn direct(limit: Limit, stored: PurseData, command: PurseData) -> PurseWrite
+fn direct(limit: Option<Limit>, stored: PurseData, command: PurseData) -> Result<PurseWrite, Fault>
     ensures { result ≡ purse_rule PurseOperation.Direct limit stored command }
 {
     if below(limit, stored.purse, command.purse) {
-        return PurseWrite::Failed(Fault::PurseRaised);
+        return Err(Fault::PurseRaised);
     }
     not_raised(limit, stored, command)
 }
 
 // The same for a purse that does not rise: what is left to test.
-fn not_raised(limit: Limit, stored: PurseData, command: PurseData) -> PurseWrite
+fn not_raised(
+    limit: Option<Limit>,
+    stored: PurseData,
+    command: PurseData,
+) -> Result<PurseWrite, Fault>
     requires { lt_z (value_of limit stored.purse) (value_of limit command.purse) ≡ false }
     ensures { result ≡ purse_rule PurseOperation.Direct limit stored command }
 {
     if below(limit, stored.cashback, command.cashback) {
-        return PurseWrite::Failed(Fault::CashbackRaised);
+        return Err(Fault::CashbackRaised);
     }
     if over(limit, stored.purse, command.cashback) {
-        return PurseWrite::Failed(Fault::SumTooLarge);
+        return Err(Fault::SumTooLarge);
     }
     if fits(limit, command.purse) {
-        PurseWrite::Whole
+        Ok(PurseWrite::Whole)
     } else {
-        PurseWrite::Failed(outside(limit))
+        Err(outside(limit))
     }
 }
 
 // Takes an amount from a purse: it becomes the cashback.
-fn lowered(limit: Limit, stored: PurseData, amount: u32) -> PurseWrite
+fn lowered(limit: Option<Limit>, stored: PurseData, amount: u32) -> Result<PurseWrite, Fault>
     ensures { result ≡ stored_of limit amount (sum_of limit (value_of limit stored.purse -ℤ value_of limit amount)) }
 {
     stored_of(limit, amount, less(limit, stored.purse, amount))
@@ -195,17 +176,21 @@ fn lowered(limit: Limit, stored: PurseData, amount: u32) -> PurseWrite
 
 // Decrements: the amount leaves the purse and becomes the cashback. A command that was carried out already, as its execution id says,
 // changes nothing, ahead of any test of the amount: so a terminal may send it again.
-fn decrement(limit: Limit, stored: PurseData, command: PurseData) -> PurseWrite
+fn decrement(
+    limit: Option<Limit>,
+    stored: PurseData,
+    command: PurseData,
+) -> Result<PurseWrite, Fault>
     ensures { result ≡ purse_rule PurseOperation.Decrement limit stored command }
 {
     if command.id == stored.id {
-        return PurseWrite::Unchanged;
+        return Ok(PurseWrite::Unchanged);
     }
     lowered(limit, stored, command.purse)
 }
 
 // Returns an amount to a purse: nothing is held any more.
-fn returned(limit: Limit, held: PurseData, amount: u32) -> PurseWrite
+fn returned(limit: Option<Limit>, held: PurseData, amount: u32) -> Result<PurseWrite, Fault>
     ensures { result ≡ stored_of limit 0 (sum_of limit (value_of limit held.purse +ℤ value_of limit amount)) }
 {
     stored_of(limit, 0, more(limit, held.purse, amount))
@@ -213,14 +198,14 @@ fn returned(limit: Limit, held: PurseData, amount: u32) -> PurseWrite
 
 // Gives back: an amount up to the cashback that is held returns to the purse, and nothing is held any more. A command that was carried
 // out already changes nothing, as with a decrement.
-fn cashback(limit: Limit, held: PurseData, command: PurseData) -> PurseWrite
+fn cashback(limit: Option<Limit>, held: PurseData, command: PurseData) -> Result<PurseWrite, Fault>
     ensures { result ≡ purse_rule PurseOperation.Cashback limit held command }
 {
     if command.id == held.id {
-        return PurseWrite::Unchanged;
+        return Ok(PurseWrite::Unchanged);
     }
     if below(limit, held.cashback, command.purse) {
-        return PurseWrite::Failed(Fault::CashbackExceeds);
+        return Err(Fault::CashbackExceeds);
     }
     returned(limit, held, command.purse)
 }
@@ -228,10 +213,10 @@ fn cashback(limit: Limit, held: PurseData, command: PurseData) -> PurseWrite
 // Decides what a write makes of a purse block, from the fields of the block and of the command.
 pub fn purse_write(
     operation: PurseOperation,
-    limit: Limit,
+    limit: Option<Limit>,
     stored: PurseData,
     command: PurseData,
-) -> PurseWrite
+) -> Result<PurseWrite, Fault>
     ensures { result ≡ purse_rule operation limit stored command }
 {
     match operation {

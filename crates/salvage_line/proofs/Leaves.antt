@@ -1,4 +1,5 @@
 -- A refused line leaves the card and the arena as they were. Assumes nothing.
+use Rattle.std.proofs.Common.{Option, Result, Ok, Err, Some, None}
 use Prim.Native.Nat.{ℕ, ◌-◌, ◌*◌}
 use native.Mathlib.Omega.{arith}
 use mathlib.Core.Path.{◌≡◌, refl, sym, ap}
@@ -7,8 +8,6 @@ use mathlib.Core.List.{List, []}
 use lib.Dec.{ltb, leb}
 use lib.IntN.{ℤ}
 use lib.ListN.{length, replicate, get_or}
-use Rattle.answers.specs.declared.refusal.Answer.{Answer}
-use Rattle.answers.specs.declared.refusal.Answer.TheVariants.{Done, Refused}
 use Rattle.answers.specs.declared.refusal.Refusal.{Refusal}
 use Rattle.answers.specs.declared.refusal.Refusal.TheVariants.{NotBuilt, ShortArena, TableFull}
 use Rattle.byte_parts.specs.Part.{put}
@@ -18,9 +17,7 @@ use Rattle.card_nodes.specs.declared.node.Node.{Node}
 use Rattle.card_nodes.specs.declared.node.Entry.{Entry}
 use Rattle.card_nodes.specs.declared.node.Entry.TheVariants as entries
 use Rattle.service_code.specs.declared.limit.Limit.{Limit}
-use Rattle.service_code.specs.declared.limit.Limit.TheVariants.{Limited}
 use Rattle.card_admit.specs.declared.Placed.{Placed}
-use Rattle.card_admit.specs.declared.Placed.TheVariants.{Store, Refused as NotPlaced}
 use Rattle.card_admit.specs.Admit.{area_judged, placed_of, agreed}
 use Rattle.card_build.specs.declared.card.Card.{Card}
 use Rattle.card_build.specs.declared.card.Added.{Added}
@@ -29,21 +26,22 @@ use Rattle.card_build.specs.Grow.{node_as, area_by, add_area, service_by, add_se
 use Rattle.card_build.specs.Build.{area_added, service_added, arena_added, limit_added}
 use Rattle.request_block.specs.Block.{block_judged, set_by, arena_set}
 use Rattle.line_image.specs.declared.line.Line.{Line}
-use Rattle.line_image.specs.declared.line.Line.TheVariants.{Malformed, Card as New, Area, Service, Limit as Bounds, Block}
+use Rattle.line_image.specs.declared.line.Line.TheVariants.{Card as New, Area, Service, Limit as Bounds, Block}
 use Rattle.line_image.specs.Line.{image_line}
 use Rattle.line_build.specs.Image.{Imaged, line_carried, image_step}
 use Rattle.salvage_rule.specs.Salvage.{fate_by, built_by}
 use Rattle.salvage_line.specs.Image.{Image, imaged, ruling_by, line_ruled, fate_on}
+use Rattle.service_code.specs.Limit.{limited_to}
 
 -- an addition that leaves the card where it refuses
 abbrev Leaves : Card → Added → Type 0
-Leaves c a = (r : Refusal) → a.answer ≡ Refused r → a.card ≡ c
+Leaves c a = (r : Refusal) → a.answer ≡ Err r → a.card ≡ c
 
-is_done : Answer → Bool
-is_done Done = true
-is_done (Refused r) = false
+is_done : Result Unit Refusal → Bool
+is_done (Ok tt) = true
+is_done (Err r) = false
 
-done_no : {r : Refusal} → Done ≡ Refused r → ⊥
+done_no : {r : Refusal} → ◌≡◌ {A = Result Unit Refusal} (Ok tt) (Err r) → ⊥
 unfolding is_done
 done_no e = false≢true (sym (ap is_done e))
 
@@ -57,15 +55,15 @@ leaves_refused c r s e = refl
 leaves_accepted : (c d : Card) → Leaves c (accepted d)
 leaves_accepted c d r e = absurd (done_no e)
 
-leaves_area : (c : Card) (n : Node) (a : Answer) → Leaves c (area_by c n a)
-leaves_area c n Done r e = absurd (done_no e)
-leaves_area c n (Refused s) r e = refl
+leaves_area : (c : Card) (n : Node) (a : Result Unit Refusal) → Leaves c (area_by c n a)
+leaves_area c n (Ok tt) r e = absurd (done_no e)
+leaves_area c n (Err s) r e = refl
 
-leaves_service : (c : Card) (depth code version : ℕ) (p : Placed) → Leaves c (service_by c depth code version p)
-leaves_service c depth code version (NotPlaced s) r e = refl
-leaves_service c depth code version (Store s b used) r e = absurd (done_no e)
+leaves_service : (c : Card) (depth code version : ℕ) (p : Result Placed Refusal) → Leaves c (service_by c depth code version p)
+leaves_service c depth code version (Err s) r e = refl
+leaves_service c depth code version (Ok placed) r e = absurd (done_no e)
 
-leaves_limit : (c : Card) (l : Limit) (n : Entry) → Leaves c (limit_by c l n)
+leaves_limit : (c : Card) (l : Option Limit) (n : Entry) → Leaves c (limit_by c l n)
 leaves_limit c l (entries.Area e) r q = refl
 leaves_limit c l (entries.Service s b old) r q = absurd (done_no q)
 
@@ -88,7 +86,7 @@ limit_leaves : (c : Card) (u l : ℤ) (g : ℕ) → Leaves c (limit_added c u l 
 unfolding limit_added set_limit
 limit_leaves c u l g =
     leaves_cond c (not (is_sound c)) (refused c NotBuilt) (set_limit c u l g) (leaves_refused c NotBuilt)
-    (leaves_limit c (Limited u l g) (last_node c).entry)
+    (leaves_limit c (limited_to u l g) (last_node c).entry)
 
 -- no block is newly in use, so no byte is zeroed
 put-none : (a : List ℕ) (at n : ℕ) (t : List ℕ) → n ≡ 0 → put a at n t ≡ a
@@ -101,24 +99,24 @@ arena_leaves c d a e =
     let z : 16 * (c.used - c.used) ≡ 0 = omega arith in
     rw e (put-none a (16 * c.used) (16 * (c.used - c.used)) (replicate (16 * (c.used - c.used)) 0) z)
 
-set_leaves : (c : Card) (a : List ℕ) (code number : ℕ) (block : List ℕ) (x : Answer) (r : Refusal) → x ≡ Refused r → set_by c a code number block x ≡ a
-set_leaves c a code number block Done r e = absurd (done_no e)
-set_leaves c a code number block (Refused s) r e = refl
+set_leaves : (c : Card) (a : List ℕ) (code number : ℕ) (block : List ℕ) (x : Result Unit Refusal) (r : Refusal) → x ≡ Err r → set_by c a code number block x ≡ a
+set_leaves c a code number block (Ok tt) r e = absurd (done_no e)
+set_leaves c a code number block (Err s) r e = refl
 
 -- a refused line leaves both
 abbrev pub LeavesBoth : Card → List ℕ → Imaged → Type 0
-LeavesBoth c a m = (r : Refusal) → m.added.answer ≡ Refused r → (m.added.card ≡ c) × (m.arena ≡ a)
+LeavesBoth c a m = (r : Refusal) → m.added.answer ≡ Err r → (m.added.card ≡ c) × (m.arena ≡ a)
 
-carried_leaves : (c : Card) (a : List ℕ) (fs : List (List ℕ)) (l : Line) → LeavesBoth c a (line_carried c a fs l)
+carried_leaves : (c : Card) (a : List ℕ) (fs : List (List ℕ)) (l : Option Line) → LeavesBoth c a (line_carried c a fs l)
 unfolding arena_set
-carried_leaves c a fs Malformed r e = (refl, refl)
-carried_leaves c a fs (New system) r e = absurd (done_no e)
-carried_leaves c a fs (Area depth code end version) r e = (area_leaves c depth code end version r e, refl)
-carried_leaves c a fs (Service depth code blocks version) r e =
+carried_leaves c a fs None r e = (refl, refl)
+carried_leaves c a fs (Some (New system)) r e = absurd (done_no e)
+carried_leaves c a fs (Some (Area depth code end version)) r e = (area_leaves c depth code end version r e, refl)
+carried_leaves c a fs (Some (Service depth code blocks version)) r e =
     let k = service_leaves c (length a) depth code blocks version r e in
     (k, arena_leaves c (service_added c (length a) depth code blocks version) a k)
-carried_leaves c a fs (Bounds upper lower generation) r e = (limit_leaves c upper lower generation r e, refl)
-carried_leaves c a fs (Block code number) r e =
+carried_leaves c a fs (Some (Bounds upper lower generation)) r e = (limit_leaves c upper lower generation r e, refl)
+carried_leaves c a fs (Some (Block code number)) r e =
     (refl, set_leaves c a code number (unhex (get_or fs 3 [])) (block_judged c (length a) code number) r e)
 
 -- A refused line leaves both.
@@ -128,10 +126,10 @@ refused_leaves first c a l = carried_leaves c a (split 9 l) (image_line first l)
 
 -- What is built after a line that the builder judged is what `image_step` leaves, accepted or refused.
 built_by_lem
-    : (c : Card) (a : List ℕ) (m : Imaged) (x : Answer) → m.added.answer ≡ x → LeavesBoth c a m
+    : (c : Card) (a : List ℕ) (m : Imaged) (x : Result Unit Refusal) → m.added.answer ≡ x → LeavesBoth c a m
     → built_by false (imaged c a) (ruling_by x (imaged m.added.card m.arena)) ≡ imaged m.added.card m.arena
-built_by_lem c a m Done e k = refl
-built_by_lem c a m (Refused r) e k = let q = k r e in rw (q.0, q.1)
+built_by_lem c a m (Ok tt) e k = refl
+built_by_lem c a m (Err r) e k = let q = k r e in rw (q.0, q.1)
 
 pub step_built
     : (c : Card) (a l : List ℕ)
@@ -139,9 +137,9 @@ pub step_built
 unfolding line_ruled
 step_built c a l = built_by_lem c a (image_step false c a l) (image_step false c a l).added.answer refl (refused_leaves false c a l)
 
-fate_by_lem : (x : Answer) (i : Image) → fate_by false (ruling_by x i) ≡ fate_on x
-fate_by_lem Done i = refl
-fate_by_lem (Refused r) i = refl
+fate_by_lem : (x : Result Unit Refusal) (i : Image) → fate_by false (ruling_by x i) ≡ fate_on x
+fate_by_lem (Ok tt) i = refl
+fate_by_lem (Err r) i = refl
 
 -- And its fate goes by the answer alone.
 pub step_fate

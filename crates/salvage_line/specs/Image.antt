@@ -1,8 +1,6 @@
 -- The builder of card images, as a salvage asks it: a card and an arena of 65,536 bytes.
-use Rattle.std.specs.Prelude.{ℕ, Bool, true, false, List, [], ◌∷◌, replicate}
+use Rattle.std.specs.Prelude.{ℕ, Bool, true, false, List, [], ◌∷◌, replicate, Result, Ok, Err, Option, Some, None}
 use Rattle.byte_parts.specs.Letters.{tab}
-use Rattle.answers.specs.declared.refusal.Answer.{Answer}
-use Rattle.answers.specs.declared.refusal.Answer.TheVariants.{Done, Refused}
 use Rattle.answers.specs.Refusal.{refusal_number}
 use Rattle.text_fields.specs.Field.{split}
 use Rattle.card_build.specs.declared.card.Card.{Card}
@@ -18,6 +16,7 @@ use Rattle.salvage_rule.specs.declared.Fate.{Fate}
 use Rattle.salvage_rule.specs.declared.Fate.TheVariants.{Kept, Number}
 use Rattle.salvage_rule.specs.declared.Rules.{Rules}
 use Rattle.salvage_rule.specs.Salvage.{Ruling, admits, denies, Builder, Between}
+use Rattle.answers.specs.declared.refusal.Refusal.{Refusal}
 
 -- what is built: a card, and the arena with its stored blocks
 pub record Image : Type 0 where
@@ -28,17 +27,17 @@ abbrev pub imaged : Card → List ℕ → Image
 imaged c a = record { card = c; arena = a }
 
 -- a line's answer, as a salvage takes it
-abbrev pub ruling_by : Answer → Image → Ruling Image
-ruling_by Done i = admits i
-ruling_by (Refused r) i = denies (refusal_number r)
+abbrev pub ruling_by : Result Unit Refusal → Image → Ruling Image
+ruling_by (Ok tt) i = admits i
+ruling_by (Err r) i = denies (refusal_number r)
 
 abbrev pub ruling_of : Imaged → Ruling Image
 ruling_of m = ruling_by m.added.answer (imaged m.added.card m.arena)
 
 -- what comes of a line that the builder judged
-abbrev pub fate_on : Answer → Fate
-fate_on Done = Kept
-fate_on (Refused r) = Number (refusal_number r)
+abbrev pub fate_on : Result Unit Refusal → Fate
+fate_on (Ok tt) = Kept
+fate_on (Err r) = Number (refusal_number r)
 
 -- ahead of line 1 there is no card yet; an empty one stands in its place, as in a replay
 abbrev pub no_image : Image
@@ -48,13 +47,13 @@ unfoldable pub line_ruled : Bool → Image → List ℕ → Ruling Image
 line_ruled first i l = ruling_of (image_step first i.card i.arena l)
 
 -- well-formed `area` and `svc` lines have a depth
-abbrev pub depth_by : Line → Depth
-depth_by lines.Malformed = Flat
-depth_by (lines.Card system) = Flat
-depth_by (lines.Area depth code end version) = Area depth
-depth_by (lines.Service depth code blocks version) = Service depth
-depth_by (lines.Limit upper lower generation) = Flat
-depth_by (lines.Block code number) = Flat
+abbrev pub depth_by : Option Line → Depth
+depth_by None = Flat
+depth_by (Some (lines.Card system)) = Flat
+depth_by (Some (lines.Area depth code end version)) = Area depth
+depth_by (Some (lines.Service depth code blocks version)) = Service depth
+depth_by (Some (lines.Limit upper lower generation)) = Flat
+depth_by (Some (lines.Block code number)) = Flat
 
 -- RULES 20.4
 unfoldable pub depth_of : List ℕ → Depth

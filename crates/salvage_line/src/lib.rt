@@ -5,27 +5,27 @@ ghost use Rattle.std.specs.Prelude.{◌≡◌};
 ghost use Rattle.salvage_rule.specs.Salvage.{fate_of, stepped};
 ghost use Rattle.salvage_line.specs.Image.{depth_by, depth_of, is_word, fate_on, image_builder, held_of};
 
-use answers::refusal::Answer;
+use answers::refusal::Refusal;
 use byte_parts::spans;
 use card_build::card::Card;
 use line_image::line::Line;
 use salvage_rule::{Depth, Fate, Rules};
 
 // The depth that a line says.
-fn depth_by(says: Line) -> Depth
+#[tactic(auto, unfolding(crate::specs::Image::depth_by))]
+fn depth_by(says: Option<Line>) -> Depth
     ensures { result ≡ depth_by says }
 {
     match says {
-        Line::Malformed => Depth::Flat,
-        Line::Card(_) => Depth::Flat,
-        Line::Area { depth, .. } => Depth::Area(depth),
-        Line::Service { depth, .. } => Depth::Service(depth),
-        Line::Limit { .. } => Depth::Flat,
-        Line::Block { .. } => Depth::Flat,
+        None => Depth::Flat,
+        Some(Line::Area { depth, .. }) => Depth::Area(depth),
+        Some(Line::Service { depth, .. }) => Depth::Service(depth),
+        Some(_) => Depth::Flat,
     }
 }
 
 // The depth of a line: well-formed `area` and `svc` lines alone have one.
+#[tactic(auto, unfolding(crate::specs::Image::depth_of))]
 fn depth_of(text: &[u8]) -> Depth
     ensures { result ≡ depth_of text.now }
 {
@@ -33,6 +33,7 @@ fn depth_of(text: &[u8]) -> Depth
 }
 
 // Whether a line's first field is this word, whatever follows it.
+#[tactic(auto, unfolding(crate::specs::Image::is_word, line_fields::specs::Fields::named))]
 fn is_named(text: &[u8], word: &[u8]) -> bool
     ensures { result ≡ is_word word.now text.now }
 {
@@ -40,12 +41,13 @@ fn is_named(text: &[u8], word: &[u8]) -> bool
 }
 
 // What comes of a line that the builder answered so.
-fn fate_on(answer: Answer) -> Fate
+#[tactic(auto, unfolding(crate::specs::Image::fate_on))]
+fn fate_on(answer: Result<(), Refusal>) -> Fate
     ensures { result ≡ fate_on answer }
 {
     match answer {
-        Answer::Done => Fate::Kept,
-        Answer::Refused(refusal) => Fate::Number(refusal.number()),
+        Ok(()) => Fate::Kept,
+        Err(refusal) => Fate::Number(refusal.number()),
     }
 }
 

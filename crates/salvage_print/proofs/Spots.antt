@@ -1,4 +1,5 @@
 -- Whether there is room for what is put, both ways. Assumes nothing.
+use Rattle.std.proofs.Common.{Option, Some, None}
 use Prim.Native.Nat.{ℕ, ◌+◌, ◌-◌, ◌≤◌, ◌<◌}
 use native.Mathlib.Omega.{arith}
 use native.Mathlib.Decide.{dec_lt}
@@ -13,40 +14,38 @@ use Rattle.byte_parts.proofs.Part.{part-put}
 use Rattle.text_stream.specs.Stream.{Written}
 use Rattle.salvage_rule.specs.declared.Fate.{Fate}
 use Rattle.salvage_rule.specs.declared.Fate.TheVariants.{Kept, Parent, Number}
-use Rattle.salvage_print.specs.declared.Spot.{Spot}
-use Rattle.salvage_print.specs.declared.Spot.TheVariants.{Full, At}
 use Rattle.salvage_print.specs.Print.{gain_of, gain_by, spot_by, spotted}
 
 -- there is none, or there is
-pub spot_full : (room at n : ℕ) → room < at + n → Full ≡ spot_by room at n
+pub spot_full : (room at n : ℕ) → room < at + n → None ≡ spot_by room at n
 unfolding spot_by
 spot_full room at n h = rw (lt-ltb room (at + n) h)
 
-pub spot-at : (room at n : ℕ) → at + n ≤ room → At (at + n) ≡ spot_by room at n
+pub spot-at : (room at n : ℕ) → at + n ≤ room → Some (at + n) ≡ spot_by room at n
 unfolding spot_by
 spot-at room at n h = rw (le-ltb room (at + n) h)
 
-is_full : Spot → Bool
-is_full Full = true
-is_full (At x) = false
+is_full : Option ℕ → Bool
+is_full None = true
+is_full (Some x) = false
 
-place : Spot → ℕ
-place Full = 0
-place (At x) = x
+place : Option ℕ → ℕ
+place None = 0
+place (Some x) = x
 
-at_no : (x : ℕ) → Full ≡ At x → ⊥
+at_no : (x : ℕ) → None ≡ Some x → ⊥
 unfolding is_full
 at_no x e = false≢true (sym (ap is_full e))
 
 -- What an answer says of the room.
-pub full_back : (room at n : ℕ) → Full ≡ spot_by room at n → room < at + n
+pub full_back : (room at n : ℕ) → None ≡ spot_by room at n → room < at + n
 full_back room at n e =
     elim (dec_lt room (at + n)) [
       | yes h ↦ h
       | no h ↦ absurd (at_no (at + n) (e ∙ sym (spot-at room at n (omega (arith, h)))))
     ]
 
-pub at_back : (room at n x : ℕ) → At x ≡ spot_by room at n → (x ≡ at + n) × (at + n ≤ room)
+pub at_back : (room at n x : ℕ) → Some x ≡ spot_by room at n → (x ≡ at + n) × (at + n ≤ room)
 unfolding place
 at_back room at n x e =
     elim (dec_lt room (at + n)) [
@@ -80,7 +79,7 @@ front_part d d' t k w h =
 
 -- what is put, as the code has it and as it is meant
 pub Put_as
-    : (r : Spot) (w : Bool) (d d' : List ℕ) (at : ℕ) (t g : List ℕ) → t ≡ g
+    : (r : Option ℕ) (w : Bool) (d d' : List ℕ) (at : ℕ) (t g : List ℕ) → t ≡ g
     → (r ≡ spot_by (length d) at (length t)) × (d' ≡ spotted r w d at t)
     → (r ≡ spot_by (length d) at (length g)) × (d' ≡ spotted r w d at g)
 Put_as r w d d' at t g e h =

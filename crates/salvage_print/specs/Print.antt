@@ -1,5 +1,5 @@
 -- A salvage's image and report as bytes, and what a line puts into them. Assumes nothing.
-use Rattle.std.specs.Prelude.{ℕ, ◌+◌, Bool, true, false, cond, List, [], ◌∷◌, ◌++◌, ltb, length}
+use Rattle.std.specs.Prelude.{ℕ, ◌+◌, Bool, true, false, cond, List, [], ◌∷◌, ◌++◌, ltb, length, Option, Some, None}
 use Rattle.byte_parts.specs.Letters.{lf, tab, a, d, e, n, p, r, t}
 use Rattle.byte_parts.specs.Part.{put}
 use Rattle.text_numbers.specs.Decimal.{dec_text}
@@ -8,8 +8,6 @@ use Rattle.text_pieces.specs.Piece.{Piece, text_of}
 use Rattle.salvage_rule.specs.declared.Fate.{Fate}
 use Rattle.salvage_rule.specs.declared.Fate.TheVariants.{Kept, Parent, Number}
 use Rattle.salvage_rule.specs.Salvage.{Builder, Between, Notice, added, lost, listed, chosen_by, fates_from}
-use Rattle.salvage_print.specs.declared.Spot.{Spot}
-use Rattle.salvage_print.specs.declared.Spot.TheVariants.{Full, At}
 
 -- why a line is gone: `parent`, or a number; a kept line is not told
 -- RULES 20.6
@@ -49,8 +47,8 @@ module _ {S : Type 0} (B : Builder S) where
   report_left n s ps = report_text (listed (n + 1) (fates_from B s ps))
 
 -- the place behind n bytes put at a place, if the room holds them
-unfoldable pub spot_by : ℕ → ℕ → ℕ → Spot
-spot_by room at n = cond (ltb room (at + n)) Full (At (at + n))
+unfoldable pub spot_by : ℕ → ℕ → ℕ → Option ℕ
+spot_by room at n = cond (ltb room (at + n)) None (Some (at + n))
 
 -- bytes put into a buffer, or only counted
 abbrev pub put_if : Bool → List ℕ → ℕ → List ℕ → List ℕ
@@ -58,6 +56,6 @@ put_if true d at t = put d at (length t) t
 put_if false d at t = d
 
 -- a buffer after that: where there is no room nothing is put
-abbrev pub spotted : Spot → Bool → List ℕ → ℕ → List ℕ → List ℕ
-spotted Full w d at t = d
-spotted (At last) w d at t = put_if w d at t
+abbrev pub spotted : Option ℕ → Bool → List ℕ → ℕ → List ℕ → List ℕ
+spotted None w d at t = d
+spotted (Some last) w d at t = put_if w d at t

@@ -8,13 +8,6 @@ ghost use Rattle.salvage_print.specs.Print.{said_of, gain_of, gain_by, spot_by, 
 use byte_parts::spans;
 use salvage_rule::Fate;
 
-// The place behind what was put, or that there is no room for it.
-#[derive(Clone, Copy)]
-pub enum Spot {
-    Full,
-    At(usize),
-}
-
 // Copies src to dst from `at` on, if it is to be written.
 fn copy_if(write: bool, dst: &mut [u8], at: usize, src: &[u8])
     requires { at + length src.now ≤ length dst.old }
@@ -22,23 +15,21 @@ fn copy_if(write: bool, dst: &mut [u8], at: usize, src: &[u8])
 {
     if write {
         spans::copy(dst, at, src, 0, src.len());
-        return;
     }
 }
 
 // Puts src into dst from `at` on, if it is to be written, and answers the place behind it; where there is no room it writes nothing.
-pub fn put(write: bool, dst: &mut [u8], at: usize, src: &[u8]) -> Spot
+#[tactic(auto, unfolding(crate::specs::Print::spot_by))]
+pub fn put(write: bool, dst: &mut [u8], at: usize, src: &[u8]) -> Option<usize>
     ensures value { result ≡ spot_by (length dst.old) at (length src.now) }
     ensures dst_after { dst.new ≡ spotted result write dst.old at src.now }
 {
-    if dst.len() < at {
-        return Spot::Full;
-    }
-    if dst.len() - at < src.len() {
-        return Spot::Full;
+    let room = dst.len().checked_sub(at)?;
+    if room < src.len() {
+        return None;
     }
     copy_if(write, dst, at, src);
-    Spot::At(at + src.len())
+    Some(at + src.len())
 }
 
 // How many of a line's bytes stand in the image.
@@ -47,13 +38,12 @@ fn gain(fate: Fate, n: usize) -> usize
 {
     match fate {
         Fate::Kept => n,
-        Fate::Parent => 0,
-        Fate::Number(_) => 0,
+        Fate::Parent | Fate::Number(_) => 0,
     }
 }
 
 // Puts a line, with what ended it, into the image if it is kept.
-pub fn keep(write: bool, fate: Fate, piece: &[u8], out: &mut [u8], at: usize) -> Spot
+pub fn keep(write: bool, fate: Fate, piece: &[u8], out: &mut [u8], at: usize) -> Option<usize>
     ensures value { result ≡ spot_by (length out.old) at (length (gain_of fate piece.now)) }
     ensures out_after { out.new ≡ spotted result write out.old at (gain_of fate piece.now) }
 {
@@ -88,7 +78,7 @@ fn tell_by(
     report: &mut [u8],
     at: usize,
     entry: &mut [u8],
-) -> Spot
+) -> Option<usize>
     requires { 48 ≤ length entry.old }
     ensures value { result ≡ spot_by (length report.old) at (length (said_of line fate)) }
     ensures report_after { report.new ≡ spotted result write report.old at (said_of line fate) }
@@ -98,7 +88,7 @@ fn tell_by(
 }
 
 // Puts what is said of a line that is gone into the report: its number, and why.
-pub fn tell(write: bool, line: u64, fate: Fate, report: &mut [u8], at: usize) -> Spot
+pub fn tell(write: bool, line: u64, fate: Fate, report: &mut [u8], at: usize) -> Option<usize>
     ensures value { result ≡ spot_by (length report.old) at (length (said_of line fate)) }
     ensures report_after { report.new ≡ spotted result write report.old at (said_of line fate) }
 {

@@ -1,5 +1,6 @@
 -- The two rules in positions (E7): before a line a stretch is open exactly where a refused area is followed by deeper lines alone, and limits
 -- are orphaned exactly where a dropped service has no kept line behind it. Assumes nothing.
+use Rattle.std.proofs.Common.{Option, Some, None}
 use Prim.Native.Nat.{ℕ, ◌<◌}
 use native.Mathlib.Omega.{arith}
 use native.Mathlib.Decide.{dec_lt}
@@ -12,8 +13,6 @@ use borrow.Author.Tests.{lt-ltb, le-ltb}
 use Rattle.text_pieces.specs.Piece.{Piece, line_of}
 use Rattle.salvage_rule.specs.declared.Depth.{Depth}
 use Rattle.salvage_rule.specs.declared.Depth.TheVariants.{Flat, Area, Service}
-use Rattle.salvage_rule.specs.declared.Stretch.{Stretch}
-use Rattle.salvage_rule.specs.declared.Stretch.TheVariants.{Free, Below}
 use Rattle.salvage_rule.specs.declared.Fate.{Fate}
 use Rattle.salvage_rule.specs.declared.Fate.TheVariants.{Kept, Parent, Number}
 use Rattle.salvage_rule.specs.Rule.{ended_by, begun_by, stretch_after, orphaned_after, deeper}
@@ -22,19 +21,19 @@ use Rattle.salvage_rule.specs.Position.{StaysIn, NoneKept, AllStayIn, Opened, Or
 use Rattle.salvage_rule.proofs.Report.{parent_taken}
 
 -- the depth of a stretch
-over : Stretch → ℕ
-over Free = 0
-over (Below d) = d
+over : Option ℕ → ℕ
+over None = 0
+over (Some d) = d
 
-is_open : Stretch → Bool
-is_open Free = false
-is_open (Below d) = true
+is_open : Option ℕ → Bool
+is_open None = false
+is_open (Some d) = true
 
-free_no : (d : ℕ) → Free ≡ Below d → ⊥
+free_no : (d : ℕ) → None ≡ Some d → ⊥
 unfolding is_open
 free_no d e = false≢true (ap is_open e)
 
-below_same : (a d : ℕ) → Below a ≡ Below d → a ≡ d
+below_same : (a d : ℕ) → Some a ≡ Some d → a ≡ d
 unfolding over
 below_same a d e = ap over e
 
@@ -52,37 +51,37 @@ unfolding is_kept
 number-dropped n e = false≢true (ap is_kept e)
 
 -- a line that is not deep enough to end a stretch leaves it, where a deeper one is taken
-stays : (d : ℕ) (x : Depth) (f : Fate) → StaysIn d x → (deeper (Below d) x ≡ true → f ≡ Parent) → stretch_after f (Below d) x ≡ Below d
+stays : (d : ℕ) (x : Depth) (f : Fate) → StaysIn d x → (deeper (Some d) x ≡ true → f ≡ Parent) → stretch_after f (Some d) x ≡ Some d
 stays d Flat Kept h k = refl
 stays d Flat Parent h k = refl
 stays d Flat (Number n) h k = refl
 stays d (Area own) f h k =
-    ap (λ (g : Fate). stretch_after g (Below d) (Area own)) (k (lt-ltb d own h)) ∙ rw (lt-ltb d own h)
+    ap (λ (g : Fate). stretch_after g (Some d) (Area own)) (k (lt-ltb d own h)) ∙ rw (lt-ltb d own h)
 stays d (Service own) f h k =
-    ap (λ (g : Fate). stretch_after g (Below d) (Service own)) (k (lt-ltb d own h)) ∙ rw (lt-ltb d own h)
+    ap (λ (g : Fate). stretch_after g (Some d) (Service own)) (k (lt-ltb d own h)) ∙ rw (lt-ltb d own h)
 
 -- a stretch that a line leaves open was open, and the line is not one that ends it
-cut_back_lem : (o own d : ℕ) → cond (ltb o own) (Below o) Free ≡ Below d → (Below o ≡ Below d) × (d < own)
+cut_back_lem : (o own d : ℕ) → cond (ltb o own) (Some o) None ≡ Some d → (Some o ≡ Some d) × (d < own)
 cut_back_lem o own d e =
     elim (dec_lt o own) [
       | yes h ↦
-          let q : Below o ≡ Below d = rw (lt-ltb o own h) at e in
+          let q : Some o ≡ Some d = rw (lt-ltb o own h) at e in
           let k = below_same o d q in
           (q, omega (arith, k, h))
       | no h ↦ absurd (free_no d (rw (le-ltb o own (omega arith)) at e))
     ]
 
-ended-back : (s : Stretch) (x : Depth) (d : ℕ) → ended_by s x ≡ Below d → (s ≡ Below d) × StaysIn d x
-ended-back Free x d e = absurd (free_no d e)
-ended-back (Below o) Flat d e = (e, tt)
-ended-back (Below o) (Area own) d e = cut_back_lem o own d e
-ended-back (Below o) (Service own) d e = cut_back_lem o own d e
+ended-back : (s : Option ℕ) (x : Depth) (d : ℕ) → ended_by s x ≡ Some d → (s ≡ Some d) × StaysIn d x
+ended-back None x d e = absurd (free_no d e)
+ended-back (Some o) Flat d e = (e, tt)
+ended-back (Some o) (Area own) d e = cut_back_lem o own d e
+ended-back (Some o) (Service own) d e = cut_back_lem o own d e
 
 -- or the line began it: an area of that depth that was refused
 abbrev Began : ℕ → Depth → Fate → Type 0
 Began d x f = (x ≡ Area d) × ((n : ℕ) × (f ≡ Number n))
 
-open_back : (f : Fate) (s : Stretch) (x : Depth) (d : ℕ) → stretch_after f s x ≡ Below d → ((s ≡ Below d) × StaysIn d x) ⊎ Began d x f
+open_back : (f : Fate) (s : Option ℕ) (x : Depth) (d : ℕ) → stretch_after f s x ≡ Some d → ((s ≡ Some d) × StaysIn d x) ⊎ Began d x f
 open_back Kept s x d e = inl (ended-back s x d e)
 open_back Parent s x d e = inl (ended-back s x d e)
 open_back (Number n) s Flat d e = inl (ended-back s Flat d e)
@@ -116,26 +115,26 @@ module _ {S : Type 0} (B : Builder S) where
   stepped_on s (p ∷ ps) qs = stepped_on (stepped B s (line_of p)) ps qs
 
   leaves_line
-      : (s : Between S) (l : List ℕ) (d : ℕ) → s.rules.stretch ≡ Below d → StaysIn d (B.depth l) → (stepped B s l).rules.stretch ≡ Below d
+      : (s : Between S) (l : List ℕ) (d : ℕ) → s.rules.stretch ≡ Some d → StaysIn d (B.depth l) → (stepped B s l).rules.stretch ≡ Some d
   unfolding stepped takes_line
   leaves_line s l d e h =
-      ap (λ (x : Stretch). stretch_after (fate_of B s l) x (B.depth l)) e
+      ap (λ (x : Option ℕ). stretch_after (fate_of B s l) x (B.depth l)) e
       ∙ stays d (B.depth l) (fate_of B s l) h (λ t. parent_taken B s l (rw (e, t)))
 
   leaves_lines
-      : (s : Between S) (ps : List Piece) (d : ℕ) → s.rules.stretch ≡ Below d → AllStayIn B d ps
-      → (stepped_all B s ps).rules.stretch ≡ Below d
+      : (s : Between S) (ps : List Piece) (d : ℕ) → s.rules.stretch ≡ Some d → AllStayIn B d ps
+      → (stepped_all B s ps).rules.stretch ≡ Some d
   unfolding stepped_all AllStayIn
   leaves_lines s [] d e h = e
   leaves_lines s (p ∷ ps) d e h = leaves_lines (stepped B s (line_of p)) ps d (leaves_line s (line_of p) d e h.0) h.1
 
   begins_line
-      : (s : Between S) (l : List ℕ) (d n : ℕ) → B.depth l ≡ Area d → fate_of B s l ≡ Number n → (stepped B s l).rules.stretch ≡ Below d
+      : (s : Between S) (l : List ℕ) (d n : ℕ) → B.depth l ≡ Area d → fate_of B s l ≡ Number n → (stepped B s l).rules.stretch ≡ Some d
   unfolding stepped
   begins_line s l d n e h =
       ap (λ (f : Fate). stretch_after f s.rules.stretch (B.depth l)) h ∙ ap (λ (x : Depth). begun_by s.rules.stretch x) e
 
-  opened_open : (s : Between S) (ps : List Piece) (d : ℕ) → Opened B s ps d → (stepped_all B s ps).rules.stretch ≡ Below d
+  opened_open : (s : Between S) (ps : List Piece) (d : ℕ) → Opened B s ps d → (stepped_all B s ps).rules.stretch ≡ Some d
   unfolding stepped_all
   opened_open s ps d o =
       let s' : Between S = stepped_all B s o.ahead in
@@ -159,8 +158,8 @@ module _ {S : Type 0} (B : Builder S) where
       }
 
   open_opened
-      : (s : Between S) (ps : List Piece) (d : ℕ) → (stepped_all B s ps).rules.stretch ≡ Below d
-      → ((s.rules.stretch ≡ Below d) × AllStayIn B d ps) ⊎ Opened B s ps d
+      : (s : Between S) (ps : List Piece) (d : ℕ) → (stepped_all B s ps).rules.stretch ≡ Some d
+      → ((s.rules.stretch ≡ Some d) × AllStayIn B d ps) ⊎ Opened B s ps d
   unfolding stepped_all AllStayIn stepped
   open_opened s [] d e = inl (e, tt)
   open_opened s (p ∷ ps) d e =
@@ -185,7 +184,7 @@ module _ {S : Type 0} (B : Builder S) where
 
   -- E7: a stretch below depth d is open behind these lines exactly where a well-formed `area` line of depth d among them was refused and
   -- deeper `area` and `svc` lines alone follow it;
-  pub stretch_open : (s : S) (ps : List Piece) (d : ℕ) → ((stepped_all B (fresh s) ps).rules.stretch ≡ Below d) ↔ Opened B (fresh s) ps d
+  pub stretch_open : (s : S) (ps : List Piece) (d : ℕ) → ((stepped_all B (fresh s) ps).rules.stretch ≡ Some d) ↔ Opened B (fresh s) ps d
   stretch_open s ps d =
       (λ e. ⊎_elim (λ k. absurd (free_no d k.0)) (λ o. o) (open_opened (fresh s) ps d e), λ o. opened_open (fresh s) ps d o)
 

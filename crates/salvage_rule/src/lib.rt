@@ -1,10 +1,11 @@
 // The two rules of a salvage that take lines along, whatever builds the card: a stretch below a dropped area, and limits behind a dropped service.
 #![tactic(auto)]
 
-ghost use Rattle.std.specs.Prelude.{◌≡◌, cond, ◌||◌, ltb};
+ghost use Rattle.std.specs.Prelude.{◌≡◌, ◌||◌};
 ghost use Rattle.salvage_rule.specs.Rule.{deeper, takes, ended_by, begun_by, rules_after};
 
 // The depth of a line: well-formed `area` and `svc` lines alone have one.
+// No Option<u32>: of an area and a service of one depth the area alone begins a stretch.
 #[derive(Clone, Copy)]
 pub enum Depth {
     Flat,
@@ -12,14 +13,8 @@ pub enum Depth {
     Service(u32),
 }
 
-// A stretch of lines below a dropped area of this depth, or none.
-#[derive(Clone, Copy)]
-pub enum Stretch {
-    Free,
-    Below(u32),
-}
-
 // What comes of a line: it is kept; a dropped line before it takes it along; or the builder refuses it with this number.
+// No Result: a line taken along and a refused one differ in what follows them, and in the report.
 #[derive(Clone, Copy)]
 pub enum Fate {
     Kept,
@@ -30,21 +25,20 @@ pub enum Fate {
 // What the two rules know between two lines.
 #[derive(Clone, Copy)]
 pub struct Rules {
-    pub stretch: Stretch,
+    pub stretch: Option<u32>,
     pub orphaned: bool,
 }
 
 // Whether a line lies deeper than the area that a stretch is below.
-pub fn is_deeper(stretch: Stretch, depth: Depth) -> bool
+pub fn is_deeper(stretch: Option<u32>, depth: Depth) -> bool
     ensures { result ≡ deeper stretch depth }
 {
-    match stretch {
-        Stretch::Free => false,
-        Stretch::Below(over) => match depth {
-            Depth::Flat => false,
-            Depth::Area(own) => over < own,
-            Depth::Service(own) => over < own,
-        },
+    let Some(over) = stretch else {
+        return false;
+    };
+    match depth {
+        Depth::Flat => false,
+        Depth::Area(own) | Depth::Service(own) => over < own,
     }
 }
 
@@ -52,48 +46,26 @@ pub fn is_deeper(stretch: Stretch, depth: Depth) -> bool
 pub fn is_taken(rules: Rules, depth: Depth, lim: bool) -> bool
     ensures { result ≡ takes rules depth lim }
 {
-    let stretch = rules.stretch;
-    if is_deeper(stretch, depth) {
-        return true;
-    }
-    if !rules.orphaned {
-        return false;
-    }
-    lim
+    is_deeper(rules.stretch, depth) || rules.orphaned && lim
 }
 
-// A stretch behind a line of a depth: one that is not deeper ends it.
-fn cut(stretch: Stretch, over: u32, own: u32) -> Stretch
-    ensures { result ≡ cond (ltb over own) stretch Stretch.Free }
-{
-    if over < own {
-        return stretch;
-    }
-    Stretch::Free
-}
-
-// A stretch behind a line.
-fn ended(stretch: Stretch, depth: Depth) -> Stretch
+// A stretch behind a line: one of a depth that is not deeper ends it.
+fn ended(stretch: Option<u32>, depth: Depth) -> Option<u32>
     ensures { result ≡ ended_by stretch depth }
 {
-    match stretch {
-        Stretch::Free => stretch,
-        Stretch::Below(over) => match depth {
-            Depth::Flat => stretch,
-            Depth::Area(own) => cut(stretch, over, own),
-            Depth::Service(own) => cut(stretch, over, own),
-        },
+    match depth {
+        Depth::Flat => stretch,
+        Depth::Area(own) | Depth::Service(own) => stretch.filter(|over| *over < own),
     }
 }
 
 // A stretch behind a line that the builder refused: an area begins one.
-fn begun(stretch: Stretch, depth: Depth) -> Stretch
+fn begun(stretch: Option<u32>, depth: Depth) -> Option<u32>
     ensures { result ≡ begun_by stretch depth }
 {
     match depth {
-        Depth::Flat => ended(stretch, depth),
-        Depth::Area(own) => Stretch::Below(own),
-        Depth::Service(_) => ended(stretch, depth),
+        Depth::Area(own) => Some(own),
+        Depth::Flat | Depth::Service(_) => ended(stretch, depth),
     }
 }
 
@@ -101,10 +73,7 @@ fn begun(stretch: Stretch, depth: Depth) -> Stretch
 fn orphans(orphaned: bool, svc: bool) -> bool
     ensures { result ≡ orphaned || svc }
 {
-    if orphaned {
-        return true;
-    }
-    svc
+    orphaned || svc
 }
 
 // What the rules know behind a line.

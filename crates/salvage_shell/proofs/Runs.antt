@@ -5,12 +5,15 @@ use native.Mathlib.Decide.{dec_lt}
 use mathlib.Core.Path.{◌≡◌, refl, sym, ap, subst, ◌∙◌}
 use mathlib.Core.Bool.{Bool, true, false, cond}
 use mathlib.Core.List.{List, []}
-use lib.Dec.{eqb, ltb}
+use lib.Dec.{ltb}
 use lib.ListN.{length, take, drop}
 use lib.Seq.{length-take-le}
-use borrow.Author.Tests.{eqb-true, eqb-false, lt-ltb, le-ltb}
+use borrow.Author.Tests.{lt-ltb, le-ltb}
 use Rattle.text_pull.specs.declared.Flow.{Flow}
-use Rattle.text_pull.specs.Pull.{is_line, is_end, closed_of, due_of, wrote_of, gave_up, Wrote, Flushed, Slurped}
+use Rattle.text_pull.specs.declared.Stage.{Stage}
+use Rattle.text_pull.specs.declared.Stage.TheVariants.{Reading, Ended, Unwritten, Done, Untaken, Full}
+use Rattle.text_pull.specs.Pull.{is_read, is_full, is_broken, stage_open, is_line, is_end, closed_of, due_of, wrote_of, gave_up, Wrote, Flushed, Slurped}
+use Rattle.text_pull.proofs.Stages.{never, besides, dec_true, untrue, ended_of, open_reading}
 use Rattle.text_pull.proofs.Writes.{write-start, write_done}
 use Rattle.salvage_shell.specs.Ran.{most_salvaged, salvage_prints, Salvages}
 
@@ -40,9 +43,14 @@ pub none-wrote : (f g : Flow) (words : List ℕ) → words ≡ [] → g ≡ clos
 none-wrote f g words e q = rw (e, q) (nothing_wrote f)
 
 -- the stage after a write that failed
-failed-stage : (error : Bool) (n : ℕ) → n ≡ cond error 3 5 → (3 ≤ n) × (n ≤ 5) × (n ≡ 4 → ⊥)
-failed-stage true n e = (omega (arith, e), omega (arith, e), λ z. omega (arith, e, z))
-failed-stage false n e = (omega (arith, e), omega (arith, e), λ z. omega (arith, e, z))
+failed-stage : (error : Bool) → is_broken (cond error Unwritten Untaken) ≡ true
+failed-stage true = refl
+failed-stage false = refl
+
+not-open : (s : Stage) → is_broken s ≡ true → stage_open s ≡ false
+not-open Reading e = never e refl
+not-open Ended e = never e refl
+not-open s e = refl
 
 -- A text that has ended: all that it prints is written, or a write has failed.
 module _ (t : List ℕ) (f g : Flow) (came : f.read ≡ length t) (none : f.written ≡ 0) (held : length t ≤ most_salvaged)
@@ -55,37 +63,35 @@ module _ (t : List ℕ) (f g : Flow) (came : f.read ≡ length t) (none : f.writ
   unfolding wrote_of
   wrote_count = ap (λ (x : Flow). x.written) w.flow
 
-  wrote-stage : g.stage ≡ cond (ltb w.taken (length (salvage_prints t))) (cond w.error 3 5) 4
+  wrote-stage : g.stage ≡ cond (ltb w.taken (length (salvage_prints t))) (cond w.error Unwritten Untaken) Done
   unfolding wrote_of
   wrote-stage = ap (λ (x : Flow). x.stage) w.flow
 
   all-written : length (salvage_prints t) ≤ w.taken → Salvages t g
   all-written h =
-      let s : g.stage ≡ 4 = rw (le-ltb w.taken (length (salvage_prints t)) h) at wrote-stage in
+      let s : g.stage ≡ Done = rw (le-ltb w.taken (length (salvage_prints t)) h) at wrote-stage in
       record {
         read = wrote-read ∙ came;
         done = λ e. (held, omega (arith, wrote_count, none, h, w.most));
-        unwritten = λ e. absurd (omega (arith, s, e));
-        untaken = λ e. absurd (omega (arith, s, e));
-        over = λ e. absurd (omega (arith, s, e));
-        unread = λ e. absurd (omega (arith, s, e));
-        turns = λ e. absurd (omega (arith, s, e));
-        stage = omega (arith, s);
+        unwritten = λ e. absurd (besides s (λ n. omega arith) e);
+        untaken = λ e. absurd (besides s (λ n. omega arith) e);
+        over = λ e. absurd (besides s (λ n. omega arith) e);
+        unread = λ e. absurd (besides s (λ n. omega arith) e);
+        turns = λ e. never e (ap stage_open s);
       }
 
   part-written : w.taken < length (salvage_prints t) → Salvages t g
   part-written h =
-      let s : g.stage ≡ cond w.error 3 5 = rw (lt-ltb w.taken (length (salvage_prints t)) h) at wrote-stage in
-      let k = failed-stage w.error g.stage s in
+      let s : g.stage ≡ cond w.error Unwritten Untaken = rw (lt-ltb w.taken (length (salvage_prints t)) h) at wrote-stage in
+      let k : is_broken g.stage ≡ true = ap is_broken s ∙ failed-stage w.error in
       record {
         read = wrote-read ∙ came;
-        done = λ e. absurd (k.2 e);
+        done = λ e. never k (ap is_broken e);
         unwritten = λ e. omega (arith, wrote_count, none, h);
         untaken = λ e. omega (arith, wrote_count, none, h);
-        over = λ e. absurd (omega (arith, k.1, e));
-        unread = λ e. absurd (omega (arith, k.0, e));
-        turns = λ e. absurd (omega (arith, k.0, e));
-        stage = omega (arith, k.1);
+        over = λ e. never k (ap is_broken e);
+        unread = λ e. never k (ap is_broken e);
+        turns = λ e. never e (not-open g.stage k);
       }
 
   pub ended-ran : Salvages t g
@@ -112,9 +118,9 @@ module _ {buffer : List ℕ} {f : Flow} (b : Holds buffer f) where
   -- What was read lies in it.
   pub filled_within : f.filled ≤ length buffer
   filled_within =
-      elim (dec_lt 2 f.stage) [
-        | yes h ↦ omega (arith, (x.full h).1)
-        | no h ↦ let w = x.within (omega (arith, h)) in omega (arith, w)
+      elim (dec_true (is_read f.stage)) [
+        | yes h ↦ let w = x.within h in omega (arith, w)
+        | no h ↦ omega (arith, (x.full (untrue (is_read f.stage) h)).1)
       ]
 
   read-long : length (take f.read buffer) ≡ f.read
@@ -123,61 +129,58 @@ module _ {buffer : List ℕ} {f : Flow} (b : Holds buffer f) where
   -- A text that has ended is shorter.
   pub ended_held : is_end f ≡ true → (f.filled ≤ most_salvaged) × (is_line f ≡ false)
   ended_held e =
-      let s = eqb-true f.stage 1 e in
-      let h = x.within (omega (arith, s)) in
-      (omega (arith, h, b.room), ap (λ n. eqb n 1) x.whole)
+      let h = x.within (ap is_read (ended_of f.stage e)) in
+      (omega (arith, h, b.room), x.whole)
+
+  full-unread : is_full f.stage ≡ true → is_read f.stage ≡ false
+  full-unread e = by f.stage e
+    where
+      by : (s : Stage) → is_full s ≡ true → is_read s ≡ false
+      by Full d = refl
+      by s d = never d refl
 
   -- One that fills it is longer than is held; as the code lends it.
-  pub short_over : (n : ℕ) → eqb f.stage 6 ≡ true → n ≡ f.filled → most_salvaged < length (take (n - 0) (drop 0 buffer))
+  pub short_over : (n : ℕ) → is_full f.stage ≡ true → n ≡ f.filled → most_salvaged < length (take (n - 0) (drop 0 buffer))
   short_over n e h =
-      let s = x.full (omega (arith, eqb-true f.stage 6 e)) in
+      let s = x.full (full-unread e) in
       let z : n - 0 ≡ n = omega arith in
       let l : length (take n buffer) ≡ n = length-take-le n buffer (omega (arith, h, s.1)) in
       rw z (omega (arith, l, h, s.1, b.room))
 
   -- Of one that has not ended nothing is written.
-  over-ran : 3 ≤ f.stage → Salvages (take f.read buffer) f
+  over-ran : is_read f.stage ≡ false → Salvages (take f.read buffer) f
   over-ran h =
       let s = x.full h in
       record {
         read = sym read-long;
-        done = λ e. absurd (omega (arith, s.0, e));
-        unwritten = λ e. absurd (omega (arith, s.0, e));
-        untaken = λ e. absurd (omega (arith, s.0, e));
+        done = λ e. absurd (besides s.0 (λ n. omega arith) e);
+        unwritten = λ e. absurd (besides s.0 (λ n. omega arith) e);
+        untaken = λ e. absurd (besides s.0 (λ n. omega arith) e);
         over = λ e. (omega (arith, read-long, x.read, s.1, b.room), x.written);
-        unread = λ e. absurd (omega (arith, s.0, e));
-        turns = λ e. absurd (omega (arith, s.0, e));
-        stage = x.stage;
+        unread = λ e. absurd (besides s.0 (λ n. omega arith) e);
+        turns = λ e. never e (ap stage_open s.0);
       }
 
-  unread-ran : f.stage ≤ 2 → (f.stage ≡ 1 → ⊥) → Salvages (take f.read buffer) f
+  unread-ran : is_read f.stage ≡ true → is_end f ≡ false → Salvages (take f.read buffer) f
   unread-ran m other =
       record {
         read = sym read-long;
-        done = λ e. absurd (omega (arith, m, e));
-        unwritten = λ e. absurd (omega (arith, m, e));
-        untaken = λ e. absurd (omega (arith, m, e));
-        over = λ e. absurd (omega (arith, m, e));
+        done = λ e. never m (ap is_read e);
+        unwritten = λ e. never m (ap is_read e);
+        untaken = λ e. never m (ap is_read e);
+        over = λ e. never m (ap is_read e);
         unread = λ e. x.written;
-        turns = λ e. let z : f.stage ≡ 0 = zero_of f.stage e other in (x.turns z, z, x.written);
-        stage = x.stage;
+        turns = λ e. let z : f.stage ≡ Reading = open_reading f.stage e other in (x.turns z, z, x.written);
       }
-    where
-      zero_of : (n : ℕ) → n ≤ 1 → (n ≡ 1 → ⊥) → n ≡ 0
-      zero_of n h k =
-          elim (dec_lt n 1) [
-            | yes q ↦ omega (arith, q)
-            | no q ↦ absurd (k (omega (arith, q, h)))
-          ]
 
-  pub short_ran : eqb f.stage 6 ≡ true → Salvages (take f.read buffer) f
-  short_ran e = over-ran (omega (arith, eqb-true f.stage 6 e))
+  pub short_ran : is_full f.stage ≡ true → Salvages (take f.read buffer) f
+  short_ran e = over-ran (full-unread e)
 
-  pub other_ran : eqb f.stage 6 ≡ false → is_end f ≡ false → Salvages (take f.read buffer) f
+  pub other_ran : is_full f.stage ≡ false → is_end f ≡ false → Salvages (take f.read buffer) f
   other_ran d e =
-      elim (dec_lt 2 f.stage) [
-        | yes h ↦ absurd (eqb-false f.stage 6 d (x.full h).0)
-        | no h ↦ unread-ran (omega (arith, h)) (eqb-false f.stage 1 e)
+      elim (dec_true (is_read f.stage)) [
+        | yes h ↦ unread-ran h e
+        | no h ↦ never (ap is_full (x.full (untrue (is_read f.stage) h)).0) d
       ]
 
   -- Of one that has, what it prints; as the code lends it.

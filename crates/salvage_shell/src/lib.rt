@@ -1,13 +1,12 @@
 // Salvage over a text: it is read whole, its image goes to where is written and the report to standard error.
 #![tactic(auto)]
 
-ghost use Rattle.std.specs.Prelude.{◌+◌, ◌≤◌, ◌≡◌, true, false, length, take};
+ghost use Rattle.std.specs.Prelude.{◌+◌, ◌≤◌, ◌≡◌, true, false, length, take, Err};
 ghost use Rattle.answers.specs.declared.refusal.Refusal.TheVariants.{OutputTooShort};
 ghost use Rattle.text_pull.specs.Pull.{is_line, is_end, closed_of, Wrote};
-ghost use Rattle.salvage_text.specs.declared.Salvaged.TheVariants.{Refused};
 ghost use Rattle.salvage_shell.specs.Ran.{most_salvaged, salvage_end, salvage_prints, salvage_tells, Salvages, SalvageRan};
 
-use salvage_text::Salvaged;
+use salvage_walk::Extent;
 use std::io::{Read, Write};
 use text_pull::{Ends, Flow};
 
@@ -48,7 +47,7 @@ fn say(text: &[u8], words: &[u8])
 
 // Says that there is no room for the text, the image or the report.
 fn refuse(text: &[u8])
-    requires { salvage_end text.now ≡ Refused OutputTooShort }
+    requires { salvage_end text.now ≡ Err OutputTooShort }
 {
     say(text, b"!\t48\n");
 }
@@ -95,11 +94,11 @@ fn take<R, W: Write>(
     ensures { Wrote (closed_of flow (length (salvage_prints text.now))) result }
 {
     match salvage_text::salvage(text, out, words) {
-        Salvaged::Refused(_) => {
+        Err(_) => {
             refuse(text);
             text_pull::closed(flow, 0)
         }
-        Salvaged::Done { image, report } => show(ends, flow, text, out, image, words, report),
+        Ok(Extent { image, report }) => show(ends, flow, text, out, image, words, report),
     }
 }
 

@@ -1,4 +1,5 @@
 -- A whole pass: what stands first, then the walk; and two passes. Assumes nothing.
+use Rattle.std.proofs.Common.{Option, Some, None, Result, Ok, Err}
 use Prim.Native.Nat.{ℕ, ◌+◌, ◌-◌, ◌≤◌}
 use native.Mathlib.Omega.{arith}
 use native.Mathlib.Decide.{dec_lt}
@@ -14,8 +15,6 @@ use Rattle.byte_parts.specs.Part.{put, same_bytes}
 use Rattle.byte_parts.proofs.Part.{put-split}
 use Rattle.byte_parts.proofs.Put.{put-append}
 use Rattle.answers.specs.Refusal.{refusal_number}
-use Rattle.answers.specs.declared.refusal.Answer.{Answer}
-use Rattle.answers.specs.declared.refusal.Answer.TheVariants.{Done, Refused}
 use Rattle.answers.specs.declared.refusal.Refusal.{Refusal}
 use Rattle.text_fields.specs.Field.{split}
 use Rattle.text_pieces.specs.Piece.{line_of, pieces_of, text_of}
@@ -27,46 +26,44 @@ use Rattle.line_build.specs.Image.{image_step}
 use Rattle.salvage_rule.specs.Salvage.{admits, denies, fresh, added, listed, chosen_by, fates_from, is_added, fates_of, image_of, salvage_of, report_of}
 use Rattle.salvage_line.specs.Image.{Image, imaged, ruling_by, line_ruled, image_builder, added_line, no_image}
 use Rattle.salvage_line.proofs.Leaves.{refused_leaves}
-use Rattle.salvage_print.specs.declared.Spot.{Spot}
-use Rattle.salvage_print.specs.declared.Spot.TheVariants.{Full, At}
 use Rattle.salvage_print.specs.Print.{notice_text, report_text, image_left, report_left, spot_by, spotted}
 use Rattle.salvage_print.proofs.Spots.{full_back, at_back}
 use Rattle.salvage_print.proofs.Turns.{Turn}
 use Rattle.salvage_walk.specs.declared.Extent.{Extent}
-use Rattle.salvage_walk.specs.declared.Extent.TheVariants.{Fits, Short}
 use Rattle.salvage_walk.specs.Walk.{image_at, report_at, extent_by, WroteIf}
 use Rattle.salvage_walk.proofs.Walking.{turn_at}
 use Rattle.salvage_walk.proofs.Extents.{extent_first, extent_second}
 use Rattle.salvage_text.specs.Text.{salvaged_text, reported_text, landed_by}
+use Rattle.salvage_walk.specs.Extent.{both_fit}
 
 -- what stands in front, then the rest: written as one
 pub wrote-behind
-    : (w : Bool) (r : Extent) (d o e g rest : List ℕ) (m : ℕ) → At m ≡ spot_by (length d) 0 (length g) → o ≡ spotted (At m) w d 0 g
+    : (w : Bool) (r : Option Extent) (d o e g rest : List ℕ) (m : ℕ) → Some m ≡ spot_by (length d) 0 (length g) → o ≡ spotted (Some m) w d 0 g
     → WroteIf w r o m rest e → WroteIf w r d 0 (g ++ rest) e
 wrote-behind false r d o e g rest m p q h = h ∙ q
-wrote-behind true Short d o e g rest m p q h = tt
-wrote-behind true (Fits a b) d o e g rest m p q h =
+wrote-behind true None d o e g rest m p q h = tt
+wrote-behind true (Some extent) d o e g rest m p q h =
     let z : m ≡ 0 + length g = (at_back (length d) 0 (length g) m p).0 in
     h ∙ ap (λ (l : List ℕ). put l m (length rest) rest) q ∙ ap (λ (k : ℕ). put (put d 0 (length g) g) k (length rest) rest) z ∙ put-append d 0 g rest
 
 -- nothing is written where nothing was begun
-pub wrote_none : (w : Bool) (r : Spot) (d o due t : List ℕ) → o ≡ spotted r w d 0 t → WroteIf w Short d 0 due o
+pub wrote_none : (w : Bool) (r : Option ℕ) (d o due t : List ℕ) → o ≡ spotted r w d 0 t → WroteIf w None d 0 due o
 wrote_none true r d o due t q = tt
-wrote_none false Full d o due t q = q
-wrote_none false (At x) d o due t q = q
+wrote_none false None d o due t q = q
+wrote_none false (Some x) d o due t q = q
 
 -- no room for what stands first
-pub short_first : (r1 r2 : ℕ) (g rest words : List ℕ) → Full ≡ spot_by r1 0 (length g) → Short ≡ extent_by r1 r2 (length (g ++ rest)) (length words)
+pub short_first : (r1 r2 : ℕ) (g rest words : List ℕ) → None ≡ spot_by r1 0 (length g) → None ≡ extent_by r1 r2 (length (g ++ rest)) (length words)
 short_first r1 r2 g rest words h =
     extent_first r1 r2 (length (g ++ rest)) (length words) (omega (arith, length-append g rest, full_back r1 0 (length g) h))
 
-pub short_second : (r1 r2 : ℕ) (image g rest : List ℕ) → Full ≡ spot_by r2 0 (length g) → Short ≡ extent_by r1 r2 (length image) (length (g ++ rest))
+pub short_second : (r1 r2 : ℕ) (image g rest : List ℕ) → None ≡ spot_by r2 0 (length g) → None ≡ extent_by r1 r2 (length image) (length (g ++ rest))
 short_second r1 r2 image g rest h =
     extent_second r1 r2 (length image) (length (g ++ rest)) (omega (arith, length-append g rest, full_back r2 0 (length g) h))
 
 -- the lengths of both, from those of what is left
 pub extent_behind
-    : (r1 r2 r3 r4 a b : ℕ) (r : Extent) (g rest h others : List ℕ) → r3 ≡ r1 → r4 ≡ r2 → At a ≡ spot_by r1 0 (length g) → At b ≡ spot_by r2 0 (length h)
+    : (r1 r2 r3 r4 a b : ℕ) (r : Option Extent) (g rest h others : List ℕ) → r3 ≡ r1 → r4 ≡ r2 → Some a ≡ spot_by r1 0 (length g) → Some b ≡ spot_by r2 0 (length h)
     → r ≡ extent_by r3 r4 (a + length rest) (b + length others) → r ≡ extent_by r1 r2 (length (g ++ rest)) (length (h ++ others))
 extent_behind r1 r2 r3 r4 a b r g rest h others e f p q z =
     let x : a ≡ length g = omega (arith, (at_back r1 0 (length g) a p).0) in
@@ -128,37 +125,37 @@ zeroed n d e =
 -- what the code finds of the first line
 module _ (c : Card) (a l : List ℕ) (start : imaged c a ≡ no_image) (x : Added) (a' : List ℕ)
     (card : x ≡ (image_step true c a l).added) (arena : a' ≡ (image_step true c a l).arena) where
-  pub judged_done : x.answer ≡ Done → image_builder.first l ≡ admits (imaged x.card a')
+  pub judged_done : x.answer ≡ Ok tt → image_builder.first l ≡ admits (imaged x.card a')
   unfolding line_ruled
   judged_done h =
       ap (λ (i : Image). line_ruled true i l) (sym start)
-      ∙ rw (card, arena) (ap (λ (y : Answer). ruling_by y (imaged (image_step true c a l).added.card (image_step true c a l).arena)) (rw card at h))
+      ∙ rw (card, arena) (ap (λ (y : Result Unit Refusal). ruling_by y (imaged (image_step true c a l).added.card (image_step true c a l).arena)) (rw card at h))
 
-  pub judged_refused : (r : Refusal) → x.answer ≡ Refused r → (image_builder.first l ≡ denies (refusal_number r)) × (imaged c a' ≡ no_image)
+  pub judged_refused : (r : Refusal) → x.answer ≡ Err r → (image_builder.first l ≡ denies (refusal_number r)) × (imaged c a' ≡ no_image)
   unfolding line_ruled
   judged_refused r h =
       let k = refused_leaves true c a l r (rw card at h) in (
         ap (λ (i : Image). line_ruled true i l) (sym start)
-            ∙ ap (λ (y : Answer). ruling_by y (imaged (image_step true c a l).added.card (image_step true c a l).arena)) (rw card at h),
+            ∙ ap (λ (y : Result Unit Refusal). ruling_by y (imaged (image_step true c a l).added.card (image_step true c a l).arena)) (rw card at h),
         ap (imaged c) (arena ∙ k.1) ∙ start,
       )
 
 -- an empty line is no first line
-done-some : (c : Card) (a l : List ℕ) → (image_step true c a l).added.answer ≡ Done → 1 ≤ length l
+done-some : (c : Card) (a l : List ℕ) → (image_step true c a l).added.answer ≡ Ok tt → 1 ≤ length l
 unfolding image_step image_line first_line split joins form named same_bytes
 done-some c a [] h = absurd (no_refusal_lem h)
   where
-    no_refusal_lem : {r : Refusal} → Refused r ≡ Done → ⊥
+    no_refusal_lem : {r : Refusal} → ◌≡◌ {A = Result Unit Refusal} (Err r) (Ok tt) → ⊥
     no_refusal_lem e = false≢true (ap is_done e)
       where
-        is_done : Answer → Bool
-        is_done Done = true
-        is_done (Refused r) = false
+        is_done : Result Unit Refusal → Bool
+        is_done (Ok tt) = true
+        is_done (Err r) = false
 done-some c a (y ∷ l) h = omega arith
 
 -- as the code lends it
 pub first_some
-    : (c : Card) (a t : List ℕ) (k : ℕ) (x : Added) → x ≡ (image_step true c a (take (k - 0) (drop 0 t))).added → x.answer ≡ Done → 1 ≤ k
+    : (c : Card) (a t : List ℕ) (k : ℕ) (x : Added) → x ≡ (image_step true c a (take (k - 0) (drop 0 t))).added → x.answer ≡ Ok tt → 1 ≤ k
 first_some c a t k x e h =
     let d = done-some c a (take (k - 0) (drop 0 t)) (sym (ap (λ (y : Added). y.answer) e) ∙ h) in
     omega (arith, simp length-take at d)
@@ -190,28 +187,28 @@ module _ (t : List ℕ) (end next : ℕ) (e : end ≡ 0 + index_of 10 (slice 0 (
       empty (y ∷ l) e = absurd (omega arith)
 
 -- after the second pass
-is_short : Extent → Bool
-is_short Short = true
-is_short (Fits a b) = false
+is_short : Option Extent → Bool
+is_short None = true
+is_short (Some extent) = false
 
 pub landed
-    : (r : Extent) (x y : ℕ) (o o' o'' t : List ℕ) → r ≡ Fits x y → o' ≡ o → WroteIf true r o' 0 t o'' → o'' ≡ landed_by r o t
+    : (r : Option Extent) (x y : ℕ) (o o' o'' t : List ℕ) → r ≡ both_fit x y → o' ≡ o → WroteIf true r o' 0 t o'' → o'' ≡ landed_by r o t
 unfolding is_short
-landed Short x y o o' o'' t e q h = absurd (false≢true (sym (ap is_short e)))
-landed (Fits a b) x y o o' o'' t e q h = h ∙ ap (λ (l : List ℕ). put l 0 (length t) t) q
+landed None x y o o' o'' t e q h = absurd (false≢true (sym (ap is_short e)))
+landed (Some extent) x y o o' o'' t e q h = h ∙ ap (λ (l : List ℕ). put l 0 (length t) t) q
 
 pub same_extent
-    : (r : Extent) (o o' p p' : List ℕ) (a b : ℕ) → o' ≡ o → p' ≡ p → r ≡ extent_by (length o') (length p') a b → r ≡ extent_by (length o) (length p) a b
+    : (r : Option Extent) (o o' p p' : List ℕ) (a b : ℕ) → o' ≡ o → p' ≡ p → r ≡ extent_by (length o') (length p') a b → r ≡ extent_by (length o) (length p) a b
 same_extent r o o' p p' a b e f h =
     h ∙ ap (λ (l : List ℕ). extent_by (length l) (length p') a b) e ∙ ap (λ (l : List ℕ). extent_by (length o) (length l) a b) f
 
 -- and finds room where the first did
 pub same_fits
-    : (r q : Extent) (o o' p p' : List ℕ) (a b x y : ℕ) → o' ≡ o → p' ≡ p → r ≡ extent_by (length o') (length p') a b
-    → q ≡ extent_by (length o) (length p) a b → q ≡ Fits x y → r ≡ Fits x y
+    : (r q : Option Extent) (o o' p p' : List ℕ) (a b x y : ℕ) → o' ≡ o → p' ≡ p → r ≡ extent_by (length o') (length p') a b
+    → q ≡ extent_by (length o) (length p) a b → q ≡ both_fit x y → r ≡ both_fit x y
 same_fits r q o o' p p' a b x y e f h g k = same_extent r o o' p p' a b e f h ∙ sym g ∙ k
 
-pub landed_short : (r : Extent) (o o' due : List ℕ) → r ≡ Short → o' ≡ o → o' ≡ landed_by r o due
+pub landed_short : (r : Option Extent) (o o' due : List ℕ) → r ≡ None → o' ≡ o → o' ≡ landed_by r o due
 unfolding is_short
-landed_short Short o o' due e q = q
-landed_short (Fits a b) o o' due e q = absurd (false≢true (ap is_short e))
+landed_short None o o' due e q = q
+landed_short (Some extent) o o' due e q = absurd (false≢true (ap is_short e))

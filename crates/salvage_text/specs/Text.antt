@@ -1,5 +1,5 @@
 -- A whole text salvaged: its image and its report as bytes, and what a caller's buffers hold after it. Assumes nothing.
-use Rattle.std.specs.Prelude.{ℕ, ◌≡◌, Bool, List, ◌++◌, length}
+use Rattle.std.specs.Prelude.{ℕ, ◌≡◌, Bool, List, ◌++◌, length, Option, Some, None, Result, Ok, Err}
 use Rattle.answers.specs.declared.refusal.Refusal.TheVariants.{OutputTooShort}
 use Rattle.byte_parts.specs.Part.{put}
 use Rattle.card_build.specs.declared.card.Card.{Card}
@@ -7,10 +7,8 @@ use Rattle.salvage_rule.specs.Salvage.{fresh, salvage_of, report_of}
 use Rattle.salvage_line.specs.Image.{imaged, image_builder, added_line, no_image}
 use Rattle.salvage_print.specs.Print.{report_text}
 use Rattle.salvage_walk.specs.declared.Extent.{Extent}
-use Rattle.salvage_walk.specs.declared.Extent.TheVariants.{Fits, Short}
 use Rattle.salvage_walk.specs.Walk.{image_at, report_at, extent_by, WroteIf}
-use Rattle.salvage_text.specs.declared.Salvaged.{Salvaged}
-use Rattle.salvage_text.specs.declared.Salvaged.TheVariants.{Done, Refused}
+use Rattle.answers.specs.declared.refusal.Refusal.{Refusal}
 
 -- all of a text's image, and its report, as bytes
 -- RULES 20.7
@@ -39,28 +37,28 @@ due_behind head words card arena t lines from =
     }
 
 -- a pass: both lengths, if there is room for both, and both buffers after it
-abbrev pub Passed : Bool → Extent → Due → List ℕ → List ℕ → List ℕ → List ℕ → Type 0
+abbrev pub Passed : Bool → Option Extent → Due → List ℕ → List ℕ → List ℕ → List ℕ → Type 0
 Passed write r due out report out' report' =
     (r ≡ extent_by (length out) (length report) (length due.image) (length due.report))
     × (WroteIf write r out 0 due.image out' × WroteIf write r report 0 due.report report')
 
 -- the lengths of both, if so much room holds them
-abbrev pub extent_of : ℕ → ℕ → List ℕ → Extent
+abbrev pub extent_of : ℕ → ℕ → List ℕ → Option Extent
 extent_of r1 r2 t = extent_by r1 r2 (length (salvaged_text t)) (length (reported_text t))
 
 -- what a caller is told: both lengths, or 48
-abbrev pub salvage_answer : Extent → Salvaged
-salvage_answer Short = Refused OutputTooShort
-salvage_answer (Fits a b) = Done a b
+abbrev pub salvage_answer : Option Extent → Result Extent Refusal
+salvage_answer None = Err OutputTooShort
+salvage_answer (Some extent) = Ok extent
 
 -- RULES 20.7
-abbrev pub salvaged_by : ℕ → ℕ → List ℕ → Salvaged
+abbrev pub salvaged_by : ℕ → ℕ → List ℕ → Result Extent Refusal
 salvaged_by r1 r2 t = salvage_answer (extent_of r1 r2 t)
 
 -- a lent buffer after it: as it was where there is no room for both; else with all of its text in front
-abbrev pub landed_by : Extent → List ℕ → List ℕ → List ℕ
-landed_by Short d t = d
-landed_by (Fits a b) d t = put d 0 (length t) t
+abbrev pub landed_by : Option Extent → List ℕ → List ℕ → List ℕ
+landed_by None d t = d
+landed_by (Some extent) d t = put d 0 (length t) t
 
 -- RULES 20.7
 abbrev pub image_after : List ℕ → ℕ → List ℕ → List ℕ

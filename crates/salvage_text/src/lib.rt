@@ -4,19 +4,11 @@
 ghost use Rattle.std.specs.Prelude.{◌≤◌, ◌≡◌, length};
 ghost use Rattle.salvage_text.specs.Text.{salvaged_text, reported_text, due_whole, due_behind, Passed, extent_of, salvaged_by, salvage_answer, landed_by, image_after, report_after};
 
-use answers::refusal::{Answer, Refusal};
+use answers::refusal::Refusal;
 use byte_parts::spans;
 use byte_scan as scan;
 use card_build::card::{Card, System};
-use salvage_print::Spot;
 use salvage_walk::Extent;
-
-// The lengths of an image and of its report, or why there is none.
-#[derive(Clone, Copy)]
-pub enum Salvaged {
-    Done { image: usize, report: usize },
-    Refused(Refusal),
-}
 
 // A pass over the lines from a place on, behind what stands first in image and report.
 fn pass_behind(
@@ -30,23 +22,25 @@ fn pass_behind(
     out: &mut [u8],
     report: &mut [u8],
     write: bool,
-) -> Extent
+) -> Option<Extent>
     requires { (from ≤ length text.now) × (lines ≤ from) }
     ensures { Passed write result (due_behind head.now words.now card arena.old text.now lines from) out.old report.old out.new report.new }
 {
-    let Spot::At(image) = salvage_print::put(write, out, 0, head) else {
-        return Extent::Short;
-    };
-    let Spot::At(said) = salvage_print::put(write, report, 0, words) else {
-        return Extent::Short;
-    };
+    let image = salvage_print::put(write, out, 0, head)?;
+    let said = salvage_print::put(write, report, 0, words)?;
     salvage_walk::walk(
         card, arena, text, from, lines, out, image, report, said, write,
     )
 }
 
 // One pass over a whole text: counts image and report, and writes them if asked to.
-fn pass(arena: &mut [u8], text: &[u8], out: &mut [u8], report: &mut [u8], write: bool) -> Extent
+fn pass(
+    arena: &mut [u8],
+    text: &[u8],
+    out: &mut [u8],
+    report: &mut [u8],
+    write: bool,
+) -> Option<Extent>
     requires { length arena.old ≡ 65536 }
     ensures { Passed write result (due_whole text.now) out.old report.old out.new report.new }
 {
@@ -62,7 +56,7 @@ fn pass(arena: &mut [u8], text: &[u8], out: &mut [u8], report: &mut [u8], write:
     let card = first.card;
     let answer = first.answer;
     match answer {
-        Answer::Done => pass_behind(
+        Ok(()) => pass_behind(
             card,
             arena,
             text,
@@ -74,7 +68,7 @@ fn pass(arena: &mut [u8], text: &[u8], out: &mut [u8], report: &mut [u8], write:
             report,
             write,
         ),
-        Answer::Refused(_) => pass_behind(
+        Err(_) => pass_behind(
             blank,
             arena,
             text,
@@ -97,31 +91,26 @@ fn arena_of() -> [u8; 65536]
 }
 
 // What a caller is told of the room that there was.
-fn answer_of(extent: Extent) -> Salvaged
+#[tactic(auto, unfolding(crate::specs::Text::salvage_answer))]
+fn answer_of(extent: Option<Extent>) -> Result<Extent, Refusal>
     ensures { result ≡ salvage_answer extent }
 {
-    match extent {
-        Extent::Short => Salvaged::Refused(Refusal::OutputTooShort),
-        Extent::Fits { image, report } => Salvaged::Done { image, report },
-    }
+    extent.ok_or(Refusal::OutputTooShort)
 }
 
 // Two passes, in an arena that is lent: one that counts, and one that writes where there is room for all.
-fn passes(arena: &mut [u8], text: &[u8], out: &mut [u8], report: &mut [u8]) -> Extent
+fn passes(arena: &mut [u8], text: &[u8], out: &mut [u8], report: &mut [u8]) -> Option<Extent>
     requires { length arena.old ≡ 65536 }
     ensures value { result ≡ extent_of (length out.old) (length report.old) text.now }
     ensures out_after { out.new ≡ landed_by result out.old (salvaged_text text.now) }
     ensures report_after { report.new ≡ landed_by result report.old (reported_text text.now) }
 {
-    let counted = pass(arena, text, out, report, false);
-    match counted {
-        Extent::Short => counted,
-        Extent::Fits { .. } => pass(arena, text, out, report, true),
-    }
+    pass(arena, text, out, report, false)?;
+    pass(arena, text, out, report, true)
 }
 
 // Salvages a text: its image into `out` and the report into `report`, or nothing where either is too short (48).
-pub fn salvage(text: &[u8], out: &mut [u8], report: &mut [u8]) -> Salvaged
+pub fn salvage(text: &[u8], out: &mut [u8], report: &mut [u8]) -> Result<Extent, Refusal>
     ensures value { result ≡ salvaged_by (length out.old) (length report.old) text.now }
     ensures out_after { out.new ≡ image_after out.old (length report.old) text.now }
     ensures report_after { report.new ≡ report_after (length out.old) report.old text.now }

@@ -1,4 +1,5 @@
 -- What holds at each line of a walk: what was due is what is done and what is left. Assumes nothing.
+use Rattle.std.proofs.Common.{Option, Some, None}
 use Prim.Native.Nat.{ℕ, ◌+◌, ◌-◌, ◌≤◌, ◌<◌}
 use native.Mathlib.Omega.{arith}
 use native.Mathlib.Decide.{dec_lt}
@@ -14,12 +15,9 @@ use Rattle.byte_parts.proofs.Part.{length-put}
 use Rattle.salvage_rule.specs.declared.Fate.{Fate}
 use Rattle.salvage_rule.specs.Salvage.{Between, fate_of, stepped}
 use Rattle.salvage_line.specs.Image.{Image, image_builder}
-use Rattle.salvage_print.specs.declared.Spot.{Spot}
-use Rattle.salvage_print.specs.declared.Spot.TheVariants.{Full, At}
 use Rattle.salvage_print.specs.Print.{said_of, gain_of, spot_by, put_if, spotted}
 use Rattle.salvage_print.proofs.Spots.{full_back, at_back}
 use Rattle.salvage_print.proofs.Turns.{Turn, turn_lf, turn_end, image_turn, report_turn, put_turn, image-none, report-none, put-none}
-use Rattle.salvage_walk.specs.declared.Extent.TheVariants.{Short}
 use Rattle.salvage_walk.specs.Walk.{image_at, report_at, extent_by, WroteIf}
 use Rattle.salvage_walk.proofs.Extents.{extent_first, extent_second, wrote_short}
 
@@ -39,20 +37,20 @@ pub record Walking (text due words : List ℕ) (write : Bool) (out₀ : List ℕ
 -- a walk that stops where so much stands in its buffers: there is no room, and nothing was written where it only counts
 abbrev pub Stops : Bool → List ℕ → ℕ → List ℕ → List ℕ → List ℕ → ℕ → List ℕ → List ℕ → Type 0
 Stops write out₀ image due out report₀ said words report =
-    (Short ≡ extent_by (length out₀) (length report₀) (image + length due) (said + length words))
-    × (WroteIf write Short out₀ image due out × WroteIf write Short report₀ said words report)
+    (None ≡ extent_by (length out₀) (length report₀) (image + length due) (said + length words))
+    × (WroteIf write None out₀ image due out × WroteIf write None report₀ said words report)
 
 -- what becomes of a walk at a line of which so many bytes go into image and report: one of them has no room, or it goes on behind the line
 pub record AtLine (text due words : List ℕ) (write : Bool) (out₀ : List ℕ) (image : ℕ) (report₀ : List ℕ) (said : ℕ) (s : Between Image) (out report : List ℕ) (gain word : List ℕ) (next passed made told : ℕ) : Type 0 where
   pub no_image_lem
-      : (x : Spot) (o : List ℕ) → x ≡ Full → x ≡ spot_by (length out) made (length gain) → o ≡ spotted x write out made gain
+      : (x : Option ℕ) (o : List ℕ) → x ≡ None → x ≡ spot_by (length out) made (length gain) → o ≡ spotted x write out made gain
       → Stops write out₀ image due o report₀ said words report
   pub no_report
-      : (x y : Spot) (o p : List ℕ) → o ≡ spotted x write out made gain → y ≡ Full → y ≡ spot_by (length report) told (length word)
+      : (x y : Option ℕ) (o p : List ℕ) → o ≡ spotted x write out made gain → y ≡ None → y ≡ spot_by (length report) told (length word)
       → p ≡ spotted y write report told word → Stops write out₀ image due o report₀ said words p
   pub on
-      : (x y : Spot) (o p : List ℕ) (m n : ℕ) → x ≡ At m → x ≡ spot_by (length out) made (length gain) → o ≡ spotted x write out made gain
-      → y ≡ At n → y ≡ spot_by (length report) told (length word) → p ≡ spotted y write report told word
+      : (x y : Option ℕ) (o p : List ℕ) (m n : ℕ) → x ≡ Some m → x ≡ spot_by (length out) made (length gain) → o ≡ spotted x write out made gain
+      → y ≡ Some n → y ≡ spot_by (length report) told (length word) → p ≡ spotted y write report told word
       → Walking text due words write out₀ image report₀ said s o p next (passed + 1) m n
 
 -- what a walk that only counts has left as it was
@@ -62,11 +60,11 @@ left_alone true out₀ out image made due left e h = absurd (false≢true (sym h
 
 -- and so have the puts of a line
 left_still
-    : (r : Spot) (write : Bool) (out₀ out out' : List ℕ) (made : ℕ) (t : List ℕ) → (write ≡ false → out ≡ out₀) → out' ≡ spotted r write out made t
+    : (r : Option ℕ) (write : Bool) (out₀ out out' : List ℕ) (made : ℕ) (t : List ℕ) → (write ≡ false → out ≡ out₀) → out' ≡ spotted r write out made t
     → write ≡ false → out' ≡ out₀
-left_still Full write out₀ out out' made t e q h = q ∙ e h
-left_still (At x) false out₀ out out' made t e q h = q ∙ e h
-left_still (At x) true out₀ out out' made t e q h = absurd (false≢true (sym h))
+left_still None write out₀ out out' made t e q h = q ∙ e h
+left_still (Some x) false out₀ out out' made t e q h = q ∙ e h
+left_still (Some x) true out₀ out out' made t e q h = absurd (false≢true (sym h))
 
 -- the piece at a place, as the code finds it
 module _ (text : List ℕ) (at end next : ℕ) (h : at < length text) (e : end ≡ at + index_of 10 (slice at (length text) text)) (f : end ≤ length text)
@@ -132,15 +130,15 @@ module _ (text : List ℕ) (at k n : ℕ) (w : Turn (drop at text) k n) (within 
     report-long = ap length (report_here passed) ∙ length-append word others
 
     -- no room for this line is no room for all
-    short_image : Full ≡ spot_by (length out) made (length gain) → length out₀ < image + length due
+    short_image : None ≡ spot_by (length out) made (length gain) → length out₀ < image + length due
     short_image h = omega (arith, i.size, i.out_long, image-long, full_back (length out) made (length gain) h)
 
-    short_report : Full ≡ spot_by (length report) told (length word) → length report₀ < said + length words
+    short_report : None ≡ spot_by (length report) told (length word) → length report₀ < said + length words
     short_report h = omega (arith, i.talk, i.report-long, report-long, full_back (length report) told (length word) h)
 
     -- the image further by the line's bytes or none, the report by its entry or none
     advance
-        : (made' told' : ℕ) → At made' ≡ spot_by (length out) made (length gain) → At told' ≡ spot_by (length report) told (length word)
+        : (made' told' : ℕ) → Some made' ≡ spot_by (length out) made (length gain) → Some told' ≡ spot_by (length report) told (length word)
         → Walking text due words write out₀ image report₀ said s' (put_if write out made gain) (put_if write report told word) (at + n) (passed + 1) made' told'
     advance made' told' h g =
         let x = at_back (length out) made (length gain) made' h in
@@ -182,8 +180,8 @@ module _ (text : List ℕ) (at k n : ℕ) (w : Turn (drop at text) k n) (within 
             ),
           );
           on = λ x y o p m n h f g k l d.
-              let u : o ≡ put_if write out made gain = g ∙ ap (λ (z : Spot). spotted z write out made gain) h in
-              let v : p ≡ put_if write report told word = d ∙ ap (λ (z : Spot). spotted z write report told word) k in
+              let u : o ≡ put_if write out made gain = g ∙ ap (λ (z : Option ℕ). spotted z write out made gain) h in
+              let v : p ≡ put_if write report told word = d ∙ ap (λ (z : Option ℕ). spotted z write report told word) k in
               rw (u, v, ← e) (advance m n (sym h ∙ f) (sym k ∙ l));
         }
 

@@ -8,14 +8,13 @@ ghost use Rattle.salvage_walk.specs.Walk.{image_at, report_at, extent_by, WroteI
 
 use byte_scan as scan;
 use card_build::card::Card;
-use salvage_print::Spot;
-use salvage_rule::{Rules, Stretch};
+use salvage_rule::Rules;
 
 // The lengths of an image and of its report, or that there is no room for one of them.
 #[derive(Clone, Copy)]
-pub enum Extent {
-    Fits { image: usize, report: usize },
-    Short,
+pub struct Extent {
+    pub image: usize,
+    pub report: usize,
 }
 
 // Walks over the lines of a text from a place on, where so many lines are passed and so many bytes of image and report are made. Counts
@@ -31,7 +30,7 @@ pub fn walk(
     report: &mut [u8],
     said: usize,
     write: bool,
-) -> Extent
+) -> Option<Extent>
     requires { (from ≤ length text.now) × (lines ≤ from) × (image ≤ length out.old) × (said ≤ length report.old) }
     ensures value { result ≡ extent_by (length out.old) (length report.old) (image + length (image_at text.now (fresh (imaged card arena.old)) from)) (said + length (report_at text.now lines (fresh (imaged card arena.old)) from)) }
     ensures wrote_if { WroteIf write result out.old image (image_at text.now (fresh (imaged card arena.old)) from) out.new }
@@ -43,21 +42,17 @@ pub fn walk(
     let mut told = said;
     let mut built = card;
     let mut rules = Rules {
-        stretch: Stretch::Free,
+        stretch: None,
         orphaned: false,
     };
+    // no `for`: a turn takes a whole line, however long it is
     while at < text.len() {
         let end = scan::find(text, at, text.len(), 10);
         let next = text_pieces::behind(end, text.len());
         let verdict = salvage_line::salvage_line(built, rules, arena, &text[at..end]);
         let fate = verdict.fate;
-        let Spot::At(kept) = salvage_print::keep(write, fate, &text[at..next], out, made) else {
-            return Extent::Short;
-        };
-        let Spot::At(noted) = salvage_print::tell(write, (passed + 1) as u64, fate, report, told)
-        else {
-            return Extent::Short;
-        };
+        let kept = salvage_print::keep(write, fate, &text[at..next], out, made)?;
+        let noted = salvage_print::tell(write, (passed + 1) as u64, fate, report, told)?;
         made = kept;
         told = noted;
         built = verdict.card;
@@ -65,8 +60,8 @@ pub fn walk(
         at = next;
         passed += 1;
     }
-    Extent::Fits {
+    Some(Extent {
         image: made,
         report: told,
-    }
+    })
 }

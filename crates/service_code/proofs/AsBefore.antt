@@ -1,5 +1,6 @@
 -- An attribute decided by its kind bits and rights bits is what the list of eight values, by which the card decided once, says of it.
 -- Assumes nothing.
+use Rattle.std.proofs.Common.{Option, Some, None}
 use Prim.Native.Nat.{ℕ, zero, suc, ◌<◌, ◌*◌, ◌/◌, ◌%◌}
 use native.Mathlib.Omega.{arith}
 use mathlib.Core.Path.{◌≡◌, refl, sym, ap, ◌∙◌}
@@ -8,35 +9,34 @@ use mathlib.Core.List.{List, [], ◌∷◌}
 use lib.Dec.{eqb}
 use lib.ListN.{get_or, drop}
 use Rattle.service_code.specs.declared.code.ServiceAttribute.TheVariants.{RandomReadWrite, RandomReadOnly, CyclicReadWrite, CyclicReadOnly, PurseDirect, PurseCashback, PurseDecrement, PurseReadOnly}
-use Rattle.service_code.specs.declared.code.Decoded.{Decoded}
-use Rattle.service_code.specs.declared.code.Decoded.TheVariants.{Defined, Undefined}
 use Rattle.service_code.specs.Code.{kind_bits, upper_bit, lower_bit, table_of, decoded_of}
+use Rattle.service_code.specs.declared.code.ServiceAttribute.{ServiceAttribute}
 
 -- the list of eight values, without the key bit
-unfoldable pub eight_values : ℕ → Decoded
+unfoldable pub eight_values : ℕ → Option ServiceAttribute
 eight_values a =
-    cond (eqb a 0x08) (Defined RandomReadWrite)
-    (cond (eqb a 0x0a) (Defined RandomReadOnly)
-    (cond (eqb a 0x0c) (Defined CyclicReadWrite)
-    (cond (eqb a 0x0e) (Defined CyclicReadOnly)
-    (cond (eqb a 0x10) (Defined PurseDirect)
-    (cond (eqb a 0x12) (Defined PurseCashback)
-    (cond (eqb a 0x14) (Defined PurseDecrement)
-    (cond (eqb a 0x16) (Defined PurseReadOnly) Undefined)))))))
+    cond (eqb a 0x08) (Some RandomReadWrite)
+    (cond (eqb a 0x0a) (Some RandomReadOnly)
+    (cond (eqb a 0x0c) (Some CyclicReadWrite)
+    (cond (eqb a 0x0e) (Some CyclicReadOnly)
+    (cond (eqb a 0x10) (Some PurseDirect)
+    (cond (eqb a 0x12) (Some PurseCashback)
+    (cond (eqb a 0x14) (Some PurseDecrement)
+    (cond (eqb a 0x16) (Some PurseReadOnly) None)))))))
 
-unfoldable pub listed : ℕ → Decoded
+unfoldable pub listed : ℕ → Option ServiceAttribute
 listed attribute = eight_values (attribute % 64 / 2 * 2)
 
 -- what f says of 0, 1, .. up to n - 1
-unfoldable counted : (ℕ → Decoded) → ℕ → List Decoded
+unfoldable counted : (ℕ → Option ServiceAttribute) → ℕ → List (Option ServiceAttribute)
 counted f zero = []
 counted f (suc n) = f 0 ∷ counted (λ k. f (suc k)) n
 
 -- Where two say the same of all below n, they say the same of each.
-each : (f g : ℕ → Decoded) (n : ℕ) → counted f n ≡ counted g n → (k : ℕ) → k < n → f k ≡ g k
+each : (f g : ℕ → Option ServiceAttribute) (n : ℕ) → counted f n ≡ counted g n → (k : ℕ) → k < n → f k ≡ g k
 unfolding counted
 each f g zero e k h = absurd (omega arith)
-each f g (suc n) e zero h = ap (λ xs. get_or xs 0 Undefined) e
+each f g (suc n) e zero h = ap (λ xs. get_or xs 0 None) e
 each f g (suc n) e (suc k) h = each (λ j. f (suc j)) (λ j. g (suc j)) n (ap (λ xs. drop 1 xs) e) k (omega (arith, h))
 
 -- All 64 attributes, computed.

@@ -1,14 +1,10 @@
 -- Service codes and their attributes. Manual, section 3.4.1: figure 3-9 parts a code into number and attribute,
 -- table 3-2 lists the attributes, tables 3-3, 3-4 and 3-6 what each allows.
-use Rattle.std.specs.Prelude.{ℕ, ◌*◌, ◌/◌, ◌%◌, Bool, true, false, cond, eqb}
+use Rattle.std.specs.Prelude.{ℕ, ◌*◌, ◌/◌, ◌%◌, Bool, true, false, cond, eqb, Option, Some, None}
 use Rattle.service_code.specs.declared.code.ServiceKind.{ServiceKind}
 use Rattle.service_code.specs.declared.code.ServiceKind.TheVariants.{Random, Cyclic, Purse}
 use Rattle.service_code.specs.declared.code.ServiceAttribute.{ServiceAttribute}
 use Rattle.service_code.specs.declared.code.ServiceAttribute.TheVariants.{RandomReadWrite, RandomReadOnly, CyclicReadWrite, CyclicReadOnly, PurseDirect, PurseCashback, PurseDecrement, PurseReadOnly}
-use Rattle.service_code.specs.declared.code.Decoded.{Decoded}
-use Rattle.service_code.specs.declared.code.Decoded.TheVariants.{Defined, Undefined}
-use Rattle.service_code.specs.declared.code.DecodedKind.{DecodedKind}
-use Rattle.service_code.specs.declared.code.DecodedKind.TheVariants.{Defined as OfKind, Undefined as NoKind}
 
 -- figure 3-9: the service number is the code divided by 64
 -- RULES 3.1
@@ -49,18 +45,18 @@ purse_of true true = PurseReadOnly
 
 -- every other kind is undefined
 -- RULES 3.2
-unfoldable pub table_of : ℕ → Bool → Bool → Decoded
+unfoldable pub table_of : ℕ → Bool → Bool → Option ServiceAttribute
 table_of kind upper lower =
-    cond (eqb kind 1) (Defined (plain_of upper lower))
-    (cond (eqb kind 2) (Defined (purse_of upper lower))
-    Undefined)
+    cond (eqb kind 1) (Some (plain_of upper lower))
+    (cond (eqb kind 2) (Some (purse_of upper lower))
+    None)
 
 -- the key bit says nothing of what a service is for
 -- RULES 3.2
-unfoldable pub decoded_of : ℕ → Decoded
+unfoldable pub decoded_of : ℕ → Option ServiceAttribute
 decoded_of attribute = table_of (kind_bits attribute) (upper_bit attribute) (lower_bit attribute)
 
-unfoldable pub attribute_of : ℕ → Decoded
+unfoldable pub attribute_of : ℕ → Option ServiceAttribute
 attribute_of code = decoded_of (attributes_of code)
 
 -- what an attribute says of its service: of what kind it is, whether it is ever written, whether mode 1 (cashback) is accepted
@@ -97,11 +93,11 @@ abbrev pub allows_cashback : ServiceAttribute → Bool
 allows_cashback a = (rights_of a).cashback
 
 -- the kind of a code whose attribute is defined
-abbrev pub decoded_kind_of : Decoded → DecodedKind
-decoded_kind_of (Defined a) = OfKind (kind_of a)
-decoded_kind_of Undefined = NoKind
+abbrev pub decoded_kind_of : Option ServiceAttribute → Option ServiceKind
+decoded_kind_of (Some a) = Some (kind_of a)
+decoded_kind_of None = None
 
-unfoldable pub code_kind_of : ℕ → DecodedKind
+unfoldable pub code_kind_of : ℕ → Option ServiceKind
 code_kind_of code = decoded_kind_of (attribute_of code)
 
 -- table 3-2: lowest bit 0 means that the service needs a key

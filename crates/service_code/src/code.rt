@@ -4,7 +4,7 @@ ghost use Rattle.std.specs.Prelude.{◌≡◌};
 ghost use Rattle.service_code.specs.Code.{number_of, attributes_of, plain_of, purse_of, table_of, decoded_of, attribute_of, kind_of, code_kind_of, requires_key, allows_write, allows_cashback};
 
 // The kinds of service, each with its own rule for a write.
-#[derive(Clone, Copy)]
+#[derive(Clone, Copy, PartialEq, Eq)]
 pub enum ServiceKind {
     Random,
     Cyclic,
@@ -24,34 +24,16 @@ pub enum ServiceAttribute {
     PurseReadOnly,
 }
 
-// What six bits stand for: an attribute, or none.
-#[derive(Clone, Copy)]
-pub enum Decoded {
-    Defined(ServiceAttribute),
-    Undefined,
-}
-
-// What a code says of its kind: one, or none where its attribute is undefined.
-#[derive(Clone, Copy)]
-pub enum DecodedKind {
-    Defined(ServiceKind),
-    Undefined,
-}
-
 impl ServiceAttribute {
     // Gives the service of kind 001 with these rights bits: a ring or not, by the upper one; read-only or not, by the lower.
     fn plain(upper: bool, lower: bool) -> ServiceAttribute
         ensures { result ≡ plain_of upper lower }
     {
-        match upper {
-            false => match lower {
-                false => ServiceAttribute::RandomReadWrite,
-                true => ServiceAttribute::RandomReadOnly,
-            },
-            true => match lower {
-                false => ServiceAttribute::CyclicReadWrite,
-                true => ServiceAttribute::CyclicReadOnly,
-            },
+        match (upper, lower) {
+            (false, false) => ServiceAttribute::RandomReadWrite,
+            (false, true) => ServiceAttribute::RandomReadOnly,
+            (true, false) => ServiceAttribute::CyclicReadWrite,
+            (true, true) => ServiceAttribute::CyclicReadOnly,
         }
     }
 
@@ -59,33 +41,29 @@ impl ServiceAttribute {
     fn purse(upper: bool, lower: bool) -> ServiceAttribute
         ensures { result ≡ purse_of upper lower }
     {
-        match upper {
-            false => match lower {
-                false => ServiceAttribute::PurseDirect,
-                true => ServiceAttribute::PurseCashback,
-            },
-            true => match lower {
-                false => ServiceAttribute::PurseDecrement,
-                true => ServiceAttribute::PurseReadOnly,
-            },
+        match (upper, lower) {
+            (false, false) => ServiceAttribute::PurseDirect,
+            (false, true) => ServiceAttribute::PurseCashback,
+            (true, false) => ServiceAttribute::PurseDecrement,
+            (true, true) => ServiceAttribute::PurseReadOnly,
         }
     }
 
     // Gives the service of a kind with these rights bits; every other kind is undefined.
-    fn table(kind: u8, upper: bool, lower: bool) -> Decoded
+    #[tactic(auto, unfolding(crate::specs::Code::table_of))]
+    fn table(kind: u8, upper: bool, lower: bool) -> Option<ServiceAttribute>
         ensures { result ≡ table_of kind upper lower }
     {
-        if kind == 0b001 {
-            return Decoded::Defined(ServiceAttribute::plain(upper, lower));
+        match kind {
+            0b001 => Some(ServiceAttribute::plain(upper, lower)),
+            0b010 => Some(ServiceAttribute::purse(upper, lower)),
+            _ => None,
         }
-        if kind == 0b010 {
-            return Decoded::Defined(ServiceAttribute::purse(upper, lower));
-        }
-        Decoded::Undefined
     }
 
     // Gives what the low six bits of `attribute` stand for: three kind bits, two rights bits, and the key bit, which is left aside.
-    pub fn from_attribute_bits(attribute: u8) -> Decoded
+    #[tactic(auto, unfolding(crate::specs::Code::decoded_of))]
+    pub fn from_attribute_bits(attribute: u8) -> Option<ServiceAttribute>
         ensures { result ≡ decoded_of attribute }
     {
         let kind = attribute % 64 / 8;
@@ -111,22 +89,19 @@ impl ServiceAttribute {
     pub fn allows_write(self) -> bool
         ensures { result ≡ allows_write self }
     {
-        match self {
+        !matches!(
+            self,
             ServiceAttribute::RandomReadOnly
-            | ServiceAttribute::CyclicReadOnly
-            | ServiceAttribute::PurseReadOnly => false,
-            _ => true,
-        }
+                | ServiceAttribute::CyclicReadOnly
+                | ServiceAttribute::PurseReadOnly
+        )
     }
 
     // Tells whether a write in access mode 1, cashback, is accepted: one purse attribute alone has it.
     pub fn allows_cashback(self) -> bool
         ensures { result ≡ allows_cashback self }
     {
-        match self {
-            ServiceAttribute::PurseCashback => true,
-            _ => false,
-        }
+        matches!(self, ServiceAttribute::PurseCashback)
     }
 }
 
@@ -136,6 +111,7 @@ pub struct ServiceCode(pub u16);
 
 impl ServiceCode {
     // Gives the service number: the code's upper ten bits.
+    #[tactic(auto, unfolding(crate::specs::Code::number_of))]
     pub fn number(self) -> u16
         ensures { result ≡ number_of self.0 }
     {
@@ -143,6 +119,7 @@ impl ServiceCode {
     }
 
     // Gives the attribute's bits: the code's low six.
+    #[tactic(auto, unfolding(crate::specs::Code::attributes_of))]
     pub fn attributes(self) -> u8
         ensures { result ≡ attributes_of self.0 }
     {
@@ -150,23 +127,23 @@ impl ServiceCode {
     }
 
     // Gives the attribute that those six bits stand for.
-    pub fn attribute(self) -> Decoded
+    #[tactic(auto, unfolding(crate::specs::Code::attribute_of))]
+    pub fn attribute(self) -> Option<ServiceAttribute>
         ensures { result ≡ attribute_of self.0 }
     {
         ServiceAttribute::from_attribute_bits(self.attributes())
     }
 
     // Gives the kind of service, none where the attribute is undefined.
-    pub fn kind(self) -> DecodedKind
+    #[tactic(auto, unfolding(crate::specs::Code::code_kind_of))]
+    pub fn kind(self) -> Option<ServiceKind>
         ensures { result ≡ code_kind_of self.0 }
     {
-        match self.attribute() {
-            Decoded::Defined(attribute) => DecodedKind::Defined(attribute.kind()),
-            Decoded::Undefined => DecodedKind::Undefined,
-        }
+        self.attribute().map(|attribute| attribute.kind())
     }
 
     // Tells whether a service needs a key: its lowest bit is 0. Of an area's code and of FFFF this says nothing; they always need one.
+    #[tactic(auto, unfolding(crate::specs::Code::requires_key))]
     pub fn requires_key(self) -> bool
         ensures { result ≡ requires_key self.0 }
     {

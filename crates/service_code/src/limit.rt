@@ -1,13 +1,10 @@
 // The limit of a purse. It stands beside the codes since a card keeps one with any service, whatever the purse rule makes of it.
 
-// The bounds that a service sets its purse, both included, with the number of the setting; or none.
+// The bounds that a service sets its purse, both included, with the number of the setting. A service with none is unlimited.
 // RULES 5.2
 #[derive(Clone, Copy)]
-pub enum Limit {
-    Unlimited,
-    Limited {
-        upper: i32,
-        lower: i32,
-        generation: u8,
-    },
+pub struct Limit {
+    pub upper: i32,
+    pub lower: i32,
+    pub generation: u8,
 }

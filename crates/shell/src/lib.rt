@@ -111,6 +111,7 @@ fn run<R: Read, W: Write>(
         inspect,
         flow: text_pull::start(),
     };
+    // no `for`: what is read says when it ends
     while text_pull::goes_on(moved.flow) {
         let flow = text_pull::pull(ends, moved.flow, chunk, line);
         moved = answer(asks, moved.inspect, flow, arena, work, bytes, line, out);

@@ -1,5 +1,5 @@
 // Lines that grow a card.
-use answers::refusal::Answer;
+use answers::refusal::Refusal;
 use byte_parts::word;
 use card_build::card::{Added, Card, System};
 use test_spelt::numbers::{at16, at32};
@@ -29,10 +29,10 @@ fn unknown(g: Grown) -> Grown {
 }
 
 // The refusal's number in the list, 0 for none.
-fn refusal(a: Answer) -> u8 {
+fn refusal(a: Result<(), Refusal>) -> u8 {
     match a {
-        Answer::Done => 0,
-        Answer::Refused(r) => r.number(),
+        Ok(()) => 0,
+        Err(r) => r.number(),
     }
 }
 

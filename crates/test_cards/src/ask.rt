@@ -1,27 +1,25 @@
 // Questions about a card's tree.
-use answers::refusal::Told;
+use answers::refusal::Refusal;
 use card_build::card::Card;
-use card_questions::keys::Checked;
-use card_questions::listing::Listing;
 use card_questions::{keys, listing, totals};
 use test_spelt::codes::codes;
 use test_spelt::numbers::at16;
 use test_stored::number16;
 
 // Whether a number is the one told.
-fn number(told: Told, high: u8, low: u8) -> bool {
+fn number(told: Result<u16, Refusal>, high: u8, low: u8) -> bool {
     match told {
-        Told::Number(n) => n == number16(high, low),
-        Told::Refused(_) => false,
+        Ok(n) => n == number16(high, low),
+        Err(_) => false,
     }
 }
 
 // Whether a list check is the one told.
-fn checked(check: Checked, told: u8) -> bool {
+fn checked(check: Result<bool, Refusal>, told: u8) -> bool {
     match check {
-        Checked::WellFormed => told == 1,
-        Checked::Malformed => told == 0,
-        Checked::Refused(_) => false,
+        Ok(true) => told == 1,
+        Ok(false) => told == 0,
+        Err(_) => false,
     }
 }
 
@@ -30,12 +28,10 @@ fn same_pairs(pairs: &[u16], b: &[u8]) -> bool {
     if b.len() != 2 + 2 * pairs.len() {
         return false;
     }
-    let mut i = 0;
-    while i < pairs.len() {
-        if pairs[i] != number16(b[2 + 2 * i], b[3 + 2 * i]) {
+    for (i, pair) in pairs.iter().enumerate() {
+        if *pair != number16(b[2 + 2 * i], b[3 + 2 * i]) {
             return false;
         }
-        i += 1;
     }
     true
 }
@@ -43,8 +39,8 @@ fn same_pairs(pairs: &[u16], b: &[u8]) -> bool {
 // The same of a directory written to an output.
 fn listed(card: Card, out: &mut [u16], b: &[u8]) -> bool {
     match listing::directory(card, out) {
-        Listing::Refused(r) => b.len() == 3 && r.number() == b[2],
-        Listing::Listed(n) => {
+        Err(r) => b.len() == 3 && r.number() == b[2],
+        Ok(n) => {
             if out.len() / 2 < n {
                 return false;
             }

@@ -130,23 +130,18 @@ fn lines<R: Files + Eprint + Alloc>(rt: &R, arena: &mut [u8]) -> Tally {
     let mut run = start();
     let mut text = io::large_buffer();
     let mut line = test_stored::before_all();
-    let mut read = 0u32;
-    while read < test_stored::MOST_LINES {
+    for read in 0..test_stored::MOST_LINES {
         line = test_stored::next_line(rt, line, &mut text);
         if line.size == 0 {
+            if read == 0 {
+                test_stored::report_none(rt);
+                run.tally.wrong = 1;
+            }
             break;
         }
-        let start = line.start;
-        let end = line.end;
-        run = one_line(run, &text[start..end], arena);
-        read += 1;
+        run = one_line(run, &text[line.start..line.end], arena);
     }
-    let mut t = run.tally;
-    if read == 0 {
-        test_stored::report_none(rt);
-        t.wrong = 1;
-    }
-    t
+    run.tally
 }
 
 fn main(rt: HostRuntime) {

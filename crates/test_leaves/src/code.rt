@@ -1,11 +1,6 @@
 // Questions on service codes.
-use service_code::code::{Decoded, DecodedKind, ServiceAttribute, ServiceCode, ServiceKind};
+use service_code::code::{ServiceAttribute, ServiceCode, ServiceKind};
 use test_stored::number16;
-
-// A bool as the list has it.
-fn bit(b: bool) -> u8 {
-    if b { 1 } else { 0 }
-}
 
 // An attribute's place in the Rust's enum, from 1.
 fn place(a: ServiceAttribute) -> u8 {
@@ -22,25 +17,23 @@ fn place(a: ServiceAttribute) -> u8 {
 }
 
 // A kind's number in the list.
-fn kind_number(kind: DecodedKind) -> u8 {
+fn kind_number(kind: Option<ServiceKind>) -> u8 {
     match kind {
-        DecodedKind::Undefined => 0,
-        DecodedKind::Defined(k) => match k {
-            ServiceKind::Random => 1,
-            ServiceKind::Cyclic => 2,
-            ServiceKind::Purse => 3,
-        },
+        None => 0,
+        Some(ServiceKind::Random) => 1,
+        Some(ServiceKind::Cyclic) => 2,
+        Some(ServiceKind::Purse) => 3,
     }
 }
 
 // Whether the list's decoded attribute, write and cashback are ours.
 fn decoded(code: ServiceCode, place_told: u8, write: u8, cashback: u8) -> bool {
     match code.attribute() {
-        Decoded::Undefined => place_told == 0 && write == 0 && cashback == 0,
-        Decoded::Defined(a) => {
+        None => place_told == 0 && write == 0 && cashback == 0,
+        Some(a) => {
             place_told == place(a)
-                && write == bit(a.allows_write())
-                && cashback == bit(a.allows_cashback())
+                && write == u8::from(a.allows_write())
+                && cashback == u8::from(a.allows_cashback())
         }
     }
 }
@@ -60,7 +53,7 @@ pub(crate) fn attribute(b: &[u8]) -> bool {
     if kind_number(code.kind()) != b[6] {
         return false;
     }
-    if bit(code.requires_key()) != b[7] {
+    if u8::from(code.requires_key()) != b[7] {
         return false;
     }
     decoded(code, b[5], b[8], b[9])

@@ -63,7 +63,7 @@ fn counted(t: Tally, kind: u8) -> Tally {
 fn one_line(t: Tally, line: &[u8]) -> Tally {
     let mut bytes = [0u8; 256];
     let n = test_stored::bytes_of(line, &mut bytes);
-    let kind = if 0 < line.len() { line[0] } else { 0 };
+    let kind = line.first().copied().unwrap_or(0);
     if agrees(kind, &bytes[0..n]) {
         return counted(t, kind);
     }
@@ -85,20 +85,18 @@ fn lines<R: Files + Eprint + Alloc>(rt: &R) -> Tally {
     };
     let mut text = io::large_buffer();
     let mut line = test_stored::before_all();
-    let mut read = 0u32;
-    while read < test_stored::MOST_LINES {
+    for read in 0..test_stored::MOST_LINES {
         line = test_stored::next_line(rt, line, &mut text);
         if line.size == 0 {
+            if read == 0 {
+                test_stored::report_none(rt);
+                t.wrong = 1;
+            }
             break;
         }
         let start = line.start;
         let end = line.end;
         t = one_line(t, &text[start..end]);
-        read += 1;
-    }
-    if read == 0 {
-        test_stored::report_none(rt);
-        t.wrong = 1;
     }
     t
 }

@@ -1,5 +1,5 @@
 // Questions on the purse rule and the cyclic rule.
-use answers::status::Written;
+use answers::status::Fault;
 use byte_parts::{spans, word};
 use rule_purse::bytes;
 use rule_purse::fields::PurseOperation;
@@ -7,10 +7,10 @@ use service_code::limit::Limit;
 use test_stored::number32;
 
 // Status flag 2 of how a rule ended.
-fn flag2(w: Written) -> u8 {
+fn flag2(w: Result<(), Fault>) -> u8 {
     match w {
-        Written::Done => 0,
-        Written::Failed(fault) => fault.status_flag2(),
+        Ok(()) => 0,
+        Err(fault) => fault.status_flag2(),
     }
 }
 
@@ -24,18 +24,18 @@ fn operation(n: u8) -> PurseOperation {
 }
 
 // The limit of a line: none, or upper and lower bound.
-fn limit(b: &[u8]) -> Limit {
+fn limit(b: &[u8]) -> Option<Limit> {
     if b.len() < 10 {
-        return Limit::Unlimited;
+        return None;
     }
     if b[1] == 0 {
-        return Limit::Unlimited;
+        return None;
     }
-    Limit::Limited {
+    Some(Limit {
         upper: word::signed32(number32(b[2], b[3], b[4], b[5])),
         lower: word::signed32(number32(b[6], b[7], b[8], b[9])),
         generation: 0,
-    }
+    })
 }
 
 // A line `U`: operation, limit, bounds, stored block, command, status flag 2, block after.

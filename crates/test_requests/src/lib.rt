@@ -3,7 +3,6 @@
 
 ghost use Rattle.std.specs.Prelude.{◌≤◌, length};
 
-use answers::refusal::Answer;
 use byte_parts::spans;
 use card_build::card::Card;
 use request_plan::{Reply, Response};
@@ -35,23 +34,7 @@ fn told_of(line: &[u8], reply: Reply, answer: &[u8]) -> bool {
 
 // Whether all bytes have a value.
 fn all(s: &[u8], value: u8) -> bool {
-    let mut i = 0;
-    while i < s.len() {
-        if s[i] != value {
-            return false;
-        }
-        i += 1;
-    }
-    true
-}
-
-// Gives all bytes a value.
-fn fill(s: &mut [u8], value: u8) {
-    let mut i = 0;
-    while i < s.len() {
-        s[i] = value;
-        i += 1;
-    }
+    s.iter().all(|b| *b == value)
 }
 
 // Whether the output holds what was read, and beyond it what it held.
@@ -72,7 +55,7 @@ fn read_agrees(
     list: &[u8],
     out: &mut [u8],
 ) -> bool {
-    fill(out, 0xa5);
+    out.fill(0xa5);
     let open = spelt::first(line, 1) == b'O';
     let reply = reading::read(card, arena, out, open, codes, spelt::number(line, 3), list);
     let mut answer = [0u8; 8];
@@ -96,17 +79,15 @@ fn staging_right(reply: Reply, used: usize, staging: &[u8]) -> bool {
 
 // Puts the changed blocks of a line, each a place and sixteen bytes, into a copy of the arena.
 fn put_changed(copy: &mut [u8], changed: &[u8]) -> bool {
-    let mut i = 0;
-    while i < changed.len() {
-        if changed.len() - i < 18 {
+    for block in changed.chunks(18) {
+        if block.len() < 18 {
             return false;
         }
-        let at = 16 * (number16(changed[i], changed[i + 1]) as usize);
+        let at = 16 * (number16(block[0], block[1]) as usize);
         if copy.len() < at + 16 {
             return false;
         }
-        spans::copy(copy, at, changed, i + 2, 16);
-        i += 18;
+        spans::copy(copy, at, block, 2, 16);
     }
     true
 }
@@ -126,7 +107,7 @@ fn write_agrees(
     }
     let mut copy = [0u8; 70000];
     spans::copy(&mut copy, 0, arena, 0, arena_len);
-    fill(staging, 0xa5);
+    staging.fill(0xa5);
     let open = spelt::first(line, 1) == b'O';
     let mut data = [0u8; 16384];
     let n = spelt::bytes(line, 5, &mut data);
@@ -215,7 +196,7 @@ pub fn set(card: Card, arena: &mut [u8], b: &[u8]) -> bool {
     spans::copy(&mut block, 0, b, 4, 16);
     let number = at16(b, 2) as u32;
     match request_block::set_block(card, arena, at16(b, 0), number, block) {
-        Answer::Done => true,
-        Answer::Refused(_) => false,
+        Ok(()) => true,
+        Err(_) => false,
     }
 }

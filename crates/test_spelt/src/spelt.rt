@@ -12,8 +12,7 @@ pub fn bytes(line: &[u8], k: usize, out: &mut [u8]) -> usize
 
 // The first byte of field number k, or 0.
 pub fn first(line: &[u8], k: usize) -> u8 {
-    let f = field(line, k, b' ');
-    if 0 < f.len() { f[0] } else { 0 }
+    field(line, k, b' ').first().copied().unwrap_or(0)
 }
 
 // The number of 32 bits that field number k spells, or the largest one.

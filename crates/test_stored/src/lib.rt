@@ -8,7 +8,7 @@ ghost use Rattle.std.specs.Str.{IsAscii};
 use byte_scan as scan;
 use std::io::{Error, Read, Result};
 use std::rt::Files;
-use text_numbers::codes::{Code, read_hex16};
+use text_numbers::codes::read_hex16;
 
 // More lines than the stored files have.
 pub const MOST_LINES: u32 = 1_000_000_000;
@@ -47,6 +47,7 @@ fn read_full<F: Read>(file: &mut F, buffer: &mut [u8]) -> usize
     ensures { result ≤ length buffer.new }
 {
     let mut done = 0;
+    // no `for`: a read brings as many bytes as it will
     while done < buffer.len() {
         let n = file.read(&mut buffer[done..]).unwrap_or(0);
         if n == 0 {
@@ -70,15 +71,12 @@ fn read_file<R: Files>(rt: &R, n: u32, buffer: &mut [u8]) -> usize
     }
 }
 
-// The byte that two hex digits at an index spell, or 256.
-fn byte_at(line: &[u8], i: usize) -> u16
+// The byte that two hex digits at an index spell.
+fn byte_at(line: &[u8], i: usize) -> Option<u8>
     requires { i + 1 < length line.now }
 {
     let four = [b'0', b'0', line[i], line[i + 1]];
-    match read_hex16(&four) {
-        Code::Is(value) => value % 256,
-        Code::Bad => 256,
-    }
+    read_hex16(&four).map(|value| (value % 256) as u8)
 }
 
 // Tells whether a buffer of `len` bytes has an index `n`.
@@ -104,16 +102,19 @@ fn put(out: &mut [u8], n: usize, b: u8) -> usize
 pub fn bytes_of(line: &[u8], out: &mut [u8]) -> usize
     ensures { result ≤ length out.old }
 {
+    // no `for`: it goes on by two digits or by one byte, as it reads them
     let mut n = 0;
     let mut i = 1;
     while i < line.len() {
-        let b = byte_at(line, i - 1);
-        if 256 <= b {
-            i += 1;
-            continue;
+        match byte_at(line, i - 1) {
+            Some(b) => {
+                n = put(out, n, b);
+                i += 2;
+            }
+            None => {
+                i += 1;
+            }
         }
-        n = put(out, n, b as u8);
-        i += 2;
     }
     n
 }
@@ -184,14 +185,14 @@ pub fn one_more(n: u64) -> u64
 pub fn number16(high: u8, low: u8) -> u16
     ensures { result ≡ high * 256 + low }
 {
-    high as u16 * 256 + low as u16
+    u16::from_be_bytes([high, low])
 }
 
 // A number of 32 bits, high byte first.
 pub fn number32(a: u8, b: u8, c: u8, d: u8) -> u32
     ensures { result ≡ (a * 256 + b) * 65536 + (c * 256 + d) }
 {
-    number16(a, b) as u32 * 65536 + number16(c, d) as u32
+    u32::from_be_bytes([a, b, c, d])
 }
 
 // Prints a line of a label and a number.

@@ -38,8 +38,9 @@ pub fn all<R: Files + Print + Eprint + Alloc>(rt: &R, asks: bool) {
         test_stored::report_none(rt);
         return;
     }
-    let mut n = 2u32;
-    while n < 10000 && one(rt, n, asks) {
-        n += 1;
+    for n in 2..10000 {
+        if !one(rt, n, asks) {
+            return;
+        }
     }
 }

@@ -8,6 +8,7 @@ use byte_parts::spans;
 use byte_scan as scan;
 
 // A reader's place: `at` in the chunk, `len` bytes of a line kept, `whole` 1 where a LF has just ended that line, else 0.
+// `whole` stays a number, since the field is public, and text_pull reads it as one.
 #[derive(Clone, Copy)]
 pub struct Place {
     pub at: usize,

@@ -23,12 +23,10 @@ pub fn field_count(s: &[u8], separator: u8) -> usize
     ensures { result ≡ length (split separator s.now) }
 {
     let mut n = 1;
-    let mut i = 0;
-    while i < s.len() {
-        if s[i] == separator {
+    for b in s {
+        if *b == separator {
             n += 1;
         }
-        i += 1;
     }
     n
 }
@@ -48,10 +46,8 @@ fn field_start(s: &[u8], k: usize, separator: u8) -> usize
     ensures { get_or (split separator s.now) k [] ≡ get_or (split separator (drop result s.now)) 0 [] }
 {
     let mut from = 0;
-    let mut i = 0;
-    while i < k {
+    for _ in 0..k {
         from = field_end(s, from, separator) + 1;
-        i += 1;
     }
     from
 }
@@ -61,10 +57,7 @@ fn part<'a>(s: &'a [u8], from: usize, to: usize) -> &'a [u8]
     requires { to ≤ length s.now }
     ensures { result.now ≡ take (to - from) (drop from s.now) }
 {
-    if to < from {
-        return &s[0..0];
-    }
-    &s[from..to]
+    if to < from { &[] } else { &s[from..to] }
 }
 
 // Gives field number k of s, counted from 0, as a part of s; an empty part where s has no such field.
@@ -101,25 +94,15 @@ pub fn field_at<'a>(s: &'a [u8], ends: Ends, k: usize, separator: u8) -> &'a [u8
     requires { ends ≡ ends_of separator s.now }
     ensures { result.now ≡ get_or (split separator s.now) k [] }
 {
-    if k == 2 {
-        return part(s, ends.second + 1, ends.third);
+    match k {
+        0 => part(s, 0, ends.first),
+        1 => part(s, ends.first + 1, ends.second),
+        2 => part(s, ends.second + 1, ends.third),
+        3 => part(s, ends.third + 1, ends.fourth),
+        4 => part(s, ends.fourth + 1, ends.fifth),
+        5 => part(s, ends.fifth + 1, ends.sixth),
+        _ => field(s, k, separator),
     }
-    if k == 3 {
-        return part(s, ends.third + 1, ends.fourth);
-    }
-    if k == 4 {
-        return part(s, ends.fourth + 1, ends.fifth);
-    }
-    if k == 5 {
-        return part(s, ends.fifth + 1, ends.sixth);
-    }
-    if k == 1 {
-        return part(s, ends.first + 1, ends.second);
-    }
-    if k == 0 {
-        return part(s, 0, ends.first);
-    }
-    field(s, k, separator)
 }
 
 // Counts the fields of s, as `field_count` does, by where the first six end.

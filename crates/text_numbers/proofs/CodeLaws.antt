@@ -1,4 +1,5 @@
 -- Laws of codes in hex: what one spells, and joined ones. Assumes nothing.
+use Rattle.std.proofs.Common.{Some}
 use Prim.Native.Nat.{ℕ, zero, suc, ◌+◌, ◌*◌, ◌/◌, ◌%◌, ◌<◌}
 use native.Mathlib.Omega.{arith}
 use mathlib.Core.Path.{◌≡◌, refl, sym, ap, ◌∙◌}
@@ -11,7 +12,6 @@ use Rattle.text_numbers.specs.Digit.{digit_of, digits, spelt}
 use Rattle.text_numbers.proofs.DigitLaws.{spelt_here, spelt-end}
 use Rattle.text_numbers.specs.Hex.{grouped, hex_field, unhex, to_hex}
 use Rattle.text_numbers.specs.Codes.{hex16, codes_field, codes_of}
-use Rattle.text_numbers.specs.declared.codes.Code.TheVariants.{Is}
 use Rattle.text_numbers.proofs.HexLaws.{grouped_many, grouped-digits, length_pairs, pairs_at_lem, length-unhex, unhex_at, capital-back, to_hex-digits}
 
 -- The number that four hex digits spell.
@@ -32,7 +32,7 @@ spelt_four s h =
     omega arith
 
 -- Four hex digits are the number that they spell.
-pub hex16_four : (s : List ℕ) → length s ≡ 4 → digits 16 s ≡ true → hex16 s ≡ Is (spelt 16 0 s)
+pub hex16_four : (s : List ℕ) → length s ≡ 4 → digits 16 s ≡ true → hex16 s ≡ Some (spelt 16 0 s)
 unfolding hex16
 hex16_four s h d = rw (eq-eqb (length s) 4 h, d)
 
@@ -43,7 +43,7 @@ two_bytes a b h k (suc zero) = k
 two_bytes a b h k (suc (suc i)) = omega arith
 
 -- A number below 65,536 in four hex digits is read as that number.
-pub hex16-back : (n : ℕ) → n < 65536 → hex16 (to_hex (n / 256 ∷ n % 256 ∷ [])) ≡ Is n
+pub hex16-back : (n : ℕ) → n < 65536 → hex16 (to_hex (n / 256 ∷ n % 256 ∷ [])) ≡ Some n
 unfolding to_hex
 hex16-back n h =
     let a = n / 256 in
@@ -54,7 +54,7 @@ hex16-back n h =
     spelt_four t refl
     ∙ rw (capital-back (a / 16) (omega arith), capital-back (a % 16) (omega arith), capital-back (b / 16) (omega arith), capital-back (b % 16) (omega arith))
     (omega arith) in
-    hex16_four t refl d ∙ ap Is e
+    hex16_four t refl d ∙ ap Some e
 
 -- Where a test fails, so does one that passes less.
 narrower : (a b d : Bool) → (a ≡ true → b ≡ true) → (b && d) ≡ false → (a && d) ≡ false

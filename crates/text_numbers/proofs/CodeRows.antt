@@ -1,18 +1,18 @@
 -- Examples of codes read, as antt computes them. Assumes nothing.
+use Rattle.std.proofs.Common.{Some, None}
 use mathlib.Core.Path.{◌≡◌, refl}
 use mathlib.Core.Bool.{true, false}
 use mathlib.Core.List.{[], ◌∷◌}
 use Rattle.text_numbers.specs.Digit.{is_between, digit_of, digits, spelt}
 use Rattle.text_numbers.specs.Hex.{grouped, pairs, unhex}
 use Rattle.text_numbers.specs.Codes.{hex16, codes_field, codes_of}
-use Rattle.text_numbers.specs.declared.codes.Code.TheVariants.{Is, Bad}
 
 -- `104b`, `104B`, `104`, `104G`.
 pub hex16_rows
-    : (hex16 (49 ∷ 48 ∷ 52 ∷ 98 ∷ []) ≡ Is 0x104B)
-    × (hex16 (49 ∷ 48 ∷ 52 ∷ 66 ∷ []) ≡ Is 0x104B)
-    × (hex16 (49 ∷ 48 ∷ 52 ∷ []) ≡ Bad)
-    × (hex16 (49 ∷ 48 ∷ 52 ∷ 71 ∷ []) ≡ Bad)
+    : (hex16 (49 ∷ 48 ∷ 52 ∷ 98 ∷ []) ≡ Some 0x104B)
+    × (hex16 (49 ∷ 48 ∷ 52 ∷ 66 ∷ []) ≡ Some 0x104B)
+    × (hex16 (49 ∷ 48 ∷ 52 ∷ []) ≡ None)
+    × (hex16 (49 ∷ 48 ∷ 52 ∷ 71 ∷ []) ≡ None)
 unfolding is_between digit_of digits spelt hex16
 hex16_rows = (refl, refl, refl, refl)
 

@@ -1,4 +1,5 @@
 -- Laws of decimals: what is read, what is printed, and that one undoes the other. Assumes nothing.
+use Rattle.std.proofs.Common.{Some, None, Ok, Err}
 use Prim.Native.Nat.{ℕ, zero, suc, ◌+◌, ◌*◌, ◌-◌, ◌/◌, ◌%◌, ◌^◌, ◌≤◌, ◌<◌}
 use native.Mathlib.Omega.{arith}
 use native.Mathlib.Decide.{dec_lt}
@@ -6,28 +7,30 @@ use native.Mathlib.Nat.{pow-suc}
 use mathlib.Core.Path.{◌≡◌, refl, sym, ap, ◌∙◌}
 use mathlib.Core.Bool.{Bool, true, false, cond}
 use mathlib.Core.List.{List, [], ◌∷◌, ◌++◌}
-use lib.IntN.{pos, negsuc}
+use lib.IntN.{ℤ, pos, negsuc}
+use mir.Syntax.{w32}
+use mir.Val.{SFits}
+use Rattle.std.specs.Prelude.{Result, OkIff}
+use Rattle.std.specs.Result.{result_ok}
 use lib.ListN.{length, get_or, drop, length-append, get_or-append}
 use borrow.Author.Tests.{eq-eqb, ne_eqb, lt-ltb, le-ltb, le-leb, lt-leb}
 use Rattle.text_numbers.specs.Digit.{digit_of, digits, spelt}
 use Rattle.text_numbers.specs.Decimal.{plain, up_to, decimal, positive, negative, signed, digits_of, dec_text}
-use Rattle.text_numbers.specs.declared.decimals.Number.TheVariants.{Is, Bad}
-use Rattle.text_numbers.specs.declared.decimals.Signed.TheVariants as signs
 use Rattle.text_numbers.proofs.DigitLaws.{amid, under, past, digit_09, digits_snoc, spelt_snoc}
 
 module _ (most n : ℕ) where
   -- A number that the width holds.
-  pub up_to_is_lem : n ≤ most → up_to most n ≡ Is n
+  pub up_to_is_lem : n ≤ most → up_to most n ≡ Some n
   unfolding up_to
   up_to_is_lem h = rw (le-leb n most h)
 
   -- One that it does not.
-  pub up_to-bad : most < n → up_to most n ≡ Bad
+  pub up_to-bad : most < n → up_to most n ≡ None
   unfolding up_to
   up_to-bad h = rw (lt-leb n most h)
 
 -- What is read is within the width.
-up_to-most : (most v n : ℕ) → up_to most v ≡ Is n → n ≤ most
+up_to-most : (most v n : ℕ) → up_to most v ≡ Some n → n ≤ most
 up_to-most most v n e =
     elim (dec_lt most v) [
       | yes h ↦ let b = up_to-bad most v h in let z : ◌≡◌ {A = ℕ} 0 1 = cc in absurd (omega arith)
@@ -41,11 +44,11 @@ spelt_least [] n = omega arith
 spelt_least (x ∷ s) n = omega (arith, spelt_least s (n * 10 + digit_of x))
 
 -- A decimal that was read is within the width.
-pub decimal-most : (most : ℕ) (s : List ℕ) (n : ℕ) → decimal most s ≡ Is n → n ≤ most
+pub decimal-most : (most : ℕ) (s : List ℕ) (n : ℕ) → decimal most s ≡ Some n → n ≤ most
 unfolding decimal
 decimal-most most s n e = among_cases (plain s) e
   where
-    among_cases : (t : Bool) → cond t (up_to most (spelt 10 0 s)) Bad ≡ Is n → n ≤ most
+    among_cases : (t : Bool) → cond t (up_to most (spelt 10 0 s)) None ≡ Some n → n ≤ most
     among_cases true e = up_to-most most (spelt 10 0 s) n e
     among_cases false e = let z : ◌≡◌ {A = ℕ} 0 1 = cc in absurd (omega arith)
 
@@ -94,32 +97,38 @@ long-more n h = ap length (dec_more n h) ∙ length-append (dec_text (n / 10)) (
 
 module _ (n : ℕ) where
   -- A number without a sign that 32 bits hold.
-  pub positive_is : n < 2147483648 → positive (Is n) ≡ signs.Is (pos n)
+  pub positive_is : n < 2147483648 → positive (Some n) ≡ Some (pos n)
   unfolding positive
   positive_is h = rw (lt-ltb n 2147483648 h)
 
   -- One that is too large.
-  pub positive-bad : 2147483648 ≤ n → positive (Is n) ≡ signs.Bad
+  pub positive-bad : 2147483648 ≤ n → positive (Some n) ≡ None
   unfolding positive
   positive-bad h = rw (le-ltb n 2147483648 h)
 
+  -- What a conversion to 32 bits with a sign gives.
+  pub positive_from : {E : Type 0} (r : Result ℤ E) → OkIff r (SFits w32 (pos n)) (pos n) → result_ok r ≡ positive (Some n)
+  positive_from (Ok x) p = ap Some p.1 ∙ sym (positive_is p.0.sfits)
+  positive_from (Err e) p =
+      elim (dec_lt n 2147483648) [ yes h ↦ absurd (p record { sfits = h }) | no h ↦ sym (positive-bad (omega arith)) ]
+
   -- A number after a sign that 32 bits hold.
-  pub negative_is : 1 ≤ n → n ≤ 2147483648 → negative (Is n) ≡ signs.Is (negsuc (n - 1))
+  pub negative_is : 1 ≤ n → n ≤ 2147483648 → negative (Some n) ≡ Some (negsuc (n - 1))
   unfolding negative
   negative_is h k = rw (amid 1 2147483648 n h k)
 
   -- 0 after a sign.
-  pub negative_zero : n < 1 → negative (Is n) ≡ signs.Bad
+  pub negative_zero : n < 1 → negative (Some n) ≡ None
   unfolding negative
   negative_zero h = rw (under 1 2147483648 n h)
 
   -- One that is too large.
-  pub negative-bad : 2147483648 < n → negative (Is n) ≡ signs.Bad
+  pub negative-bad : 2147483648 < n → negative (Some n) ≡ None
   unfolding negative
   negative-bad h = rw (past 1 2147483648 n h)
 
 -- No bytes are no decimal.
-pub signed-none : (s : List ℕ) → length s ≡ 0 → signed s ≡ signs.Bad
+pub signed-none : (s : List ℕ) → length s ≡ 0 → signed s ≡ None
 unfolding signed decimal plain positive
 signed-none [] h = refl
 signed-none (x ∷ s) h = absurd (omega arith)
@@ -207,6 +216,6 @@ dec_plain (suc n) =
     rw (z, f) (dec_digits (suc n))
 
 -- A decimal that was printed is read as the number, if the width holds it.
-pub dec_back : (most n : ℕ) → n ≤ most → decimal most (dec_text n) ≡ Is n
+pub dec_back : (most n : ℕ) → n ≤ most → decimal most (dec_text n) ≡ Some n
 unfolding decimal
 dec_back most n h = rw (dec_plain n, dec_spelt n) (up_to_is_lem most n h)

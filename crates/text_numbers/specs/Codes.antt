@@ -1,13 +1,11 @@
 -- Codes in hex: one, or several joined. Assumes nothing.
-use Rattle.std.specs.Prelude.{ℕ, ◌+◌, ◌*◌, Bool, cond, ◌&&◌, List, eqb, length}
+use Rattle.std.specs.Prelude.{ℕ, ◌+◌, ◌*◌, Bool, cond, ◌&&◌, List, eqb, length, Option, Some, None}
 use Rattle.text_numbers.specs.Digit.{digits, spelt}
 use Rattle.text_numbers.specs.Hex.{grouped, pairs, unhex}
-use Rattle.text_numbers.specs.declared.codes.Code.{Code}
-use Rattle.text_numbers.specs.declared.codes.Code.TheVariants.{Is, Bad}
 
 -- codes and versions are four hex digits
-unfoldable pub hex16 : List ℕ → Code
-hex16 s = cond (eqb (length s) 4 && digits 16 s) (Is (spelt 16 0 s)) Bad
+unfoldable pub hex16 : List ℕ → Option ℕ
+hex16 s = cond (eqb (length s) 4 && digits 16 s) (Some (spelt 16 0 s)) None
 
 -- several codes stand joined, four digits each; `-` for none
 -- RULES 11.3

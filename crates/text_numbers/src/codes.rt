@@ -7,13 +7,6 @@ ghost use Rattle.text_numbers.specs.Codes.{hex16, codes_field, codes_of};
 use crate::digits::{are_digits, digit};
 use crate::hex::is_hex_field;
 
-// What a field was read as: a number of 16 bits, or malformed.
-#[derive(Clone, Copy)]
-pub enum Code {
-    Is(u16),
-    Bad,
-}
-
 // Gives the byte that the two hex digits of s at i spell.
 fn byte_at(s: &[u8], i: usize) -> u16
     requires { (digits 16 s.now ≡ true) × (i + 1 < length s.now) }
@@ -33,16 +26,16 @@ fn code_at(s: &[u8], i: usize) -> u16
 }
 
 // Reads the number that s spells, if s is four hex digits.
-pub fn read_hex16(s: &[u8]) -> Code
+pub fn read_hex16(s: &[u8]) -> Option<u16>
     ensures { result ≡ hex16 s.now }
 {
     if s.len() != 4 {
-        return Code::Bad;
+        return None;
     }
     if !are_digits(s, 16) {
-        return Code::Bad;
+        return None;
     }
-    Code::Is(code_at(s, 0))
+    Some(code_at(s, 0))
 }
 
 // Tells whether s is joined codes: four hex digits for each, or `-` for none.
@@ -64,13 +57,9 @@ pub fn read_codes(s: &[u8], out: &mut [u16]) -> usize
     ensures value { result ≡ min (length out.old) (length (codes_of s.now)) }
     ensures out_after { out.new ≡ put out.old 0 result (codes_of s.now) }
 {
-    let mut i = 0;
-    while i < out.len() {
-        if s.len() / 4 <= i {
-            return i;
-        }
+    let n = out.len().min(s.len() / 4);
+    for i in 0..n {
         out[i] = code_at(s, i);
-        i += 1;
     }
-    i
+    n
 }

@@ -7,20 +7,6 @@ ghost use Rattle.text_numbers.specs.Decimal.{plain, up_to, decimal, positive, ne
 
 use crate::digits::{are_digits, digit};
 
-// What a field was read as: a number, or malformed.
-#[derive(Clone, Copy)]
-pub enum Number {
-    Is(u32),
-    Bad,
-}
-
-// What a field was read as: a number of either sign, or malformed.
-#[derive(Clone, Copy)]
-pub enum Signed {
-    Is(i32),
-    Bad,
-}
-
 // Tells whether s is a decimal: one digit or more, the first no 0 unless it stands alone.
 fn is_plain(s: &[u8]) -> bool
     ensures { result ≡ plain s.now }
@@ -36,37 +22,27 @@ fn is_plain(s: &[u8]) -> bool
 
 // Gives the number that the digits of s spell, if it is at most `most`. It stops at the first digit that exceeds it, so that no text is too
 // long for 64 bits.
-fn value(s: &[u8], most: u32) -> Number
+fn value(s: &[u8], most: u32) -> Option<u32>
     ensures { result ≡ up_to most (spelt 10 0 s.now) }
 {
     let mut n = 0u64;
-    let mut i = 0;
-    while i < s.len() {
-        n = n * 10 + digit(s[i]) as u64;
+    for x in s {
+        n = n * 10 + digit(*x) as u64;
         if n > most as u64 {
-            return Number::Bad;
+            return None;
         }
-        i += 1;
     }
-    Number::Is(n as u32)
+    Some(n as u32)
 }
 
 // Reads the decimal s; malformed is one above `most`, the most that its field's width holds.
-pub fn read_dec(s: &[u8], most: u32) -> Number
+pub fn read_dec(s: &[u8], most: u32) -> Option<u32>
     ensures { result ≡ decimal most s.now }
 {
     if !is_plain(s) {
-        return Number::Bad;
+        return None;
     }
     value(s, most)
-}
-
-// Gives k as a number of 32 bits with a sign.
-fn plus(k: u32) -> i32
-    requires { k < 2147483648 }
-    ensures { result ≡ pos k }
-{
-    k as i32
 }
 
 // Gives one below the negative of k, so that the lowest number of 32 bits is in reach.
@@ -78,40 +54,33 @@ fn minus(k: u32) -> i32
 }
 
 // Gives what was read without a sign as a number with one, if 32 bits hold it.
-fn positive_of(n: Number) -> Signed
+fn positive_of(n: Option<u32>) -> Option<i32>
     ensures { result ≡ positive n }
 {
-    let Number::Is(k) = n else {
-        return Signed::Bad;
-    };
-    if 2147483648 <= k {
-        return Signed::Bad;
-    }
-    Signed::Is(plus(k))
+    i32::try_from(n?).ok()
 }
 
 // Gives the negative of what was read after a sign, if 32 bits hold it. Of 0 there is none: `-0` is malformed.
-fn negative_of(n: Number) -> Signed
+// By tests, and not by try_from as above: it may be 2147483648, which no number with a sign is.
+fn negative_of(n: Option<u32>) -> Option<i32>
     ensures { result ≡ negative n }
 {
-    let Number::Is(k) = n else {
-        return Signed::Bad;
-    };
+    let k = n?;
     if k < 1 {
-        return Signed::Bad;
+        return None;
     }
     if 2147483648 < k {
-        return Signed::Bad;
+        return None;
     }
-    Signed::Is(minus(k - 1))
+    Some(minus(k - 1))
 }
 
 // Reads the decimal s of 32 bits with a sign, whose first byte is `-` where it is negative. No other sign is read.
-pub fn read_signed(s: &[u8]) -> Signed
+pub fn read_signed(s: &[u8]) -> Option<i32>
     ensures { result ≡ signed s.now }
 {
     if s.len() == 0 {
-        return Signed::Bad;
+        return None;
     }
     if s[0] == b'-' {
         return negative_of(read_dec(&s[1..], u32::MAX));

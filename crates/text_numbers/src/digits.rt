@@ -38,10 +38,8 @@ pub fn are_digits(s: &[u8], base: u8) -> bool
     ensures { result ≡ digits base s.now }
 {
     let mut all = true;
-    let mut i = 0;
-    while i < s.len() {
-        all = with_digit(all, s[i], base);
-        i += 1;
+    for x in s {
+        all = with_digit(all, *x, base);
     }
     all
 }

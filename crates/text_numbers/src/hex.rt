@@ -37,10 +37,8 @@ pub fn put_bytes(s: &[u8], out: &mut [u8], at: usize) -> usize
     ensures out_after { out.new ≡ put out.old at (length s.now / 2) (unhex s.now) }
 {
     let n = s.len() / 2;
-    let mut i = 0;
-    while i < n {
+    for i in 0..n {
         out[at + i] = byte(s[i * 2], s[i * 2 + 1]);
-        i += 1;
     }
     at + n
 }
@@ -70,11 +68,9 @@ fn put_hex(s: &[u8], out: &mut [u8], at: usize) -> usize
     ensures value { result ≡ at + length s.now * 2 }
     ensures out_after { out.new ≡ put out.old at (length s.now * 2) (to_hex s.now) }
 {
-    let mut i = 0;
     let mut o = at;
-    while i < s.len() {
-        o = put_byte(s[i], out, o);
-        i += 1;
+    for b in s {
+        o = put_byte(*b, out, o);
     }
     o
 }

@@ -72,10 +72,8 @@ fn put_joined(numbers: &[u16], out: &mut [u8], at: usize) -> usize
     ensures upper_bound { result ≤ at + length numbers.now * 4 }
 {
     let mut last = at;
-    let mut i = 0;
-    while i < numbers.len() {
-        last = put_four(numbers[i], out, last);
-        i += 1;
+    for n in numbers {
+        last = put_four(*n, out, last);
     }
     last
 }

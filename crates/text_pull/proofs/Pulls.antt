@@ -3,33 +3,37 @@ use Prim.Native.Nat.{ℕ, suc, ◌+◌, ◌-◌, ◌≤◌, ◌<◌, min}
 use native.Mathlib.Omega.{arith}
 use native.Mathlib.Decide.{ℕ_discrete, dec_lt}
 use mathlib.Core.Path.{◌≡◌, refl, sym, ap, ◌∙◌}
+use mathlib.Core.Bool.{Bool, true, false}
 use mathlib.Core.List.{List, [], ◌∷◌, ◌++◌, append-nil}
 use lib.IntN.{ℤ}
 use lib.ListN.{length, take, drop, length-take, length-drop, take-append-drop, drop_of_length-le}
 use lib.Seq.{length-take-le, split_at, drop-drop}
 use borrow.Author.Tests.{eq-eqb, ne_eqb, lt-ltb}
+use lib.Dec.{eqb}
 use Rattle.byte_scan.specs.Bytes.{index_of, index_after}
-use Rattle.io.specs.Counts.{clamp_len}
+use Rattle.std.specs.Prelude.{Result}
+use Rattle.text_pull.specs.declared.Stage.{Stage}
+use Rattle.text_pull.specs.declared.Stage.TheVariants.{Reading, Ended}
 use Rattle.text_feed.specs.declared.Place.{Place}
 use Rattle.text_feed.specs.Feed.{place_after, line_after}
 use Rattle.text_stream.proofs.Steps.{lf_at, lf_within}
 use Rattle.text_stream.proofs.Feeding.{kept-after, len-within, lf_place, end-place}
 use Rattle.text_pull.specs.declared.Flow.{Flow}
-use Rattle.text_pull.specs.Pull.{read_of, rest_of, Refilled, at_end, last_of, fed_of, Pulled}
-use Rattle.text_pull.proofs.Stages.{read_none, stage-most, read-room}
+use Rattle.text_pull.specs.Pull.{bytes_moved, stage_open, read_of, rest_of, Refilled, at_end, last_of, fed_of, Pulled}
+use Rattle.text_pull.proofs.Stages.{never, apart, dec_reading, open_ended, open_read, last_whole, read_none, stage-read, moved_room}
 
 -- Nothing is read.
 pub refill_none
-    : (f : Flow) (chunk : List ℕ) → f.at ≤ f.filled → f.filled ≤ length chunk → f.stage ≤ 1 → (1 ≤ f.stage → f.filled ≤ f.at)
+    : (f : Flow) (chunk : List ℕ) → f.at ≤ f.filled → f.filled ≤ length chunk → stage_open f.stage ≡ true → (f.stage ≡ Ended → f.filled ≤ f.at)
     → Refilled f chunk f chunk
 refill_none f chunk a l s o = record {
   came = [];
   rest = sym (append-nil (rest_of f chunk));
   read = omega arith;
   most = omega arith;
-  stage = omega arith;
+  stage = open_read f.stage s;
   stays = λ e. e;
-  over = o;
+  over = λ z. o (open_ended f.stage s z);
   at = a;
   filled = l;
   turns = refl;
@@ -40,21 +44,21 @@ refill_none f chunk a l s o = record {
 
 -- A read that is answered.
 read_refilled
-    : (f : Flow) (chunk chunk' : List ℕ) (got errno : ℤ) → f.filled ≤ f.at → f.stage ≡ 0 → length chunk' ≡ length chunk
-    → Refilled f chunk (read_of f got errno (length chunk')) chunk'
+    : (f : Flow) (chunk chunk' : List ℕ) (got : Result ℕ ℤ) → f.filled ≤ f.at → f.stage ≡ Reading → length chunk' ≡ length chunk
+    → Refilled f chunk (read_of f got (length chunk')) chunk'
 unfolding read_of
-read_refilled f chunk chunk' got errno h z c =
-    let n = clamp_len got (length chunk') in
-    let r : n ≤ length chunk' = read-room got (length chunk') in
+read_refilled f chunk chunk' got h z c =
+    let n = bytes_moved got (length chunk') in
+    let r : n ≤ length chunk' = moved_room got (length chunk') in
     let e : rest_of f chunk ≡ [] = drop_of_length-le (take f.filled chunk) {i = f.at} (simp length-take (omega arith)) in
     record {
       came = take n chunk';
       rest = rw e;
       read = rw (length-take-le n chunk' r);
       most = omega arith;
-      stage = stage-most got errno;
-      stays = λ x. absurd (omega arith);
-      over = λ x. omega (arith, read_none got errno (length chunk') x);
+      stage = stage-read got;
+      stays = λ x. apart (sym z ∙ x) (λ n. omega arith);
+      over = λ x. omega (arith, read_none got (length chunk') x);
       at = omega arith;
       filled = omega arith;
       turns = refl;
@@ -64,9 +68,9 @@ read_refilled f chunk chunk' got errno h z c =
     }
 
 pub refill_read
-    : (f g : Flow) (chunk chunk' : List ℕ) (got errno : ℤ) → f.filled ≤ f.at → f.stage ≡ 0 → length chunk' ≡ length chunk
-    → g ≡ read_of f got errno (length chunk') → Refilled f chunk g chunk'
-refill_read f g chunk chunk' got errno h z c e = rw e (read_refilled f chunk chunk' got errno h z c)
+    : (f g : Flow) (chunk chunk' : List ℕ) (got : Result ℕ ℤ) → f.filled ≤ f.at → f.stage ≡ Reading → length chunk' ≡ length chunk
+    → g ≡ read_of f got (length chunk') → Refilled f chunk g chunk'
+refill_read f g chunk chunk' got h z c e = rw e (read_refilled f chunk chunk' got h z c)
 
 -- The bytes up to a LF have none.
 plain_front : (t : List ℕ) → length (take (index_of 10 t) t) ≤ index_of 10 (take (index_of 10 t) t)
@@ -79,15 +83,16 @@ plain_front (x ∷ t) =
     ]
 
 -- The tests of a last line.
-last_none : (w n k : ℕ) → (n ≡ 1 → ⊥) → last_of w n k ≡ w
+last_none : (w : Bool) (s : Stage) (k : ℕ) → (s ≡ Ended → ⊥) → last_of w s k ≡ w
 unfolding last_of
-last_none w n k h = rw (ne_eqb n 1 h)
+last_none w Ended k h = absurd (h refl)
+last_none w s k h = refl
 
-last_some : (w k : ℕ) → 1 ≤ k → last_of w 1 k ≡ 1
+last_some : (w : Bool) (k : ℕ) → 1 ≤ k → last_of w Ended k ≡ true
 unfolding last_of at_end
 last_some w k h = rw (lt-ltb 0 k h)
 
-last_empty : (w : ℕ) → last_of w 1 0 ≡ w
+last_empty : (w : Bool) → last_of w Ended 0 ≡ w
 unfolding last_of at_end
 last_empty w = refl
 
@@ -140,18 +145,18 @@ module _ (f : Flow) (chunk line : List ℕ) (m : Flow) (chunk' : List ℕ) (r : 
       (split_at l (index_of 10 l) 0 i ∙ ap (λ (x : ℕ). take (index_of 10 l) l ++ (x ∷ drop (suc (index_of 10 l)) l)) (lf_at l i))
 
   -- Once the text has ended nothing is left.
-  none_left : 1 ≤ m.stage → drop m.at t ≡ []
+  none_left : (m.stage ≡ Reading → ⊥) → drop m.at t ≡ []
   none_left h = drop_of_length-le t {i = m.at} (omega (arith, size, r.over h))
 
-  no_bytes : 1 ≤ m.stage → bytes ≡ []
+  no_bytes : (m.stage ≡ Reading → ⊥) → bytes ≡ []
   unfolding bytes far index_of
   no_bytes h = rw (none_left h)
 
-  no_far : 1 ≤ m.stage → far ≡ 0
+  no_far : (m.stage ≡ Reading → ⊥) → far ≡ 0
   unfolding far index_of
   no_far h = rw (none_left h)
 
-  abbrev ends : Place → ℕ → Flow
+  abbrev ends : Place → Bool → Flow
   ends q w = record {
     turns = m.turns - 1;
     len = q.len;
@@ -182,29 +187,28 @@ module _ (f : Flow) (chunk line : List ℕ) (m : Flow) (chunk' : List ℕ) (r : 
   far_within = omega (arith, lf_within (drop m.at t), length-drop m.at t, size, r.at)
 
   -- Behind a LF.
-  pull_lf : (q : Place) (w : ℕ) (line' : List ℕ) → q ≡ place → line' ≡ line_after p t line → w ≡ last_of q.whole m.stage q.len
+  pull_lf : (q : Place) (w : Bool) (line' : List ℕ) → q ≡ place → line' ≡ line_after p t line → w ≡ last_of (eqb q.whole 1) m.stage q.len
       → m.at + far < m.filled → Pulled f chunk line (ends q w) chunk' line'
   pull_lf q w line' e l k h =
       let g = e ∙ to_lf h in
       let a : q.at ≡ m.at + far + 1 = ap (λ (x : Place). x.at) g in
       let v : q.whole ≡ 1 = ap (λ (x : Place). x.whole) g in
-      let z : m.stage ≡ 0 = elim (dec_lt m.stage 1) [ yes i ↦ omega arith | no i ↦ absurd (omega (arith, r.over (omega arith))) ] in
-      let u : w ≡ 1 = k ∙ last_none q.whole m.stage q.len (λ x. omega arith) ∙ v in
+      let z : m.stage ≡ Reading = elim (dec_reading m.stage) [ yes i ↦ i | no i ↦ absurd (omega (arith, r.over i)) ] in
+      let u : w ≡ true = k ∙ ap (λ (n : ℕ). last_of (eqb n 1) m.stage q.len) v ∙ last_whole m.stage q.len in
       record {
         came = r.came;
         bytes = bytes;
         plain = bytes-plain;
         kept = line_kept q line' e l;
         read = r.read;
-        more = λ x y. absurd (omega arith);
+        more = λ x y. never u y;
         lf = λ x y. rw (← r.rest, a) (rest_lf h);
-        over = λ x. absurd (omega arith);
-        none = λ x y. absurd (omega arith);
-        some = λ x y. absurd (omega arith);
-        failed = λ x. absurd (omega arith);
+        over = λ x. absurd (x z);
+        none = λ x y. never u y;
+        some = λ x y. apart (sym z ∙ x) (λ n. omega arith);
+        failed = λ x. apart (sym z ∙ x) (λ n. omega arith);
         stage = r.stage;
         stays = r.stays;
-        whole = omega arith;
         most = r.most;
         at = omega arith;
         filled = r.filled;
@@ -215,16 +219,17 @@ module _ (f : Flow) (chunk line : List ℕ) (m : Flow) (chunk' : List ℕ) (r : 
       }
 
   -- At the chunk's end.
-  pull_end : (q : Place) (w : ℕ) (line' : List ℕ) → q ≡ place → line' ≡ line_after p t line → w ≡ last_of q.whole m.stage q.len
+  pull_end : (q : Place) (w : Bool) (line' : List ℕ) → q ≡ place → line' ≡ line_after p t line → w ≡ last_of (eqb q.whole 1) m.stage q.len
       → m.filled ≤ m.at + far → Pulled f chunk line (ends q w) chunk' line'
   pull_end q w line' e l k h =
       let g = e ∙ to_end h in
       let a : q.at ≡ m.at + far = ap (λ (x : Place). x.at) g in
       let v : q.whole ≡ 0 = ap (λ (x : Place). x.whole) g in
-      let other : (m.stage ≡ 1 → ⊥) → w ≡ 0 = λ x. k ∙ last_none q.whole m.stage q.len x ∙ v in
-      let one : m.stage ≡ 1 → 1 ≤ q.len → w ≡ 1 = λ x y. k ∙ ap (λ (n : ℕ). last_of q.whole n q.len) x ∙ last_some q.whole q.len y in
-      let empty : m.stage ≡ 1 → q.len ≡ 0 → w ≡ 0 =
-      λ x y. k ∙ ap (λ (n : ℕ). last_of q.whole n q.len) x ∙ ap (last_of q.whole 1) y ∙ last_empty q.whole ∙ v in
+      let base : last_of (eqb q.whole 1) m.stage q.len ≡ last_of false m.stage q.len = ap (λ (n : ℕ). last_of (eqb n 1) m.stage q.len) v in
+      let other : (m.stage ≡ Ended → ⊥) → w ≡ false = λ x. k ∙ base ∙ last_none false m.stage q.len x in
+      let one : m.stage ≡ Ended → 1 ≤ q.len → w ≡ true = λ x y. k ∙ base ∙ ap (λ (s : Stage). last_of false s q.len) x ∙ last_some false q.len y in
+      let empty : m.stage ≡ Ended → q.len ≡ 0 → w ≡ false =
+      λ x y. k ∙ base ∙ ap (λ (s : Stage). last_of false s q.len) x ∙ ap (last_of false Ended) y ∙ last_empty false in
       record {
         came = r.came;
         bytes = bytes;
@@ -232,19 +237,13 @@ module _ (f : Flow) (chunk line : List ℕ) (m : Flow) (chunk' : List ℕ) (r : 
         kept = line_kept q line' e l;
         read = r.read;
         more = λ x y. rw (← r.rest, a) rest_end;
-        lf = λ x y. absurd (omega (arith, other (λ n. omega arith)));
+        lf = λ x y. never y (other (λ n. apart (sym x ∙ n) (λ m. omega arith)));
         over = λ x. (sym r.rest ∙ none_left x, no_bytes x, omega (arith, no_far x, r.over x));
-        none = λ x y. elim (dec_lt q.len 1) [ yes i ↦ omega arith | no i ↦ absurd (omega (arith, one x (omega arith))) ];
-        some = λ x y. elim (dec_lt q.len 1) [ yes i ↦ absurd (omega (arith, empty x (omega arith))) | no i ↦ omega arith ];
-        failed = λ x. other (λ n. omega arith);
+        none = λ x y. elim (dec_lt q.len 1) [ yes i ↦ omega arith | no i ↦ never (one x (omega arith)) y ];
+        some = λ x y. elim (dec_lt q.len 1) [ yes i ↦ never y (empty x (omega arith)) | no i ↦ omega arith ];
+        failed = λ x. other (λ n. apart (sym x ∙ n) (λ m. omega arith));
         stage = r.stage;
         stays = r.stays;
-        whole =
-            elim (ℕ_discrete m.stage 1) [
-              | yes i ↦
-                  elim (dec_lt q.len 1) [ yes j ↦ omega (arith, empty i (omega arith)) | no j ↦ omega (arith, one i (omega arith)) ]
-              | no i ↦ omega (arith, other i)
-            ];
         most = r.most;
         at = omega (arith, far_within);
         filled = r.filled;
@@ -258,7 +257,7 @@ module _ (f : Flow) (chunk line : List ℕ) (m : Flow) (chunk' : List ℕ) (r : 
       → Pulled f chunk line g chunk' line'
   unfolding place fed_of
   pull_done q g line' e l k =
-      let w = last_of q.whole m.stage q.len in
+      let w = last_of (eqb q.whole 1) m.stage q.len in
       rw k
       (elim (dec_lt (m.at + far) m.filled) [
         | yes h ↦ pull_lf q w line' e l refl h

@@ -1,17 +1,18 @@
 -- The stages that a read and a write lead to, and the numbers that they leave. Assumes nothing.
-use Prim.Native.Nat.{ℕ, zero, suc, ◌≤◌}
+use Prim.Native.Nat.{ℕ, ◌≤◌}
 use native.Mathlib.Omega.{arith}
 use native.Mathlib.Decide.{dec_lt}
 use mathlib.Core.Path.{◌≡◌, refl, sym, ap, ◌∙◌}
 use mathlib.Core.Bool.{Bool, true, false, cond}
 use lib.IntN.{ℤ, pos, negsuc}
-use lib.Dec.{eqb}
-use lib.Signed.{lt_z}
+use lib.Dec.{eqb, ltb}
 use mir.Syntax.{w32}
 use mir.Val.{SFits, of_z}
 use borrow.Author.Tests.{ne_eqb, lt-ltb, le-ltb}
-use Rattle.io.specs.Counts.{clamp_len}
-use Rattle.text_pull.specs.Pull.{is_interrupt, error_stage, came_stage, stage_of, broken_stage, write_stage, is_broken}
+use Rattle.std.specs.Prelude.{Result, Ok, Err}
+use Rattle.text_pull.specs.declared.Stage.{Stage}
+use Rattle.text_pull.specs.declared.Stage.TheVariants.{Reading, Ended, Unread, Unwritten, Done, Untaken, Full}
+use Rattle.text_pull.specs.Pull.{is_interrupt, bytes_moved, error_stage, came_stage, stage_of, is_read, is_reading, stage_open, is_ended, at_end, last_of, broken_stage, write_stage, is_broken}
 
 -- A test has one answer.
 pub never : {A : Type 0} {b : Bool} → b ≡ true → b ≡ false → A
@@ -23,79 +24,140 @@ unfolding is_interrupt
 interrupt_bits (pos k) f = refl
 interrupt_bits (negsuc k) f = ne_eqb (of_z w32 (negsuc k)) 4 (λ x. omega (arith, f.sfits))
 
--- The tests that lead to each stage after a read.
-pub stage-failed : (z e : ℤ) → lt_z z (pos 0) ≡ true → error_stage e ≡ stage_of z e
-unfolding stage_of
-stage-failed z e p = rw p
+-- A number for each stage: two stages with two numbers are two.
+abbrev pub nth : Stage → ℕ
+nth Reading = 0
+nth Ended = 1
+nth Unread = 2
+nth Unwritten = 3
+nth Done = 4
+nth Untaken = 5
+nth Full = 6
 
-pub stage-none : (z e : ℤ) → lt_z z (pos 0) ≡ false → came_stage z ≡ stage_of z e
-unfolding stage_of
-stage-none z e p = rw p
+pub apart : {A : Type 0} {s t : Stage} → s ≡ t → (nth s ≡ nth t → ⊥) → A
+apart e n = absurd (n (ap nth e))
 
-stage-came : (z e : ℤ) → lt_z z (pos 0) ≡ false → lt_z z (pos 1) ≡ false → 0 ≡ stage_of z e
-unfolding stage_of came_stage
-stage-came z e p q = rw (p, q)
+pub besides : {s t u : Stage} → s ≡ t → (nth t ≡ nth u → ⊥) → s ≡ u → ⊥
+besides e n d = apart (sym e ∙ d) n
 
-stage-end : (z e : ℤ) → lt_z z (pos 0) ≡ false → lt_z z (pos 1) ≡ true → 1 ≡ stage_of z e
-unfolding stage_of came_stage
-stage-end z e p q = rw (p, q)
+-- Whether a test holds, and that it does not.
+pub dec_true : (b : Bool) → Dec (b ≡ true)
+dec_true true = yes refl
+dec_true false = no (λ e. never e refl)
 
--- And after a write.
-pub write_took : (n : ℕ) (z e : ℤ) → lt_z (pos 0) z ≡ true → n ≡ write_stage n z e
-unfolding write_stage
-write_took n z e p = rw p
+pub untrue : (b : Bool) → (b ≡ true → ⊥) → b ≡ false
+untrue true h = absurd (h refl)
+untrue false h = refl
 
-pub write-error : (n : ℕ) (z e : ℤ) → lt_z (pos 0) z ≡ false → lt_z z (pos 0) ≡ true → broken_stage n e ≡ write_stage n z e
-unfolding write_stage
-write-error n z e p q = rw (p, q)
+-- Whether bytes may come, and whether the text has ended.
+pub dec_reading : (s : Stage) → Dec (s ≡ Reading)
+dec_reading Reading = yes refl
+dec_reading s = no (λ e. apart e (λ n. omega arith))
 
-pub write-none : (n : ℕ) (z e : ℤ) → lt_z (pos 0) z ≡ false → lt_z z (pos 0) ≡ false → 5 ≡ write_stage n z e
-unfolding write_stage
-write-none n z e p q = rw (p, q)
+pub dec_ended : (s : Stage) → Dec (s ≡ Ended)
+dec_ended Ended = yes refl
+dec_ended s = no (λ e. apart e (λ n. omega arith))
+
+-- Tests of a stage, and which it is.
+pub reading_of : (s : Stage) → is_reading s ≡ true → s ≡ Reading
+reading_of Reading e = refl
+reading_of s e = never e refl
+
+pub ended_of : (s : Stage) → is_ended s ≡ true → s ≡ Ended
+ended_of Ended e = refl
+ended_of s e = never e refl
+
+pub unread_of : (s : Stage) → is_read s ≡ true → (s ≡ Reading → ⊥) → (s ≡ Ended → ⊥) → s ≡ Unread
+unread_of Reading e a b = absurd (a refl)
+unread_of Ended e a b = absurd (b refl)
+unread_of Unread e a b = refl
+unread_of s e a b = never e refl
+
+pub open_ended : (s : Stage) → stage_open s ≡ true → (s ≡ Reading → ⊥) → s ≡ Ended
+open_ended Reading e a = absurd (a refl)
+open_ended Ended e a = refl
+open_ended s e a = never e refl
+
+pub open_reading : (s : Stage) → stage_open s ≡ true → is_ended s ≡ false → s ≡ Reading
+open_reading Reading e n = refl
+open_reading Ended e n = never refl n
+open_reading s e n = never e refl
+
+-- An open stage is one of a read.
+pub open_read : (s : Stage) → stage_open s ≡ true → is_read s ≡ true
+open_read Reading e = refl
+open_read Ended e = refl
+open_read s e = never e refl
+
+-- Two tests, and both.
+pub both : (a b : Bool) → cond a b false ≡ true → (a ≡ true) × (b ≡ true)
+both true b e = (refl, e)
+both false b e = never e refl
+
+-- A whole line stays whole, and one that nothing has ended is as it was.
+either : (b : Bool) → cond b true true ≡ true
+either true = refl
+either false = refl
+
+pub last_whole : (s : Stage) (len : ℕ) → last_of true s len ≡ true
+unfolding last_of at_end
+last_whole Ended len = either (ltb 0 len)
+last_whole s len = refl
+
+pub last_open : (w : Bool) (s : Stage) (len : ℕ) → is_ended s ≡ false → last_of w s len ≡ w
+unfolding last_of
+last_open w Ended len e = never refl e
+last_open w s len e = refl
+
+-- What is counted has room.
+pub moved_room : (got : Result ℕ ℤ) (room : ℕ) → bytes_moved got room ≤ room
+unfolding bytes_moved
+moved_room (Ok n) room = omega arith
+moved_room (Err e) room = omega arith
 
 -- Where no bytes came none are counted.
-pub read_none : (z e : ℤ) (room : ℕ) → 1 ≤ stage_of z e → clamp_len z room ≡ 0
-read_none (pos n) e room h =
+pub read_none : (got : Result ℕ ℤ) (room : ℕ) → (stage_of got ≡ Reading → ⊥) → bytes_moved got room ≡ 0
+unfolding stage_of came_stage bytes_moved
+read_none (Ok n) room h =
     elim (dec_lt n 1) [
       | yes i ↦ omega arith
-      | no i ↦ absurd (omega (arith, stage-came (pos n) e (le-ltb n 0 (omega arith)) (le-ltb n 1 (omega arith))))
+      | no i ↦ absurd (h (rw (le-ltb n 1 (omega arith))))
     ]
-read_none (negsuc k) e room h = refl
+read_none (Err e) room h = refl
 
 -- There are no other stages after a read.
-error-most : (e : ℤ) → error_stage e ≤ 2
-unfolding error_stage
-error-most e = by (is_interrupt e) refl
-  where
-    by : (b : Bool) → is_interrupt e ≡ b → error_stage e ≤ 2
-    by true p = rw p (omega arith)
-    by false p = rw p (omega arith)
+came-read : (b : Bool) → is_read (cond b Ended Reading) ≡ true
+came-read true = refl
+came-read false = refl
 
-pub stage-most : (z e : ℤ) → stage_of z e ≤ 2
-stage-most (pos n) e =
-    elim (dec_lt n 1) [
-      | yes i ↦ omega (arith, stage-end (pos n) e (le-ltb n 0 (omega arith)) (lt-ltb n 1 i))
-      | no i ↦ omega (arith, stage-came (pos n) e (le-ltb n 0 (omega arith)) (le-ltb n 1 (omega arith)))
-    ]
-stage-most (negsuc k) e = omega (arith, stage-failed (negsuc k) e refl, error-most e)
+error-read : (b : Bool) → is_read (cond b Reading Unread) ≡ true
+error-read true = refl
+error-read false = refl
+
+pub stage-read : (got : Result ℕ ℤ) → is_read (stage_of got) ≡ true
+unfolding stage_of came_stage error_stage
+stage-read (Ok n) = came-read (ltb n 1)
+stage-read (Err e) = error-read (is_interrupt e)
 
 -- A write leaves the stage, or has failed and took nothing.
-pub write-stays : (n : ℕ) (z e : ℤ) → is_broken (write_stage n z e) ≡ false → write_stage n z e ≡ n
-unfolding write_stage broken_stage is_broken
-write-stays n (pos zero) e h = never refl h
-write-stays n (pos (suc k)) e h = rw (lt-ltb 0 (suc k) (omega arith))
-write-stays n (negsuc k) e h = by (is_interrupt e) refl
-  where
-    by : (b : Bool) → is_interrupt e ≡ b → write_stage n (negsuc k) e ≡ n
-    by true p = rw p
-    by false p = never refl (rw p at h)
+took-stays : (b : Bool) (s : Stage) → is_broken (cond b s Untaken) ≡ false → cond b s Untaken ≡ s
+took-stays true s h = refl
+took-stays false s h = never refl h
 
-pub write_nothing : (n : ℕ) (z e : ℤ) (room : ℕ) → is_broken n ≡ false → is_broken (write_stage n z e) ≡ true → clamp_len z room ≡ 0
-unfolding write_stage
-write_nothing n (pos zero) e room u h = omega arith
-write_nothing n (pos (suc k)) e room u h = never (rw (lt-ltb 0 (suc k) (omega arith)) at h) u
-write_nothing n (negsuc k) e room u h = refl
+error-stays : (b : Bool) (s : Stage) → is_broken (cond b s Unwritten) ≡ false → cond b s Unwritten ≡ s
+error-stays true s h = refl
+error-stays false s h = never refl h
 
-pub read-room : (z : ℤ) (room : ℕ) → clamp_len z room ≤ room
-read-room (pos k) room = omega arith
-read-room (negsuc k) room = omega arith
+pub write-stays : (s : Stage) (got : Result ℕ ℤ) → is_broken (write_stage s got) ≡ false → write_stage s got ≡ s
+unfolding write_stage broken_stage
+write-stays s (Ok n) h = took-stays (ltb 0 n) s h
+write-stays s (Err e) h = error-stays (is_interrupt e) s h
+
+pub write_nothing : (s : Stage) (got : Result ℕ ℤ) (room : ℕ) → is_broken s ≡ false → is_broken (write_stage s got) ≡ true → bytes_moved got room ≡ 0
+unfolding write_stage bytes_moved
+write_nothing s (Ok n) room u h =
+    elim (dec_lt 0 n) [
+      | yes i ↦ never (rw (lt-ltb 0 n i) at h) u
+      | no i ↦ omega arith
+    ]
+write_nothing s (Err e) room u h = refl

@@ -5,12 +5,14 @@ use native.Mathlib.Decide.{dec_lt}
 use mathlib.Core.Path.{◌≡◌, refl, ◌∙◌}
 use mathlib.Core.Bool.{Bool, true, false, cond}
 use lib.IntN.{ℤ}
-use lib.Dec.{eqb, ltb}
+use lib.Dec.{ltb}
 use borrow.Author.Tests.{lt-ltb, le-ltb, ltb-true}
-use Rattle.io.specs.Counts.{clamp_len}
+use Rattle.std.specs.Prelude.{Result}
+use Rattle.text_pull.specs.declared.Stage.{Stage}
+use Rattle.text_pull.specs.declared.Stage.TheVariants.{Unwritten, Untaken}
 use Rattle.text_pull.specs.declared.Flow.{Flow}
-use Rattle.text_pull.specs.Pull.{due_of, write_stage, put_of, Put, is_broken, left_of, last_stage, unwritten, wrote_of, gave_up, Wrote, Flushed}
-use Rattle.text_pull.proofs.Stages.{never, write-stays, write_nothing, read-room}
+use Rattle.text_pull.specs.Pull.{bytes_moved, due_of, write_stage, put_of, Put, is_broken, left_of, last_stage, unwritten, wrote_of, gave_up, Wrote, Flushed}
+use Rattle.text_pull.proofs.Stages.{never, write-stays, write_nothing, moved_room}
 
 -- of what waited so many bytes are taken; the stage is as it was, or a write failed and bytes are left
 pub record Writing (f g : Flow) : Type 0 where
@@ -59,12 +61,12 @@ left_of_lem f e = by (is_broken f.stage) refl
 
 -- One more call.
 put_on
-    : (f g : Flow) (got errno : ℤ) → Writing f g → (1 ≤ g.turns) × (1 ≤ g.made) × (is_broken g.stage ≡ false)
-    → Writing f (put_of g got errno) × ((put_of g got errno).turns < g.turns)
+    : (f g : Flow) (got : Result ℕ ℤ) → Writing f g → (1 ≤ g.turns) × (1 ≤ g.made) × (is_broken g.stage ≡ false)
+    → Writing f (put_of g got) × ((put_of g got).turns < g.turns)
 unfolding put_of
-put_on f g got errno x l =
-    let n = clamp_len got g.made in
-    let r : n ≤ g.made = read-room got g.made in
+put_on f g got x l =
+    let n = bytes_moved got g.made in
+    let r : n ≤ g.made = moved_room got g.made in
     let s : g.stage ≡ f.stage = x.going l.2 in (
       record {
         taken = x.taken + n;
@@ -72,8 +74,8 @@ put_on f g got errno x l =
         written = omega (arith, x.written);
         turns = omega (arith, x.turns);
         called = λ z. omega (arith, x.turns, l.0);
-        none = λ z. some (is_broken (write_stage g.stage got errno)) refl z ∙ s;
-        going = λ u. write-stays g.stage got errno u ∙ s;
+        none = λ z. some (is_broken (write_stage g.stage got)) refl z ∙ s;
+        going = λ u. write-stays g.stage got u ∙ s;
         len = x.len;
         filled = x.filled;
         at = x.at;
@@ -85,24 +87,34 @@ put_on f g got errno x l =
   where
     -- where nothing is left a write took bytes
     some
-        : (b : Bool) → is_broken (write_stage g.stage got errno) ≡ b → g.made - clamp_len got g.made ≡ 0
-        → write_stage g.stage got errno ≡ g.stage
-    some true w z = absurd (omega (arith, l.1, write_nothing g.stage got errno g.made l.2 w))
-    some false w z = write-stays g.stage got errno w
+        : (b : Bool) → is_broken (write_stage g.stage got) ≡ b → g.made - bytes_moved got g.made ≡ 0
+        → write_stage g.stage got ≡ g.stage
+    some true w z = absurd (omega (arith, l.1, write_nothing g.stage got g.made l.2 w))
+    some false w z = write-stays g.stage got w
 
 pub write_on : (f g h : Flow) → Writing f g → left_of g ≡ true → Put g h → Writing f h × (h.turns < g.turns)
-write_on f g h x e p = rw p.flow (put_on f g p.got p.errno x (left_of_lem g e))
+write_on f g h x e p = rw p.flow (put_on f g p.got x (left_of_lem g e))
+
+-- Where bytes are left: a write had an error, or none did.
+abbrev is_unwritten : Stage → Bool
+is_unwritten Unwritten = true
+is_unwritten other = false
+
+last-error : (s : Stage) → last_stage s ≡ cond (is_unwritten s) Unwritten Untaken
+unfolding last_stage
+last-error Unwritten = refl
+last-error s = refl
 
 -- After the last call.
 module _ (f g : Flow) (x : Writing f g) where
   abbrev error : Bool
-  error = eqb g.stage 3
+  error = is_unwritten g.stage
 
   some_left : 0 < g.made → unwritten g ≡ wrote_of f g.turns x.taken error
-  unfolding wrote_of last_stage
+  unfolding wrote_of
   some_left h =
-      let s : cond error 3 5 ≡ cond (ltb x.taken f.made) (cond error 3 5) f.stage =
-      rw (lt-ltb x.taken f.made (omega (arith, x.made))) in
+      let s : last_stage g.stage ≡ cond (ltb x.taken f.made) (cond error Unwritten Untaken) f.stage =
+      rw (lt-ltb x.taken f.made (omega (arith, x.made))) (last-error g.stage) in
       λ i. record {
         turns = g.turns;
         len = x.len i;
@@ -118,7 +130,7 @@ module _ (f g : Flow) (x : Writing f g) where
   none_left : g.made ≡ 0 → g ≡ wrote_of f g.turns x.taken error
   unfolding wrote_of
   none_left h =
-      let s : g.stage ≡ cond (ltb x.taken f.made) (cond error 3 5) f.stage = rw (le-ltb x.taken f.made (omega (arith, x.made))) (x.none h) in
+      let s : g.stage ≡ cond (ltb x.taken f.made) (cond error Unwritten Untaken) f.stage = rw (le-ltb x.taken f.made (omega (arith, x.made))) (x.none h) in
       λ i. record {
         turns = g.turns;
         len = x.len i;

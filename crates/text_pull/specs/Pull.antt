@@ -1,44 +1,67 @@
 -- A text pulled line by line, and what a program over one has come to.
-use Rattle.std.specs.Prelude.{ℕ, ◌+◌, ◌-◌, ◌≤◌, ◌<◌, ◌≡◌, Bool, true, false, cond, List, [], ◌∷◌, ◌++◌, ℤ, pos, negsuc, eqb, ltb, length, take, drop}
-use Rattle.std.specs.Int.Signed.{lt_z}
+use Rattle.std.specs.Prelude.{ℕ, ◌+◌, ◌-◌, min, ◌≤◌, ◌<◌, ◌≡◌, Bool, true, false, cond, List, [], ◌∷◌, ◌++◌, ℤ, pos, negsuc, eqb, ltb, length, take, drop, Option, Some, None, Result, Ok, Err}
 use Rattle.byte_scan.specs.Bytes.{index_of}
-use Rattle.io.specs.Counts.{clamp_len}
 use Rattle.text_feed.specs.declared.Place.{Place}
 use Rattle.text_stream.specs.Stream.{Machine, between, said, says_of, Written}
 use Rattle.text_pull.specs.declared.Flow.{Flow}
+use Rattle.text_pull.specs.declared.Stage.{Stage}
+use Rattle.text_pull.specs.declared.Stage.TheVariants.{Reading, Ended, Unread, Unwritten, Done, Untaken, Full}
 use Rattle.text_pull.specs.declared.Fault.{Fault}
-use Rattle.text_pull.specs.declared.Fault.TheVariants.{Nothing, Unread, Unwritten, Untaken, Unended}
+use Rattle.text_pull.specs.declared.Fault.TheVariants as fault
 
 abbrev pub flow_start : Flow
-flow_start = record { turns = 140737488355328; len = 0; filled = 0; at = 0; whole = 0; made = 0; stage = 0; read = 0; written = 0 }
+flow_start = record { turns = 140737488355328; len = 0; filled = 0; at = 0; whole = false; made = 0; stage = Reading; read = 0; written = 0 }
 
 -- the error that says that a signal interrupted the call
 unfoldable pub is_interrupt : ℤ → Bool
 is_interrupt (pos k) = eqb k 4
 is_interrupt (negsuc k) = false
 
--- the stage after a read: 0 bytes came, or a signal interrupted it; 1 the text has ended; 2 the read failed. 3 is after a write that
--- failed, 4 after all is printed, 5 after a write that took nothing, 6 where the buffer for a whole text is full
-unfoldable pub error_stage : ℤ → ℕ
-error_stage errno = cond (is_interrupt errno) 0 2
+-- how many bytes a call moved, with so much room; none where it had an error
+unfoldable pub bytes_moved : Result ℕ ℤ → ℕ → ℕ
+bytes_moved (Ok n) room = min n room
+bytes_moved (Err errno) room = 0
 
-unfoldable pub came_stage : ℤ → ℕ
-came_stage got = cond (lt_z got (pos 1)) 1 0
+-- the stage after a read: bytes came, or a signal interrupted it; or the text has ended; or the read failed
+unfoldable pub error_stage : ℤ → Stage
+error_stage errno = cond (is_interrupt errno) Reading Unread
 
-unfoldable pub stage_of : ℤ → ℤ → ℕ
-stage_of got errno = cond (lt_z got (pos 0)) (error_stage errno) (came_stage got)
+unfoldable pub came_stage : ℕ → Stage
+came_stage n = cond (ltb n 1) Ended Reading
+
+unfoldable pub stage_of : Result ℕ ℤ → Stage
+stage_of (Ok n) = came_stage n
+stage_of (Err errno) = error_stage errno
+
+-- whether bytes may come
+abbrev pub is_reading : Stage → Bool
+is_reading Reading = true
+is_reading other = false
+
+-- whether a stage is open: neither is all printed, nor has something failed
+abbrev pub stage_open : Stage → Bool
+stage_open Reading = true
+stage_open Ended = true
+stage_open other = false
+
+-- whether a read leads to it: bytes may come, the text has ended, or the read failed
+abbrev pub is_read : Stage → Bool
+is_read Reading = true
+is_read Ended = true
+is_read Unread = true
+is_read other = false
 
 -- what a read answered comes to, with so much room in the chunk
-unfoldable pub read_of : Flow → ℤ → ℤ → ℕ → Flow
-read_of f got errno room = record {
+unfoldable pub read_of : Flow → Result ℕ ℤ → ℕ → Flow
+read_of f got room = record {
   turns = f.turns;
   len = f.len;
-  filled = clamp_len got room;
+  filled = bytes_moved got room;
   at = 0;
   whole = f.whole;
   made = f.made;
-  stage = stage_of got errno;
-  read = f.read + clamp_len got room;
+  stage = stage_of got;
+  read = f.read + bytes_moved got room;
   written = f.written;
 }
 
@@ -52,9 +75,9 @@ pub record Refilled (f : Flow) (chunk : List ℕ) (g : Flow) (chunk' : List ℕ)
   pub rest : rest_of g chunk' ≡ rest_of f chunk ++ came
   pub read : g.read ≡ f.read + length came
   pub most : g.read ≤ f.read + length chunk
-  pub stage : g.stage ≤ 2
-  pub stays : f.stage ≡ 1 → g.stage ≡ 1
-  pub over : 1 ≤ g.stage → g.filled ≤ g.at
+  pub stage : is_read g.stage ≡ true
+  pub stays : f.stage ≡ Ended → g.stage ≡ Ended
+  pub over : (g.stage ≡ Reading → ⊥) → g.filled ≤ g.at
   pub at : g.at ≤ g.filled
   pub filled : g.filled ≤ length chunk
   pub turns : g.turns ≡ f.turns
@@ -62,19 +85,17 @@ pub record Refilled (f : Flow) (chunk : List ℕ) (g : Flow) (chunk' : List ℕ)
   pub made : g.made ≡ f.made
   pub written : g.written ≡ f.written
 
--- whether a program goes on: turns are left, and neither all is printed nor something failed
-abbrev pub stage_open : ℕ → Bool
-stage_open stage = ltb stage 2
-
+-- whether a program goes on: turns are left, and its stage is open
 unfoldable pub goes_on : Flow → Bool
 goes_on f = cond (ltb 0 f.turns) (stage_open f.stage) false
 
 -- a line is whole where a LF ended it, or the text did and it has bytes
-unfoldable pub at_end : ℕ → ℕ → ℕ
-at_end whole len = cond (ltb 0 len) 1 whole
+unfoldable pub at_end : Bool → ℕ → Bool
+at_end whole len = cond (ltb 0 len) true whole
 
-unfoldable pub last_of : ℕ → ℕ → ℕ → ℕ
-last_of whole stage len = cond (eqb stage 1) (at_end whole len) whole
+unfoldable pub last_of : Bool → Stage → ℕ → Bool
+last_of whole Ended len = at_end whole len
+last_of whole other len = whole
 
 -- where a feeding came to, by one turn
 unfoldable pub fed_of : Flow → Place → Flow
@@ -83,7 +104,7 @@ fed_of f p = record {
   len = p.len;
   filled = f.filled;
   at = p.at;
-  whole = last_of p.whole f.stage p.len;
+  whole = last_of (eqb p.whole 1) f.stage p.len;
   made = f.made;
   stage = f.stage;
   read = f.read;
@@ -92,10 +113,14 @@ fed_of f p = record {
 
 -- the event after a pull: a whole line; or, where there is none, the end
 abbrev pub is_line : Flow → Bool
-is_line f = eqb f.whole 1
+is_line f = f.whole
+
+abbrev pub is_ended : Stage → Bool
+is_ended Ended = true
+is_ended other = false
 
 abbrev pub is_end : Flow → Bool
-is_end f = eqb f.stage 1
+is_end f = is_ended f.stage
 
 -- one pull: of what was left of the chunk, and the bytes that came behind it, those up to a LF are taken; of the line at hand as many bytes
 -- are kept as the buffer has room for. The line is whole behind a LF, or where the text has ended and some are kept
@@ -105,15 +130,14 @@ pub record Pulled (f : Flow) (chunk line : List ℕ) (g : Flow) (chunk' line' : 
   pub plain : length bytes ≤ index_of 10 bytes
   pub kept : take g.len line' ≡ take (length line) (take f.len line ++ bytes)
   pub read : g.read ≡ f.read + length came
-  pub more : g.stage ≡ 0 → g.whole ≡ 0 → rest_of f chunk ++ came ≡ bytes ++ rest_of g chunk'
-  pub lf : g.stage ≡ 0 → g.whole ≡ 1 → rest_of f chunk ++ came ≡ bytes ++ (10 ∷ rest_of g chunk')
-  pub over : 1 ≤ g.stage → (rest_of f chunk ++ came ≡ []) × (bytes ≡ []) × (g.filled ≤ g.at)
-  pub none : g.stage ≡ 1 → g.whole ≡ 0 → g.len ≡ 0
-  pub some : g.stage ≡ 1 → g.whole ≡ 1 → 1 ≤ g.len
-  pub failed : g.stage ≡ 2 → g.whole ≡ 0
-  pub stage : g.stage ≤ 2
-  pub stays : f.stage ≡ 1 → g.stage ≡ 1
-  pub whole : g.whole ≤ 1
+  pub more : g.stage ≡ Reading → g.whole ≡ false → rest_of f chunk ++ came ≡ bytes ++ rest_of g chunk'
+  pub lf : g.stage ≡ Reading → g.whole ≡ true → rest_of f chunk ++ came ≡ bytes ++ (10 ∷ rest_of g chunk')
+  pub over : (g.stage ≡ Reading → ⊥) → (rest_of f chunk ++ came ≡ []) × (bytes ≡ []) × (g.filled ≤ g.at)
+  pub none : g.stage ≡ Ended → g.whole ≡ false → g.len ≡ 0
+  pub some : g.stage ≡ Ended → g.whole ≡ true → 1 ≤ g.len
+  pub failed : g.stage ≡ Unread → g.whole ≡ false
+  pub stage : is_read g.stage ≡ true
+  pub stays : f.stage ≡ Ended → g.stage ≡ Ended
   pub most : g.read ≤ f.read + length chunk
   pub at : g.at ≤ g.filled
   pub filled : g.filled ≤ length chunk
@@ -129,9 +153,9 @@ took_of f made true = record {
   len = 0;
   filled = f.filled;
   at = f.at;
-  whole = 0;
+  whole = false;
   made = made;
-  stage = 4;
+  stage = Done;
   read = f.read;
   written = f.written;
 }
@@ -140,7 +164,7 @@ took_of f made false = record {
   len = 0;
   filled = f.filled;
   at = f.at;
-  whole = 0;
+  whole = false;
   made = made;
   stage = f.stage;
   read = f.read;
@@ -156,7 +180,7 @@ closed_of f made = record {
   at = f.at;
   whole = f.whole;
   made = made;
-  stage = 4;
+  stage = Done;
   read = f.read;
   written = f.written;
 }
@@ -174,58 +198,47 @@ pub record Rested (text : List ℕ) (f : Flow) (out : List ℕ) (g : Flow) (out'
 
 -- whether what waits is to be written: the chunk is used up, less than `most` of the room is left, or no more lines come
 unfoldable pub due_of : Flow → ℕ → ℕ → Bool
-due_of f room most = cond (ltb 0 f.stage) true (cond (ltb f.at f.filled) (ltb (room - f.made) most) true)
+due_of f room most = cond (is_reading f.stage) (cond (ltb f.at f.filled) (ltb (room - f.made) most) true) true
 
 -- the stage after a write: one that took bytes, or that a signal interrupted, leaves it; else the write failed, with an error or without
-unfoldable pub broken_stage : ℕ → ℤ → ℕ
-broken_stage stage errno = cond (is_interrupt errno) stage 3
+unfoldable pub broken_stage : Stage → ℤ → Stage
+broken_stage stage errno = cond (is_interrupt errno) stage Unwritten
 
-unfoldable pub write_stage : ℕ → ℤ → ℤ → ℕ
-write_stage stage got errno = cond (lt_z (pos 0) got) stage (cond (lt_z got (pos 0)) (broken_stage stage errno) 5)
-
--- so many of the bytes that wait are written
-abbrev pub counted_of : Flow → ℕ → Flow
-counted_of f n = record {
-  turns = f.turns;
-  len = f.len;
-  filled = f.filled;
-  at = f.at;
-  whole = f.whole;
-  made = f.made - n;
-  stage = f.stage;
-  read = f.read;
-  written = f.written + n;
-}
+unfoldable pub write_stage : Stage → Result ℕ ℤ → Stage
+write_stage stage (Ok n) = cond (ltb 0 n) stage Untaken
+write_stage stage (Err errno) = broken_stage stage errno
 
 -- what one write of all that waits comes to
-unfoldable pub put_of : Flow → ℤ → ℤ → Flow
-put_of f got errno = record {
+unfoldable pub put_of : Flow → Result ℕ ℤ → Flow
+put_of f got = record {
   turns = f.turns - 1;
   len = f.len;
   filled = f.filled;
   at = f.at;
   whole = f.whole;
-  made = f.made - clamp_len got f.made;
-  stage = write_stage f.stage got errno;
+  made = f.made - bytes_moved got f.made;
+  stage = write_stage f.stage got;
   read = f.read;
-  written = f.written + clamp_len got f.made;
+  written = f.written + bytes_moved got f.made;
 }
 
 pub record Put (f g : Flow) : Type 0 where
-  pub got : ℤ
-  pub errno : ℤ
-  pub flow : g ≡ put_of f got errno
+  pub got : Result ℕ ℤ
+  pub flow : g ≡ put_of f got
 
 -- whether another write is to be made: bytes wait, none failed, and turns are left
-unfoldable pub is_broken : ℕ → Bool
-is_broken stage = cond (eqb stage 3) true (eqb stage 5)
+abbrev pub is_broken : Stage → Bool
+is_broken Unwritten = true
+is_broken Untaken = true
+is_broken other = false
 
 unfoldable pub left_of : Flow → Bool
 left_of f = cond (is_broken f.stage) false (cond (ltb 0 f.turns) (ltb 0 f.made) false)
 
 -- a program that has failed to write: a write had an error, or none took what waits
-unfoldable pub last_stage : ℕ → ℕ
-last_stage stage = cond (eqb stage 3) 3 5
+unfoldable pub last_stage : Stage → Stage
+last_stage Unwritten = Unwritten
+last_stage other = Untaken
 
 abbrev pub unwritten : Flow → Flow
 unwritten f = record {
@@ -250,7 +263,7 @@ wrote_of f turns taken error = record {
   at = f.at;
   whole = f.whole;
   made = 0;
-  stage = cond (ltb taken f.made) (cond error 3 5) f.stage;
+  stage = cond (ltb taken f.made) (cond error Unwritten Untaken) f.stage;
   read = f.read;
   written = f.written + taken;
 }
@@ -299,56 +312,59 @@ module _ {S : Type 0} (M : Machine S) where
   -- one event answered: a whole line, the end, or nothing
   pub record Answered (stop : S → Bool) (most : ℕ) (f : Flow) (s : S) (line out : List ℕ) (g : Flow) (s' : S) (out' : List ℕ) : Type 0 where
     pub whole
-        : f.whole ≡ 1
+        : f.whole ≡ true
         → (s' ≡ M.line s (take f.len line)) × Written out f.made (M.text s (take f.len line)) g.made out'
         × (g ≡ took_of f g.made (stop s'))
-    pub end : f.whole ≡ 0 → f.stage ≡ 1 → Written out f.made (M.end s) g.made out' × (g ≡ closed_of f g.made)
-    pub none : f.whole ≡ 0 → (f.stage ≡ 1 → ⊥) → (g ≡ f) × (s' ≡ s) × (out' ≡ out)
+    pub end : f.whole ≡ false → f.stage ≡ Ended → Written out f.made (M.end s) g.made out' × (g ≡ closed_of f g.made)
+    pub none : f.whole ≡ false → (f.stage ≡ Ended → ⊥) → (g ≡ f) × (s' ≡ s) × (out' ≡ out)
     pub made : g.made ≤ f.made + most
 
   -- a program that has left its loop: all is printed; or a read failed, and its whole lines are answered, a line that it cut off is not; or
   -- a write failed, or took nothing; or its turns are used up
   pub record Ran (s₀ : S) (f : Flow) : Type 0 where
-    pub done : f.stage ≡ 4 → Told (says_of M s₀) f
-    pub unread : f.stage ≡ 2 → Told (said M (λ l. l) (between s₀)) f
-    pub unwritten : f.stage ≡ 3 → Part (says_of M s₀) f
-    pub untaken : f.stage ≡ 5 → Part (says_of M s₀) f
-    pub turns : f.stage ≤ 1 → f.turns ≡ 0
-    pub stage : f.stage ≤ 5
+    pub done : f.stage ≡ Done → Told (says_of M s₀) f
+    pub unread : f.stage ≡ Unread → Told (said M (λ l. l) (between s₀)) f
+    pub unwritten : f.stage ≡ Unwritten → Part (says_of M s₀) f
+    pub untaken : f.stage ≡ Untaken → Part (says_of M s₀) f
+    pub turns : stage_open f.stage ≡ true → f.turns ≡ 0
+    pub stage : f.stage ≡ Full → ⊥
 
--- a whole text read into a lent buffer: it has ended within it (1), or fills it (6); or a read failed (2), or the reads are used up (0)
+-- a whole text read into a lent buffer: it has ended within it, or fills it; or a read failed, or the reads are used up
 pub record Slurped (room : ℕ) (f : Flow) : Type 0 where
-  pub stage : f.stage ≤ 6
-  pub within : f.stage ≤ 2 → f.filled < room
-  pub full : 3 ≤ f.stage → (f.stage ≡ 6) × (f.filled ≡ room)
-  pub turns : f.stage ≡ 0 → f.turns ≡ 0
+  pub within : is_read f.stage ≡ true → f.filled < room
+  pub full : is_read f.stage ≡ false → (f.stage ≡ Full) × (f.filled ≡ room)
+  pub turns : f.stage ≡ Reading → f.turns ≡ 0
   pub read : f.read ≡ f.filled
-  pub whole : f.whole ≡ 0
+  pub whole : f.whole ≡ false
   pub made : f.made ≡ 0
   pub written : f.written ≡ 0
 
+-- whether the buffer was too short
+abbrev pub is_full : Stage → Bool
+is_full Full = true
+is_full other = false
+
 -- one read of what is missing
-unfoldable pub more_of : Flow → ℤ → ℤ → ℕ → Flow
-more_of f got errno room = record {
+unfoldable pub more_of : Flow → Result ℕ ℤ → ℕ → Flow
+more_of f got room = record {
   turns = f.turns - 1;
   len = f.len;
-  filled = f.filled + clamp_len got room;
+  filled = f.filled + bytes_moved got room;
   at = f.at;
   whole = f.whole;
   made = f.made;
-  stage = stage_of got errno;
-  read = f.read + clamp_len got room;
+  stage = stage_of got;
+  read = f.read + bytes_moved got room;
   written = f.written;
 }
 
 pub record More (room : ℕ) (f g : Flow) : Type 0 where
-  pub got : ℤ
-  pub errno : ℤ
-  pub flow : g ≡ more_of f got errno room
+  pub got : Result ℕ ℤ
+  pub flow : g ≡ more_of f got room
 
 -- whether more may come
 unfoldable pub lacks_of : Flow → ℕ → Bool
-lacks_of f room = cond (ltb 0 f.turns) (cond (ltb 0 f.stage) false (ltb f.filled room)) false
+lacks_of f room = cond (ltb 0 f.turns) (cond (is_reading f.stage) (ltb f.filled room) false) false
 
 -- after the last read
 unfoldable pub settled_of : Flow → ℕ → Flow
@@ -359,14 +375,22 @@ settled_of f room = record {
   at = f.at;
   whole = f.whole;
   made = f.made;
-  stage = cond (eqb f.filled room) 6 f.stage;
+  stage = cond (eqb f.filled room) Full f.stage;
   read = f.read;
   written = f.written;
 }
 
--- what is said of a program that has left its loop
-unfoldable pub write_fault : ℕ → Fault
-write_fault stage = cond (eqb stage 3) Unwritten (cond (eqb stage 5) Untaken Nothing)
+-- what is said of a program that has left its loop, if something
+unfoldable pub write_fault : Stage → Option Fault
+write_fault Unwritten = Some fault.Unwritten
+write_fault Untaken = Some fault.Untaken
+write_fault other = None
 
-unfoldable pub fault_of : Flow → Fault
-fault_of f = cond (ltb f.stage 2) Unended (cond (eqb f.stage 2) Unread (write_fault f.stage))
+unfoldable pub stage_fault : Stage → Option Fault
+stage_fault Reading = Some fault.Unended
+stage_fault Ended = Some fault.Unended
+stage_fault Unread = Some fault.Unread
+stage_fault other = write_fault other
+
+abbrev pub fault_of : Flow → Option Fault
+fault_of f = stage_fault f.stage

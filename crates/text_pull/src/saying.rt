@@ -11,10 +11,9 @@ fn say(rt: &(impl Eprint + Alloc), words: &str, errno: i32) {
 
 // Says words on standard error, and behind them a reason, without its number.
 fn say_why(rt: &impl Eprint, words: &str, reason: &str) {
-    let why = match reason.split_once(" (os error ") {
-        Some((why, _)) => why,
-        None => reason,
-    };
+    let why = reason
+        .split_once(" (os error ")
+        .map_or(reason, |(why, _)| why);
     print_why(rt, words, why);
 }
 

@@ -1,70 +1,47 @@
 // Writing what was printed: when, and until all of it is taken.
 ghost use Rattle.std.specs.Prelude.{◌≡◌, ◌+◌, ◌≤◌, ◌<◌, length};
-ghost use Rattle.text_pull.specs.Pull.{due_of, broken_stage, write_stage, counted_of, put_of, Put, is_broken, left_of, last_stage, gave_up, Wrote, Flushed};
+ghost use Rattle.text_pull.specs.Pull.{due_of, write_stage, put_of, Put, is_broken, left_of, last_stage, gave_up, Wrote, Flushed};
 
-use crate::{Ends, Flow};
+use crate::{Ends, Flow, Stage};
 use std::io::Write;
 
 // Whether what waits is to be written: the chunk is used up, or less than `most` of the room is left, or no more lines come.
+#[tactic(auto, unfolding(crate::specs::Pull::due_of))]
 fn is_due(flow: Flow, room: usize, most: usize) -> bool
     requires { flow.made ≤ room }
     ensures { result ≡ due_of flow room most }
 {
-    if 0 < flow.stage {
-        return true;
-    }
-    if flow.at < flow.filled {
-        return room - flow.made < most;
-    }
-    true
+    !matches!(flow.stage, Stage::Reading) || flow.filled <= flow.at || room - flow.made < most
 }
 
-// The stage after a write with an error: an interrupted one leaves that before it, so that it is made again.
-fn broken_stage(before: u64, errno: i32) -> u64
-    ensures { result ≡ broken_stage before errno }
+// The stage after a write: one that took bytes leaves it, so that the next goes on behind them, and an interrupted one, so that it is made
+// again; one that took nothing and has no error is a failure of its own.
+#[tactic(auto, unfolding(crate::specs::Pull::write_stage, crate::specs::Pull::broken_stage))]
+fn write_stage(stage: Stage, got: Result<usize, i32>) -> Stage
+    ensures { result ≡ write_stage stage got }
 {
-    if crate::is_interrupt(errno) {
-        return before;
+    match got {
+        Ok(0) => Stage::Untaken,
+        Ok(_) => stage,
+        Err(errno) if crate::is_interrupt(errno) => stage,
+        Err(_) => Stage::Unwritten,
     }
-    crate::UNWRITTEN
-}
-
-// The stage after a write that answered `got`: one that took bytes leaves it, so that the next goes on behind them; one that took nothing
-// and has no error is a failure of its own.
-fn write_stage(stage: u64, got: isize, errno: i32) -> u64
-    ensures { result ≡ write_stage stage got errno }
-{
-    if got > 0 {
-        return stage;
-    }
-    if got < 0 {
-        return broken_stage(stage, errno);
-    }
-    crate::UNTAKEN
-}
-
-// Counts so many of the bytes that wait as written.
-fn counted(flow: Flow, n: usize) -> Flow
-    requires { (n ≤ flow.made) × (flow.written + flow.made < 18446744073709551616) }
-    ensures { result ≡ counted_of flow n }
-{
-    let left = flow.made - n;
-    let mut after = flow;
-    after.made = left;
-    after.written = flow.written + n as u64;
-    after
 }
 
 // Takes in what a write of all that waits answered: what it took is written.
-fn wrote(flow: Flow, got: isize, errno: i32, words: &[u8]) -> Flow
-    requires { (1 ≤ flow.turns) × (flow.made ≡ length words.now) × (flow.written + flow.made < 18446744073709551616) }
-    ensures { result ≡ put_of flow got errno }
+#[tactic(auto, using(crate::proofs::Stages::moved_room), unfolding(crate::specs::Pull::put_of))]
+fn wrote(flow: Flow, got: Result<usize, i32>) -> Flow
+    requires { (1 ≤ flow.turns) × (flow.written + flow.made < 18446744073709551616) }
+    ensures { result ≡ put_of flow got }
 {
-    let n = io::count(got, words);
-    let mut after = counted(flow, n);
-    after.turns = flow.turns - 1;
-    after.stage = write_stage(flow.stage, got, errno);
-    after
+    let n = crate::bytes_moved(got, flow.made);
+    Flow {
+        turns: flow.turns - 1,
+        made: flow.made - n,
+        stage: write_stage(flow.stage, got),
+        written: flow.written + n as u64,
+        ..flow
+    }
 }
 
 // Writes all that waits, by one call.
@@ -72,55 +49,48 @@ fn put<R, W: Write>(ends: &mut Ends<R, W>, flow: Flow, words: &[u8]) -> Flow
     requires { (1 ≤ flow.turns) × (flow.made ≡ length words.now) × (flow.written + flow.made < 18446744073709551616) }
     ensures { Put flow result }
 {
-    let got = crate::write(ends, words);
-    let errno = crate::errno(ends);
-    wrote(flow, got, errno, words)
+    wrote(flow, crate::write(ends, words))
 }
 
 // Whether a write failed, with an error or without.
-fn is_broken(stage: u64) -> bool
+fn is_broken(stage: Stage) -> bool
     ensures { result ≡ is_broken stage }
 {
-    if stage == crate::UNWRITTEN {
-        return true;
-    }
-    stage == crate::UNTAKEN
+    matches!(stage, Stage::Unwritten | Stage::Untaken)
 }
 
 // Whether another call is to be made: bytes wait, no write failed, and turns are left.
+#[tactic(auto, unfolding(crate::specs::Pull::left_of))]
 fn is_left(flow: Flow) -> bool
     ensures { result ≡ left_of flow }
 {
-    if is_broken(flow.stage) {
-        return false;
-    }
-    if 0 < flow.turns {
-        return 0 < flow.made;
-    }
-    false
+    !is_broken(flow.stage) && 0 < flow.turns && 0 < flow.made
 }
 
 // The stage where bytes still wait after the last call: a write failed, or none took them.
-fn last_stage(stage: u64) -> u64
+#[tactic(auto, unfolding(crate::specs::Pull::last_stage))]
+fn last_stage(stage: Stage) -> Stage
     ensures { result ≡ last_stage stage }
 {
-    if stage == crate::UNWRITTEN {
-        return crate::UNWRITTEN;
+    match stage {
+        Stage::Unwritten => stage,
+        _ => Stage::Untaken,
     }
-    crate::UNTAKEN
 }
 
 // After the last call: where bytes still wait the program has failed.
+#[tactic(auto, unfolding(crate::specs::Pull::gave_up))]
 fn give_up(flow: Flow) -> Flow
     ensures { result ≡ gave_up flow }
 {
-    let mut after = flow;
     if 0 < flow.made {
-        after.made = 0;
-        after.stage = last_stage(flow.stage);
-        return after;
+        return Flow {
+            made: 0,
+            stage: last_stage(flow.stage),
+            ..flow
+        };
     }
-    after
+    flow
 }
 
 // Writes all that waits: a call that took a part is followed by one for the rest, an interrupted one is made again.
@@ -130,6 +100,7 @@ fn write_out<R, W: Write>(ends: &mut Ends<R, W>, flow: Flow, out: &[u8]) -> Flow
 {
     let end = flow.made;
     let mut after = flow;
+    // no `for`: a call takes as many bytes as it will
     while is_left(after) {
         let from = end - after.made;
         after = put(ends, after, &out[from..end]);

@@ -5,12 +5,12 @@ use mathlib.Core.Path.{◌≡◌, refl, sym, ap, ◌∙◌}
 use mathlib.Core.Bool.{Bool, true, false}
 use mathlib.Core.List.{List, []}
 use lib.ListN.{take}
-use borrow.Author.Tests.{eqb-true, eqb-false}
 use Rattle.byte_parts.proofs.Part.{put_zero}
 use Rattle.text_stream.specs.Stream.{Machine, Written}
 use Rattle.text_stream.proofs.Prints.{written_none}
 use Rattle.text_pull.specs.declared.Flow.{Flow}
-use Rattle.text_pull.specs.Pull.{is_line, is_end, took_of, closed_of, rest_text, rested_of, Rested, Answered}
+use Rattle.text_pull.proofs.Stages.{never, ended_of}
+use Rattle.text_pull.specs.Pull.{is_ended, is_line, is_end, took_of, closed_of, rest_text, rested_of, Rested, Answered}
 
 took-made : (f : Flow) (k : ℕ) (b : Bool) → (took_of f k b).made ≡ k
 took-made f k true = refl
@@ -23,12 +23,11 @@ module _ {S : Type 0} (M : Machine S) (stop : S → Bool) (most : ℕ) {f : Flow
       → Written out f.made (M.text s (take f.len line)) k out' → k ≤ f.made + most → b ≡ stop s' → h ≡ took_of f k b
       → Answered M stop most f s line out h s' out'
   answer-line {h} {k = k} {b} i e p m d q =
-      let w = eqb-true f.whole 1 i in
       let n : h.made ≡ k = ap (λ (r : Flow). r.made) q ∙ took-made f k b in
       record {
         whole = λ x. (e, rw n p, q ∙ ap (λ (j : ℕ). took_of f j b) (sym n) ∙ ap (took_of f h.made) d);
-        end = λ x y. absurd (omega arith);
-        none = λ x y. absurd (omega arith);
+        end = λ x y. never i x;
+        none = λ x y. never i x;
         made = omega arith;
       }
 
@@ -41,14 +40,14 @@ module _ {S : Type 0} (M : Machine S) (stop : S → Bool) (most : ℕ) {f : Flow
     where
       by : (b : Bool) → is_end f ≡ b → Answered M stop most f s line out h s out'
       by true e = record {
-        whole = λ x. absurd (eqb-false f.whole 1 i x);
+        whole = λ x. never x i;
         end = λ x y. (rw e at r.words, rw e at r.flow);
-        none = λ x y. absurd (y (eqb-true f.stage 1 e));
+        none = λ x y. absurd (y (ended_of f.stage e));
         made = m;
       }
       by false e = record {
-        whole = λ x. absurd (eqb-false f.whole 1 i x);
-        end = λ x y. absurd (eqb-false f.stage 1 e y);
+        whole = λ x. never x i;
+        end = λ x y. never (ap is_ended y) e;
         none = λ x y. (rw e at r.flow, refl, rw e at r.words.bytes ∙ put_zero out f.made []);
         made = m;
       }

@@ -1,7 +1,7 @@
 -- What may be written, what a flush leaves, and what a program has come to where its loop ends, for any machine. Assumes nothing.
 use Prim.Native.Nat.{ℕ, ◌+◌, ◌≤◌, ◌<◌}
 use native.Mathlib.Omega.{arith}
-use native.Mathlib.Decide.{ℕ_discrete, dec_lt}
+use native.Mathlib.Decide.{dec_lt}
 use mathlib.Core.Path.{◌≡◌, refl, sym, ap, ◌∙◌}
 use mathlib.Core.Bool.{Bool, true, false}
 use mathlib.Core.List.{List, [], ◌++◌, append-nil, append_assoc}
@@ -11,10 +11,13 @@ use borrow.Author.Tests.{lt-ltb, le-ltb}
 use Rattle.text_stream.specs.Stream.{Machine, between, fed, said, ended, says_of, Blind}
 use Rattle.text_stream.proofs.Whole.{keeps_first, fed-append, said-append, whole}
 use Rattle.text_pull.specs.declared.Flow.{Flow}
-use Rattle.text_pull.specs.Pull.{flow_start, due_of, wrote_of, Flushed, Next, Ran}
+use Rattle.text_pull.specs.declared.Stage.{Stage}
+use Rattle.text_pull.specs.declared.Stage.TheVariants.{Reading, Ended, Unread, Done, Full}
+use Rattle.text_pull.specs.Pull.{flow_start, is_broken, stage_open, due_of, wrote_of, Flushed, Next, Ran}
 use Rattle.text_turns.proofs.Uncut.{said_uncut}
 use Rattle.text_turns.specs.Turn.{Spoken, After, Roomy}
-use Rattle.text_turns.proofs.Turns.{two, speak_on}
+use Rattle.text_pull.proofs.Stages.{never}
+use Rattle.text_turns.proofs.Turns.{speak_on}
 use Rattle.text_turns.proofs.Numbers.{broken_stage_lem}
 
 -- What waits is what is printed next.
@@ -49,33 +52,23 @@ module _ {S : Type 0} (M : Machine S) (cap : ℕ) (s₀ : S) (some : 1 ≤ cap) 
       (append_assoc (said M (take cap) (between s₀) past) (said M (take cap) m rest) (ended M (fed M (take cap) m rest))))
 
   module _ (f : Flow) (s : S) (line chunk out : List ℕ) (x : After M cap s₀ f s line chunk out) where
-    pub next-after : f.stage ≤ 4 → (f.stage ≡ 3 → ⊥) → Next (says_of M s₀) f (take f.made out)
-    next-after h u =
-        elim (ℕ_discrete f.stage 0) [
-          | yes i ↦
-              let y = x.going i in
-              next-spoken M s₀ _ _ _ f out y.spoken (front y.past _)
-          | no i ↦
-              elim (ℕ_discrete f.stage 1) [
-                | yes j ↦ let y = x.closing j in next-spoken M s₀ y.words (M.end s) y.text f out y.spoken y.rest
-                | no j ↦
-                    elim (dec_lt f.stage 3) [
-                      | yes k ↦
-                          let y = x.unread (two f.stage (omega arith) i j) in
-                          next-spoken M s₀ _ _ _ f out y.spoken (whole M (take cap) (keeps_first cap some) B s₀ y.text)
-                      | no k ↦
-                          elim (dec_lt f.stage 4) [
-                            | yes l ↦ absurd (u (omega arith))
-                            | no l ↦
-                                let y = x.done (omega arith) in
-                                next-spoken M s₀ (says_of M s₀ y.text) [] y.text f out y.spoken (append-nil (says_of M s₀ y.text))
-                          ]
-                    ]
-              ]
-        ]
+    pub next-after : (f.stage ≡ Full → ⊥) → is_broken f.stage ≡ false → Next (says_of M s₀) f (take f.made out)
+    next-after h u = by f.stage refl
+      where
+        by : (e : Stage) → f.stage ≡ e → Next (says_of M s₀) f (take f.made out)
+        by Reading i = let y = x.going i in next-spoken M s₀ _ _ _ f out y.spoken (front y.past _)
+        by Ended i = let y = x.closing i in next-spoken M s₀ y.words (M.end s) y.text f out y.spoken y.rest
+        by Unread i =
+            let y = x.unread i in
+            next-spoken M s₀ _ _ _ f out y.spoken (whole M (take cap) (keeps_first cap some) B s₀ y.text)
+        by Done i =
+            let y = x.done i in
+            next-spoken M s₀ (says_of M s₀ y.text) [] y.text f out y.spoken (append-nil (says_of M s₀ y.text))
+        by Full i = absurd (h i)
+        by e i = never (ap is_broken i) u
 
     wrote-all
-        : (turns taken : ℕ) (error : Bool) → f.stage ≤ 4 → (f.stage ≡ 3 → ⊥) → f.made ≤ taken → taken ≤ f.made
+        : (turns taken : ℕ) (error : Bool) → (f.stage ≡ Full → ⊥) → is_broken f.stage ≡ false → f.made ≤ taken → taken ≤ f.made
         → After M cap s₀ (wrote_of f turns taken error) s line chunk out
     unfolding wrote_of
     wrote-all turns taken error i u h g =
@@ -83,13 +76,13 @@ module _ {S : Type 0} (M : Machine S) (cap : ℕ) (s₀ : S) (some : 1 ≤ cap) 
           going = λ z. let y = x.going z in record { past = y.past; machine = y.machine; spoken = speak_on y.spoken refl (omega arith) refl };
           closing = λ z. let y = x.closing z in record { text = y.text; words = y.words; spoken = speak_on y.spoken refl (omega arith) refl; rest = y.rest };
           unread = λ z. let y = x.unread z in record { text = y.text; spoken = speak_on y.spoken refl (omega arith) refl };
-          part = λ z. absurd (u z);
+          part = λ z. never (ap is_broken z) u;
           done = λ z. let y = x.done z in record { text = y.text; spoken = speak_on y.spoken refl (omega arith) refl };
-          untaken = λ z. absurd (omega arith);
+          untaken = λ z. never (ap is_broken z) u;
         }
 
     wrote-part
-        : (turns taken : ℕ) (error : Bool) → f.stage ≤ 4 → (f.stage ≡ 3 → ⊥) → f.made ≤ length out → taken < f.made
+        : (turns taken : ℕ) (error : Bool) → (f.stage ≡ Full → ⊥) → is_broken f.stage ≡ false → f.made ≤ length out → taken < f.made
         → After M cap s₀ (wrote_of f turns taken error) s line chunk out
     unfolding wrote_of
     wrote-part turns taken error h u m i =
@@ -97,16 +90,16 @@ module _ {S : Type 0} (M : Machine S) (cap : ℕ) (s₀ : S) (some : 1 ≤ cap) 
         let e = broken_stage_lem error in
         let w : f.written + taken ≤ length (says_of M s₀ y.text) = omega (arith, y.fits, length-take-le f.made out m) in
         rw (lt-ltb taken f.made i) record {
-          going = λ z. absurd (omega (arith, e.0));
-          closing = λ z. absurd (omega (arith, e.0));
-          unread = λ z. absurd (omega (arith, e.0));
+          going = λ z. never e (ap is_broken z);
+          closing = λ z. never e (ap is_broken z);
+          unread = λ z. never e (ap is_broken z);
           part = λ z. record { text = y.text; read = y.read; written = w };
-          done = λ z. absurd (e.2 z);
+          done = λ z. never e (ap is_broken z);
           untaken = λ z. record { text = y.text; read = y.read; written = w };
         }
 
     pub flushed
-        : {most room : ℕ} (k : Flow) → f.stage ≤ 4 → (f.stage ≡ 3 → ⊥) → f.made ≤ length out → Flushed most room f k → After M cap s₀ k s line chunk out
+        : {most room : ℕ} (k : Flow) → (f.stage ≡ Full → ⊥) → is_broken f.stage ≡ false → f.made ≤ length out → Flushed most room f k → After M cap s₀ k s line chunk out
     flushed {most} {room} k h u m w = by (due_of f room most) refl
       where
         by : (b : Bool) → due_of f room most ≡ b → After M cap s₀ k s line chunk out
@@ -119,16 +112,16 @@ module _ {S : Type 0} (M : Machine S) (cap : ℕ) (s₀ : S) (some : 1 ≤ cap) 
         by false e = rw (w.wait e) x
 
     -- The loop is left.
-    pub ran : {chunks lines room most : ℕ} → Roomy chunks lines room most f → (f.stage ≤ 1 → f.turns ≡ 0) → Ran M s₀ f
+    pub ran : {chunks lines room most : ℕ} → Roomy chunks lines room most f → (stage_open f.stage ≡ true → f.turns ≡ 0) → Ran M s₀ f
     ran r t = record {
-      done = λ z. let y = x.done z in record { text = y.text; read = y.spoken.read; written = omega (arith, y.spoken.count, r.quiet (omega arith)) };
+      done = λ z. let y = x.done z in record { text = y.text; read = y.spoken.read; written = omega (arith, y.spoken.count, r.quiet (ap stage_open z)) };
       unread =
           λ z.
           let y = x.unread z in
           record {
             text = y.text;
             read = y.spoken.read;
-            written = rw (← said_uncut M (take cap) (keeps_first cap some) B s₀ y.text) (omega (arith, y.spoken.count, r.quiet (omega arith)));
+            written = rw (← said_uncut M (take cap) (keeps_first cap some) B s₀ y.text) (omega (arith, y.spoken.count, r.quiet (ap stage_open z)));
           };
       unwritten = x.part;
       untaken = x.untaken;
@@ -138,4 +131,4 @@ module _ {S : Type 0} (M : Machine S) (cap : ℕ) (s₀ : S) (some : 1 ≤ cap) 
 
 -- A program that has done nothing does not keep its contract.
 pub idle-refused : {S : Type 0} (M : Machine S) (s₀ : S) → Ran M s₀ flow_start → ⊥
-idle-refused M s₀ r = omega (arith, r.turns (omega arith))
+idle-refused M s₀ r = omega (arith, r.turns refl)

@@ -2,25 +2,28 @@
 -- Assumes nothing.
 use Prim.Native.Nat.{ℕ, ◌+◌, ◌*◌, ◌-◌, ◌≤◌, ◌<◌}
 use native.Mathlib.Omega.{arith}
-use native.Mathlib.Decide.{ℕ_discrete, dec_lt}
+use native.Mathlib.Decide.{dec_lt}
 use mathlib.Core.Path.{◌≡◌, refl, ap, ◌∙◌}
 use mathlib.Core.Bool.{Bool, true, false, cond}
 use mathlib.Core.List.{List}
 use lib.ListN.{length}
 use borrow.Author.Tests.{lt-ltb, le-ltb, ltb-true, ltb-false}
+use lib.Dec.{ltb}
 use Rattle.text_stream.specs.Stream.{Machine}
 use Rattle.text_pull.specs.declared.Flow.{Flow}
-use Rattle.text_pull.specs.Pull.{flow_start, Pulled, goes_on, took_of, closed_of, due_of, wrote_of, Wrote, Flushed, Answered}
-use Rattle.text_pull.proofs.Stages.{never}
+use Rattle.text_pull.specs.declared.Stage.{Stage}
+use Rattle.text_pull.specs.declared.Stage.TheVariants.{Reading, Ended, Unwritten, Untaken, Full}
+use Rattle.text_pull.specs.Pull.{flow_start, is_read, is_broken, is_reading, stage_open, Pulled, goes_on, took_of, closed_of, due_of, wrote_of, Wrote, Flushed, Answered}
+use Rattle.text_pull.proofs.Stages.{never, apart, both, dec_true, untrue, dec_ended, dec_reading}
+use Rattle.text_turns.proofs.Turns.{ended_over}
 use Rattle.text_turns.specs.Turn.{Roomy}
-use Rattle.text_turns.proofs.Turns.{zero_of}
 
 -- a program's numbers ahead of a flush
 pub record Made (chunk cap room : ℕ) (f : Flow) : Type 0 where
-  pub stage : f.stage ≤ 4
-  pub unbroken : f.stage ≡ 3 → ⊥
-  pub over : f.stage ≡ 1 → (f.filled ≤ f.at) × (f.len ≡ 0)
-  pub whole : f.whole ≡ 0
+  pub stage : f.stage ≡ Full → ⊥
+  pub unbroken : is_broken f.stage ≡ false
+  pub over : f.stage ≡ Ended → (f.filled ≤ f.at) × (f.len ≡ 0)
+  pub whole : f.whole ≡ false
   pub at : f.at ≤ f.filled
   pub filled : f.filled ≤ chunk
   pub len : f.len ≤ cap
@@ -28,11 +31,17 @@ pub record Made (chunk cap room : ℕ) (f : Flow) : Type 0 where
   pub read : f.read + f.turns * 65536 ≤ 9223372036854775808
   pub written : f.written + f.made + f.turns * 65536 ≤ 9223372036854775808
 
+-- No write has failed behind a read.
+read-unbroken : (s : Stage) → is_read s ≡ true → is_broken s ≡ false
+read-unbroken Unwritten e = never e refl
+read-unbroken Untaken e = never e refl
+read-unbroken s e = refl
+
 -- They are so at the start.
 pub roomy_start : (chunk cap room most : ℕ) → most ≤ room → Roomy chunk cap room most flow_start
 roomy_start chunk cap room most h = record {
-  stage = omega arith;
-  over = λ e. absurd (omega arith);
+  stage = λ e. apart e (λ n. omega arith);
+  over = λ e. apart e (λ n. omega arith);
   quiet = λ e. refl;
   whole = refl;
   at = omega arith;
@@ -44,29 +53,31 @@ roomy_start chunk cap room most h = record {
 }
 
 -- Where nothing is due more lines come, and there is room.
-due_not : (f : Flow) (room most : ℕ) → due_of f room most ≡ false → (f.stage ≡ 0) × (most ≤ room - f.made)
+due_not : (f : Flow) (room most : ℕ) → due_of f room most ≡ false → (stage_open f.stage ≡ true) × (most ≤ room - f.made)
 unfolding due_of
 due_not f room most e =
-    elim (dec_lt 0 f.stage) [
-      | yes i ↦ never refl (rw (lt-ltb 0 f.stage i) at e)
-      | no i ↦
+    elim (dec_reading f.stage) [
+      | yes i ↦
           elim (dec_lt f.at f.filled) [
-            | yes j ↦
-                (omega arith, ltb-false (room - f.made) most (rw (le-ltb 0 f.stage (omega arith), lt-ltb f.at f.filled j) at e))
-            | no j ↦
-                never refl (rw (le-ltb 0 f.stage (omega arith), le-ltb f.at f.filled (omega arith)) at e)
+            | yes j ↦ (ap stage_open i, ltb-false (room - f.made) most (rw (i, lt-ltb f.at f.filled j) at e))
+            | no j ↦ never refl (rw (i, le-ltb f.at f.filled (omega arith)) at e)
           ]
+      | no i ↦ never refl (untested f.stage i e)
     ]
+  where
+    untested : (s : Stage) → (s ≡ Reading → ⊥) → cond (is_reading s) (cond (ltb f.at f.filled) (ltb (room - f.made) most) true) true ≡ false → true ≡ false
+    untested Reading n d = absurd (n refl)
+    untested s n d = d
 
 -- After a line, by whether the program stops.
 made_took
-    : (chunk cap room : ℕ) (g : Flow) (made : ℕ) → g.stage ≤ 2 → (1 ≤ g.stage → g.filled ≤ g.at) → g.at ≤ g.filled → g.filled ≤ chunk → made ≤ room
+    : (chunk cap room : ℕ) (g : Flow) (made : ℕ) → is_read g.stage ≡ true → ((g.stage ≡ Reading → ⊥) → g.filled ≤ g.at) → g.at ≤ g.filled → g.filled ≤ chunk → made ≤ room
     → g.read + g.turns * 65536 ≤ 9223372036854775808 → g.written + made + g.turns * 65536 ≤ 9223372036854775808
     → (h : Flow) (b : Bool) → h ≡ took_of g made b → Made chunk cap room h
 made_took chunk cap room g made s o a l m r w h true q = rw q record {
-  stage = omega arith;
-  unbroken = λ z. omega arith;
-  over = λ z. absurd (omega arith);
+  stage = λ z. apart z (λ n. omega arith);
+  unbroken = refl;
+  over = λ z. apart z (λ n. omega arith);
   whole = refl;
   at = a;
   filled = l;
@@ -76,9 +87,9 @@ made_took chunk cap room g made s o a l m r w h true q = rw q record {
   written = w;
 }
 made_took chunk cap room g made s o a l m r w h false q = rw q record {
-  stage = omega arith;
-  unbroken = λ z. omega arith;
-  over = λ z. (o (omega arith), refl);
+  stage = λ z. never s (ap is_read z);
+  unbroken = read-unbroken g.stage s;
+  over = λ z. (o (ended_over z), refl);
   whole = refl;
   at = a;
   filled = l;
@@ -89,13 +100,13 @@ made_took chunk cap room g made s o a l m r w h false q = rw q record {
 }
 
 made-closed
-    : (chunk cap room : ℕ) (g : Flow) (made : ℕ) → g.whole ≡ 0 → g.at ≤ g.filled → g.filled ≤ chunk → g.len ≤ cap → made ≤ room
+    : (chunk cap room : ℕ) (g : Flow) (made : ℕ) → g.whole ≡ false → g.at ≤ g.filled → g.filled ≤ chunk → g.len ≤ cap → made ≤ room
     → g.read + g.turns * 65536 ≤ 9223372036854775808 → g.written + made + g.turns * 65536 ≤ 9223372036854775808
     → (h : Flow) → h ≡ closed_of g made → Made chunk cap room h
 made-closed chunk cap room g made v a l n m r w h q = rw q record {
-  stage = omega arith;
-  unbroken = λ z. omega arith;
-  over = λ z. absurd (omega arith);
+  stage = λ z. apart z (λ n. omega arith);
+  unbroken = refl;
+  over = λ z. apart z (λ n. omega arith);
   whole = v;
   at = a;
   filled = l;
@@ -118,10 +129,10 @@ module _ {S : Type 0} {M : Machine S} {stop : S → Bool} (most room : ℕ) (f g
   made_on : h.made ≤ room
   made_on = omega (arith, a.made, p.made, x.made)
 
-  none_on : g.whole ≡ 0 → (g.stage ≡ 1 → ⊥) → Made (length chunk) (length line) room g
+  none_on : g.whole ≡ false → (g.stage ≡ Ended → ⊥) → Made (length chunk) (length line) room g
   none_on v z = record {
-    stage = omega (arith, p.stage);
-    unbroken = λ e. omega (arith, p.stage);
+    stage = λ e. never p.stage (ap is_read e);
+    unbroken = read-unbroken g.stage p.stage;
     over = λ e. absurd (z e);
     whole = v;
     at = p.at;
@@ -134,12 +145,12 @@ module _ {S : Type 0} {M : Machine S} {stop : S → Bool} (most room : ℕ) (f g
 
   pub made_again : Made (length chunk) (length line) room h
   made_again =
-      elim (ℕ_discrete g.whole 1) [
+      elim (dec_true g.whole) [
         | yes w ↦
             made_took (length chunk) (length line) room g h.made p.stage (λ z. (p.over z).2) p.at p.filled made_on read_on_lem written_on h (stop s') (a.whole w).2
         | no w ↦
-            let v : g.whole ≡ 0 = zero_of g.whole p.whole w in
-            elim (ℕ_discrete g.stage 1) [
+            let v : g.whole ≡ false = untrue g.whole w in
+            elim (dec_ended g.stage) [
               | yes z ↦ made-closed (length chunk) (length line) room g h.made v p.at p.filled p.len made_on read_on_lem written_on h (a.end v z).1
               | no z ↦ rw (a.none v z).0 (none_on v z)
             ]
@@ -147,9 +158,9 @@ module _ {S : Type 0} {M : Machine S} {stop : S → Bool} (most room : ℕ) (f g
 
 -- A flush.
 -- The stages of a write that failed.
-pub broken_stage_lem : (error : Bool) → (3 ≤ cond error 3 5) × (cond error 3 5 ≤ 5) × (◌≡◌ {A = ℕ} (cond error 3 5) 4 → ⊥)
-broken_stage_lem true = (omega arith, omega arith, λ z. omega arith)
-broken_stage_lem false = (omega arith, omega arith, λ z. omega arith)
+pub broken_stage_lem : (error : Bool) → is_broken (cond error Unwritten Untaken) ≡ true
+broken_stage_lem true = refl
+broken_stage_lem false = refl
 
 wrote-roomy
     : (chunk cap room most : ℕ) (f : Flow) (turns taken : ℕ) (error : Bool) → most ≤ room → Made chunk cap room f → turns ≤ f.turns → taken ≤ f.made
@@ -160,8 +171,8 @@ wrote-roomy chunk cap room most f turns taken error h x u v =
     elim (dec_lt taken f.made) [
       | yes i ↦
           rw (lt-ltb taken f.made i) record {
-            stage = b.1;
-            over = λ e. absurd (omega (arith, b.0));
+            stage = λ e. never b (ap is_broken e);
+            over = λ e. never b (ap is_broken e);
             quiet = λ e. refl;
             whole = x.whole;
             at = x.at;
@@ -173,7 +184,7 @@ wrote-roomy chunk cap room most f turns taken error h x u v =
           }
       | no i ↦
           rw (le-ltb taken f.made (omega arith)) record {
-            stage = omega (arith, x.stage);
+            stage = x.stage;
             over = x.over;
             quiet = λ e. refl;
             whole = x.whole;
@@ -190,9 +201,9 @@ waits_roomy : (chunk cap room most : ℕ) (f : Flow) → most ≤ room → Made 
 waits_roomy chunk cap room most f h x e =
     let d = due_not f room most e in
     record {
-      stage = omega (arith, x.stage);
+      stage = x.stage;
       over = x.over;
-      quiet = λ z. absurd (omega (arith, d.0));
+      quiet = λ z. never d.0 z;
       whole = x.whole;
       at = x.at;
       filled = x.filled;
@@ -212,21 +223,17 @@ roomy-again chunk cap room most f k h x w = by (due_of f room most) refl
     by false e = rw (w.wait e) (waits_roomy chunk cap room most f h x e)
 
 -- Where a program does not go on though nothing has ended or failed, its turns are used up.
-pub used_up : (f : Flow) → goes_on f ≡ false → f.stage ≤ 1 → f.turns ≡ 0
+pub used_up : (f : Flow) → goes_on f ≡ false → stage_open f.stage ≡ true → f.turns ≡ 0
 unfolding goes_on
 used_up f e h =
     elim (dec_lt 0 f.turns) [
-      | yes i ↦ never refl (rw (lt-ltb 0 f.turns i, lt-ltb f.stage 2 (omega arith)) at e)
+      | yes i ↦ never refl (rw (lt-ltb 0 f.turns i, h) at e)
       | no i ↦ omega arith
     ]
 
-pub going_on : (f : Flow) → goes_on f ≡ true → (1 ≤ f.turns) × (f.stage ≤ 1)
+pub going_on : (f : Flow) → goes_on f ≡ true → (1 ≤ f.turns) × (stage_open f.stage ≡ true)
 unfolding goes_on
-going_on f e =
-    elim (dec_lt 0 f.turns) [
-      | yes i ↦ (i, omega (arith, ltb-true f.stage 2 (rw (lt-ltb 0 f.turns i) at e)))
-      | no i ↦ never (rw (le-ltb 0 f.turns (omega arith)) at e) refl
-    ]
+going_on f e = let p = both (ltb 0 f.turns) (stage_open f.stage) e in (ltb-true 0 f.turns p.0, p.1)
 
 -- A turn uses one.
 took_turns : (f : Flow) (made : ℕ) (b : Bool) → (took_of f made b).turns ≡ f.turns
@@ -244,11 +251,11 @@ turn_less {stop = stop} most room f g h k s s' line chunk line' chunk' out out' 
   where
     answered : h.turns ≡ g.turns
     answered =
-        elim (ℕ_discrete g.whole 1) [
+        elim (dec_true g.whole) [
           | yes i ↦ ap (λ (q : Flow). q.turns) (a.whole i).2 ∙ took_turns g h.made (stop s')
           | no i ↦
-              let v : g.whole ≡ 0 = zero_of g.whole p.whole i in
-              elim (ℕ_discrete g.stage 1) [
+              let v : g.whole ≡ false = untrue g.whole i in
+              elim (dec_ended g.stage) [
                 | yes z ↦ ap (λ (q : Flow). q.turns) (a.end v z).1
                 | no z ↦ ap (λ (q : Flow). q.turns) (a.none v z).0
               ]

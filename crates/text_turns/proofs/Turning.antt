@@ -7,7 +7,8 @@ use mathlib.Core.List.{List}
 use lib.ListN.{length, take}
 use Rattle.text_stream.specs.Stream.{Machine, says_of, Blind, Dead}
 use Rattle.text_pull.specs.declared.Flow.{Flow}
-use Rattle.text_pull.specs.Pull.{flow_start, Pulled, goes_on, Flushed, Answered, Next, Ran}
+use Rattle.text_pull.specs.declared.Stage.TheVariants.{Ended}
+use Rattle.text_pull.specs.Pull.{flow_start, stage_open, Pulled, goes_on, Flushed, Answered, Next, Ran}
 use Rattle.text_turns.specs.Turn.{After, Turning, Turned}
 use Rattle.text_turns.proofs.Turns.{started, turned}
 use Rattle.text_turns.proofs.Numbers.{Made, roomy_start, made_again, roomy-again, used_up, going_on, turn_less}
@@ -30,7 +31,7 @@ module _ {S : Type 0} (M : Machine S) (cap : ℕ) (s₀ : S) (most : ℕ) where
     -- What a pull requires.
     pub pull_may
         : goes_on f ≡ true
-        → ((1 ≤ f.turns) × (f.whole ≡ 0) × (f.stage ≤ 1) × (f.stage ≡ 1 → f.filled ≤ f.at))
+        → ((1 ≤ f.turns) × (f.whole ≡ false) × (stage_open f.stage ≡ true) × (f.stage ≡ Ended → f.filled ≤ f.at))
         × (((f.at ≤ f.filled) × (f.filled ≤ length chunk) × (f.len ≤ length line)) × (f.read + length chunk < 18446744073709551616))
     pull_may e =
         let r = t.roomy in

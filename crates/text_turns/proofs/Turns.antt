@@ -1,7 +1,6 @@
 -- What a pull and its answer come to, for any machine. Assumes nothing.
 use Prim.Native.Nat.{ℕ, ◌+◌, ◌≤◌}
 use native.Mathlib.Omega.{arith}
-use native.Mathlib.Decide.{ℕ_discrete, dec_lt}
 use mathlib.Core.Path.{◌≡◌, refl, sym, ap, ◌∙◌}
 use mathlib.Core.Bool.{Bool, true, false}
 use mathlib.Core.List.{List, [], ◌∷◌, ◌++◌, append-nil, append_assoc}
@@ -14,23 +13,19 @@ use Rattle.text_stream.proofs.Whole.{keeps_first, fed-append, said-append, whole
 use Rattle.text_stream.proofs.Prints.{ended-none, ended_Some}
 use Rattle.text_stream.proofs.Histories.{history_dead}
 use Rattle.text_pull.specs.declared.Flow.{Flow}
+use Rattle.text_pull.specs.declared.Stage.{Stage}
+use Rattle.text_pull.specs.declared.Stage.TheVariants.{Reading, Ended, Unread}
 use Rattle.text_stream.proofs.Steps.{fed-plain, said_plain}
-use Rattle.text_pull.specs.Pull.{flow_start, rest_of, Pulled, took_of, closed_of, Answered}
+use Rattle.text_pull.specs.Pull.{flow_start, rest_of, is_read, stage_open, Pulled, took_of, closed_of, Answered}
+use Rattle.text_pull.proofs.Stages.{never, apart, besides, dec_true, untrue, dec_reading, dec_ended, unread_of, open_ended}
 use Rattle.text_turns.specs.Turn.{Spoken, Flowing, Closing, Done, After}
 
--- Small numbers.
-pub two : (n : ℕ) → n ≤ 2 → (n ≡ 0 → ⊥) → (n ≡ 1 → ⊥) → n ≡ 2
-two n h a b =
-    elim (dec_lt n 1) [
-      | yes i ↦ absurd (a (omega arith))
-      | no i ↦ elim (dec_lt n 2) [ yes j ↦ absurd (b (omega arith)) | no j ↦ omega arith ]
-    ]
+-- Behind the end no bytes come, nor behind a read that failed.
+pub ended_over : {s : Stage} → s ≡ Ended → s ≡ Reading → ⊥
+ended_over e = besides e (λ n. omega arith)
 
-pub zero_of : (n : ℕ) → n ≤ 1 → (n ≡ 1 → ⊥) → n ≡ 0
-zero_of n h e = elim (dec_lt n 1) [ yes i ↦ omega arith | no i ↦ absurd (e (omega arith)) ]
-
-pub one_of : (n : ℕ) → n ≤ 1 → (n ≡ 0 → ⊥) → n ≡ 1
-one_of n h e = elim (dec_lt n 1) [ yes i ↦ absurd (e (omega arith)) | no i ↦ omega arith ]
+unread_over : {s : Stage} → s ≡ Unread → s ≡ Reading → ⊥
+unread_over e = besides e (λ n. omega arith)
 
 -- More was read.
 respoken
@@ -68,9 +63,9 @@ module _ {S : Type 0} (M : Machine S) (cap : ℕ) (s₀ : S) where
   pub record Event (f : Flow) (s : S) (line chunk out : List ℕ) : Type 0 where
     pub past : List ℕ
     pub machine : record { state = s; kept = take f.len line } ≡ fed M (take cap) (between s₀) past
-    pub more : f.stage ≡ 0 → f.whole ≡ 0 → Spoken (said M (take cap) (between s₀) past) (past ++ rest_of f chunk) f out
-    pub lf : f.stage ≡ 0 → f.whole ≡ 1 → Spoken (said M (take cap) (between s₀) past) (past ++ (10 ∷ rest_of f chunk)) f out
-    pub over : 1 ≤ f.stage → Spoken (said M (take cap) (between s₀) past) past f out
+    pub more : f.stage ≡ Reading → f.whole ≡ false → Spoken (said M (take cap) (between s₀) past) (past ++ rest_of f chunk) f out
+    pub lf : f.stage ≡ Reading → f.whole ≡ true → Spoken (said M (take cap) (between s₀) past) (past ++ (10 ∷ rest_of f chunk)) f out
+    pub over : (f.stage ≡ Reading → ⊥) → Spoken (said M (take cap) (between s₀) past) past f out
 
 module _ {S : Type 0} (M : Machine S) (cap : ℕ) (s₀ : S) where
   -- A program starts.
@@ -78,11 +73,11 @@ module _ {S : Type 0} (M : Machine S) (cap : ℕ) (s₀ : S) where
   unfolding fed said
   started line chunk out = record {
     going = λ e. record { past = []; machine = refl; spoken = record { read = refl; count = refl; words = refl } };
-    closing = λ e. absurd (omega arith);
-    unread = λ e. absurd (omega arith);
-    part = λ e. absurd (omega arith);
-    done = λ e. absurd (omega arith);
-    untaken = λ e. absurd (omega arith);
+    closing = λ e. apart e (λ n. omega arith);
+    unread = λ e. apart e (λ n. omega arith);
+    part = λ e. apart e (λ n. omega arith);
+    done = λ e. apart e (λ n. omega arith);
+    untaken = λ e. apart e (λ n. omega arith);
   }
 
   module _ (some : 1 ≤ cap) (f g : Flow) (s : S) (line chunk line' chunk' out : List ℕ) (l : length line ≡ cap) (n : f.len ≤ length line)
@@ -132,13 +127,13 @@ module _ {S : Type 0} (M : Machine S) (cap : ℕ) (s₀ : S) where
       }
 
     -- A pull after the end.
-    pub pulled_end : Closing M cap s₀ f s out → f.stage ≡ 1 → Closing M cap s₀ g s out
+    pub pulled_end : Closing M cap s₀ f s out → f.stage ≡ Ended → Closing M cap s₀ g s out
     pulled_end x z = record {
       text = x.text;
       words = x.words;
       spoken =
           respoken x.text x.spoken p.made p.written
-          (omega (arith, p.read, x.spoken.read, length-append (rest_of f chunk) p.came, ap length (p.over (omega (arith, p.stays z))).0));
+          (omega (arith, p.read, x.spoken.read, length-append (rest_of f chunk) p.came, ap length (p.over (ended_over (p.stays z))).0));
       rest = x.rest;
     }
 
@@ -146,7 +141,7 @@ module _ {S : Type 0} (M : Machine S) (cap : ℕ) (s₀ : S) where
   module _ (some : 1 ≤ cap) (B : Blind M (take cap)) (g : Flow) (s s' : S) (line chunk out out' : List ℕ) (made : ℕ) (m : made ≤ length out)
       (fits : g.len ≤ length line) where
     -- The machine after its line.
-    module _ (x : Event M cap s₀ g s line chunk out) (w : g.whole ≡ 1) (e : s' ≡ M.line s (take g.len line)) (p : Written out g.made (M.text s (take g.len line)) made out') where
+    module _ (x : Event M cap s₀ g s line chunk out) (w : g.whole ≡ true) (e : s' ≡ M.line s (take g.len line)) (p : Written out g.made (M.text s (take g.len line)) made out') where
       abbrev next_past : List ℕ
       next_past = x.past ++ (10 ∷ [])
 
@@ -166,16 +161,16 @@ module _ {S : Type 0} (M : Machine S) (cap : ℕ) (s₀ : S) where
           ∙ ap (λ (r : List ℕ). said M (take cap) (between s₀) x.past ++ r) (append-nil (M.text s (take g.len line)))
 
       -- Behind a LF.
-      lf_spoken : g.stage ≡ 0 → (b : Bool) → Spoken (said M (take cap) (between s₀) next_past) (next_past ++ rest_of g chunk) (took_of g made b) out'
+      lf_spoken : g.stage ≡ Reading → (b : Bool) → Spoken (said M (take cap) (between s₀) next_past) (next_past ++ rest_of g chunk) (took_of g made b) out'
       lf_spoken z true =
           rw (next-said, append_assoc x.past (10 ∷ []) (rest_of g chunk)) (speak_more (M.text s (take g.len line)) (x.lf z w) p m refl refl)
       lf_spoken z false =
           rw (next-said, append_assoc x.past (10 ∷ []) (rest_of g chunk)) (speak_more (M.text s (take g.len line)) (x.lf z w) p m refl refl)
 
-      lf_flowing : g.stage ≡ 0 → Flowing M cap s₀ (took_of g made false) s' line chunk out'
+      lf_flowing : g.stage ≡ Reading → Flowing M cap s₀ (took_of g made false) s' line chunk out'
       lf_flowing z = record { past = next_past; machine = next-machine; spoken = lf_spoken z false }
 
-      lf_dead : g.stage ≡ 0 → Dead M s' → Done M cap s₀ (took_of g made true) out'
+      lf_dead : g.stage ≡ Reading → Dead M s' → Done M cap s₀ (took_of g made true) out'
       lf_dead z d =
           let h : History M (take cap) s₀ (next_past ++ rest_of g chunk) (said M (take cap) (between s₀) next_past) (between s') (rest_of g chunk) =
           record { past = next_past; read = refl; machine = next-machine; said_of = refl } in
@@ -192,28 +187,28 @@ module _ {S : Type 0} (M : Machine S) (cap : ℕ) (s₀ : S) where
           ∙ ap (λ (n : Mid S). said M (take cap) (between s₀) x.past ++ ended M n) x.machine
           ∙ whole M (take cap) (keeps_first cap some) B s₀ x.past
 
-      last-closing : g.stage ≡ 1 → 1 ≤ g.len → (b : Bool) → Closing M cap s₀ (took_of g made b) s' out'
+      last-closing : g.stage ≡ Ended → 1 ≤ g.len → (b : Bool) → Closing M cap s₀ (took_of g made b) s' out'
       last-closing z k true = record {
         text = x.past;
         words = said M (take cap) (between s₀) x.past ++ M.text s (take g.len line);
-        spoken = speak_more (M.text s (take g.len line)) (x.over (omega arith)) p m refl refl;
+        spoken = speak_more (M.text s (take g.len line)) (x.over (ended_over z)) p m refl refl;
         rest = last-whole k;
       }
       last-closing z k false = record {
         text = x.past;
         words = said M (take cap) (between s₀) x.past ++ M.text s (take g.len line);
-        spoken = speak_more (M.text s (take g.len line)) (x.over (omega arith)) p m refl refl;
+        spoken = speak_more (M.text s (take g.len line)) (x.over (ended_over z)) p m refl refl;
         rest = last-whole k;
       }
 
-      last_dead : g.stage ≡ 1 → 1 ≤ g.len → Dead M s' → Done M cap s₀ (took_of g made true) out'
+      last_dead : g.stage ≡ Ended → 1 ≤ g.len → Dead M s' → Done M cap s₀ (took_of g made true) out'
       last_dead z k d =
           let c = last-closing z k true in
           let q : c.words ≡ says_of M s₀ c.text = sym (append-nil c.words) ∙ ap (λ (r : List ℕ). c.words ++ r) (sym d.end) ∙ c.rest in
           record { text = c.text; spoken = rw q at c.spoken }
 
     -- The end, with no line at hand.
-    end-closing : Event M cap s₀ g s line chunk out → 1 ≤ g.stage → g.len ≡ 0 → Closing M cap s₀ g s out
+    end-closing : Event M cap s₀ g s line chunk out → (g.stage ≡ Reading → ⊥) → g.len ≡ 0 → Closing M cap s₀ g s out
     end-closing x z k =
         let n : record { state = s; kept = take g.len line } ≡ between s = rw k in
         record {
@@ -230,24 +225,24 @@ module _ {S : Type 0} (M : Machine S) (cap : ℕ) (s₀ : S) where
 
     -- After a line.
     took_after
-        : (stop : S → Bool) → ((r : S) → stop r ≡ true → Dead M r) → Event M cap s₀ g s line chunk out → g.stage ≤ 2 → (g.stage ≡ 1 → 1 ≤ g.len) → (g.stage ≡ 2 → ⊥)
-        → g.whole ≡ 1 → s' ≡ M.line s (take g.len line) → Written out g.made (M.text s (take g.len line)) made out'
+        : (stop : S → Bool) → ((r : S) → stop r ≡ true → Dead M r) → Event M cap s₀ g s line chunk out → is_read g.stage ≡ true → (g.stage ≡ Ended → 1 ≤ g.len) → (g.stage ≡ Unread → ⊥)
+        → g.whole ≡ true → s' ≡ M.line s (take g.len line) → Written out g.made (M.text s (take g.len line)) made out'
         → (h : Flow) (b : Bool) → stop s' ≡ b → h ≡ took_of g made b → After M cap s₀ h s' line chunk out'
     took_after stop D x n k u w e p h true d q =
         rw q record {
-          going = λ z. absurd (omega arith);
-          closing = λ z. absurd (omega arith);
-          unread = λ z. absurd (omega arith);
-          part = λ z. absurd (omega arith);
-          untaken = λ z. absurd (omega arith);
+          going = λ z. apart z (λ i. omega arith);
+          closing = λ z. apart z (λ i. omega arith);
+          unread = λ z. apart z (λ i. omega arith);
+          part = λ z. apart z (λ i. omega arith);
+          untaken = λ z. apart z (λ i. omega arith);
           done =
               λ z.
-              elim (ℕ_discrete g.stage 0) [
+              elim (dec_reading g.stage) [
                 | yes i ↦ lf_dead x w e p i (D s' d)
                 | no i ↦
-                    elim (ℕ_discrete g.stage 1) [
+                    elim (dec_ended g.stage) [
                       | yes j ↦ last_dead x w e p j (k j) (D s' d)
-                      | no j ↦ absurd (u (two g.stage n i j))
+                      | no j ↦ absurd (u (unread_of g.stage n i j))
                     ]
               ];
         }
@@ -256,9 +251,9 @@ module _ {S : Type 0} (M : Machine S) (cap : ℕ) (s₀ : S) where
           going = λ z. lf_flowing x w e p z;
           closing = λ z. last-closing x w e p z (k z) false;
           unread = λ z. absurd (u z);
-          part = λ z. absurd (omega arith);
-          done = λ z. absurd (omega arith);
-          untaken = λ z. absurd (omega arith);
+          part = λ z. never n (ap is_read z);
+          done = λ z. never n (ap is_read z);
+          untaken = λ z. never n (ap is_read z);
         }
 
     -- After the end.
@@ -266,25 +261,25 @@ module _ {S : Type 0} (M : Machine S) (cap : ℕ) (s₀ : S) where
         : Closing M cap s₀ g s out → Written out g.made (M.end s) made out' → (h : Flow) → h ≡ closed_of g made → After M cap s₀ h s' line chunk out'
     Closed_after x p h q =
         rw q record {
-          going = λ z. absurd (omega arith);
-          closing = λ z. absurd (omega arith);
-          unread = λ z. absurd (omega arith);
-          part = λ z. absurd (omega arith);
+          going = λ z. apart z (λ i. omega arith);
+          closing = λ z. apart z (λ i. omega arith);
+          unread = λ z. apart z (λ i. omega arith);
+          part = λ z. apart z (λ i. omega arith);
           done = λ z. closed-done x p;
-          untaken = λ z. absurd (omega arith);
+          untaken = λ z. apart z (λ i. omega arith);
         }
 
   -- After nothing.
   none_after
-      : (g : Flow) (s : S) (line chunk out : List ℕ) → Event M cap s₀ g s line chunk out → g.whole ≡ 0 → g.stage ≤ 2 → (g.stage ≡ 1 → ⊥)
+      : (g : Flow) (s : S) (line chunk out : List ℕ) → Event M cap s₀ g s line chunk out → g.whole ≡ false → is_read g.stage ≡ true → (g.stage ≡ Ended → ⊥)
       → After M cap s₀ g s line chunk out
   none_after g s line chunk out x w n u = record {
     going = λ z. record { past = x.past; machine = x.machine; spoken = x.more z w };
     closing = λ z. absurd (u z);
-    unread = λ z. record { text = x.past; spoken = x.over (omega arith) };
-    part = λ z. absurd (omega arith);
-    done = λ z. absurd (omega arith);
-    untaken = λ z. absurd (omega arith);
+    unread = λ z. record { text = x.past; spoken = x.over (unread_over z) };
+    part = λ z. never n (ap is_read z);
+    done = λ z. never n (ap is_read z);
+    untaken = λ z. never n (ap is_read z);
   }
 
   -- A pull and its answer.
@@ -299,32 +294,32 @@ module _ {S : Type 0} (M : Machine S) (cap : ℕ) (s₀ : S) where
 
     answered : Event M cap s₀ g s line' chunk' out → After M cap s₀ h s' line' chunk' out'
     answered x =
-        elim (ℕ_discrete g.whole 1) [
+        elim (dec_true g.whole) [
           | yes w ↦
-              took_after some B g s s' line' chunk' out out' h.made fitting narrow stop D x p.stage (λ z. p.some z w) (λ z. omega (arith, p.failed z)) w (a.whole w).0 (a.whole w).1 h (stop s') refl (a.whole w).2
+              took_after some B g s s' line' chunk' out out' h.made fitting narrow stop D x p.stage (λ z. p.some z w) (λ z. never w (p.failed z)) w (a.whole w).0 (a.whole w).1 h (stop s') refl (a.whole w).2
           | no w ↦
-              let v : g.whole ≡ 0 = zero_of g.whole p.whole w in
-              elim (ℕ_discrete g.stage 1) [
+              let v : g.whole ≡ false = untrue g.whole w in
+              elim (dec_ended g.stage) [
                 | yes z ↦
-                    Closed_after some B g s s' line' chunk' out out' h.made fitting narrow (end-closing some B g s s' line' chunk' out out' h.made fitting narrow x (omega arith) (p.none z v)) (a.end v z).0 h (a.end v z).1
+                    Closed_after some B g s s' line' chunk' out out' h.made fitting narrow (end-closing some B g s s' line' chunk' out out' h.made fitting narrow x (ended_over z) (p.none z v)) (a.end v z).0 h (a.end v z).1
                 | no z ↦
                     rw ((a.none v z).0, (a.none v z).1, (a.none v z).2) (none_after g s line' chunk' out x v p.stage z)
               ]
         ]
 
     -- no bytes of a line are at hand after the end
-    len-none : f.stage ≡ 1 → f.len ≡ 0 → g.len ≡ 0
+    len-none : f.stage ≡ Ended → f.len ≡ 0 → g.len ≡ 0
     len-none z k =
-        let e = (p.over (omega (arith, p.stays z))).1 in
+        let e = (p.over (ended_over (p.stays z))).1 in
         omega (arith, length-take-le g.len line' narrow, ap length p.kept, length-take (length line) (take f.len line ++ p.bytes), length-append (take f.len line) p.bytes, length-take f.len line, ap length e)
 
-    pub turned : After M cap s₀ f s line chunk out → f.stage ≤ 1 → (f.stage ≡ 1 → f.len ≡ 0) → After M cap s₀ h s' line' chunk' out'
+    pub turned : After M cap s₀ f s line chunk out → stage_open f.stage ≡ true → (f.stage ≡ Ended → f.len ≡ 0) → After M cap s₀ h s' line' chunk' out'
     turned x z k =
-        elim (ℕ_discrete f.stage 0) [
+        elim (dec_reading f.stage) [
           | yes i ↦ answered (pulled some f g s line chunk line' chunk' out l n p (x.going i))
           | no i ↦
-              let one : f.stage ≡ 1 = one_of f.stage z i in
+              let one : f.stage ≡ Ended = open_ended f.stage z i in
               let o = p.stays one in
-              let v : g.whole ≡ 0 = elim (ℕ_discrete g.whole 1) [ yes w ↦ absurd (omega (arith, p.some o w, len-none one (k one))) | no w ↦ zero_of g.whole p.whole w ] in
+              let v : g.whole ≡ false = elim (dec_true g.whole) [ yes w ↦ absurd (omega (arith, p.some o w, len-none one (k one))) | no w ↦ untrue g.whole w ] in
               Closed_after some B g s s' line' chunk' out out' h.made fitting narrow (pulled_end some f g s line chunk line' chunk' out l n p (x.closing one) one) (a.end v o).0 h (a.end v o).1
         ]

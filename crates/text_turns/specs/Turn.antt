@@ -1,8 +1,10 @@
 -- What holds of a program over a text between two turns of its loop, for any machine.
-use Rattle.std.specs.Prelude.{ℕ, ◌+◌, ◌*◌, ◌≤◌, ◌<◌, ◌≡◌, List, ◌++◌, length, take, drop}
+use Rattle.std.specs.Prelude.{ℕ, false, ◌+◌, ◌*◌, ◌≤◌, ◌<◌, ◌≡◌, List, ◌++◌, length, take, drop}
 use Rattle.text_stream.specs.Stream.{Machine, between, fed, said, says_of}
 use Rattle.text_pull.specs.declared.Flow.{Flow}
-use Rattle.text_pull.specs.Pull.{rest_of, Part}
+use Rattle.text_pull.specs.declared.Stage.TheVariants as stages
+use Rattle.text_pull.specs.declared.Stage.TheVariants.{Reading, Ended, Unread, Unwritten, Untaken, Full}
+use Rattle.text_pull.specs.Pull.{rest_of, stage_open, Part}
 
 -- a text was read, and of the words that it prints all but those that wait are written
 pub record Spoken (w text : List ℕ) (f : Flow) (out : List ℕ) : Type 0 where
@@ -36,19 +38,19 @@ module _ {S : Type 0} (M : Machine S) (cap : ℕ) (s₀ : S) where
 
   -- one of these, or a write failed, or took nothing
   pub record After (f : Flow) (s : S) (line chunk out : List ℕ) : Type 0 where
-    pub going : f.stage ≡ 0 → Flowing f s line chunk out
-    pub closing : f.stage ≡ 1 → Closing f s out
-    pub unread : f.stage ≡ 2 → Halted f out
-    pub part : f.stage ≡ 3 → Part (says_of M s₀) f
-    pub done : f.stage ≡ 4 → Done f out
-    pub untaken : f.stage ≡ 5 → Part (says_of M s₀) f
+    pub going : f.stage ≡ Reading → Flowing f s line chunk out
+    pub closing : f.stage ≡ Ended → Closing f s out
+    pub unread : f.stage ≡ Unread → Halted f out
+    pub part : f.stage ≡ Unwritten → Part (says_of M s₀) f
+    pub done : f.stage ≡ stages.Done → Done f out
+    pub untaken : f.stage ≡ Untaken → Part (says_of M s₀) f
 
 -- its numbers: no sum overflows, and there is room for what one event prints
 pub record Roomy (chunk cap room most : ℕ) (f : Flow) : Type 0 where
-  pub stage : f.stage ≤ 5
-  pub over : f.stage ≡ 1 → (f.filled ≤ f.at) × (f.len ≡ 0)
-  pub quiet : 2 ≤ f.stage → f.made ≡ 0
-  pub whole : f.whole ≡ 0
+  pub stage : f.stage ≡ Full → ⊥
+  pub over : f.stage ≡ Ended → (f.filled ≤ f.at) × (f.len ≡ 0)
+  pub quiet : stage_open f.stage ≡ false → f.made ≡ 0
+  pub whole : f.whole ≡ false
   pub at : f.at ≤ f.filled
   pub filled : f.filled ≤ chunk
   pub len : f.len ≤ cap

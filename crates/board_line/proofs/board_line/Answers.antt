@@ -3,10 +3,10 @@ use mathlib.Core.Path.{sym, ◌∙◌}
 use Rattle.board_line.specs.Line.{board_line_text}
 use Rattle.board_line.proofs.board_line.Goals as goal
 
-pub returns-in-Is-clause-written : goal.returns-in-Is-clause-written
+pub returns-in-Some-clause-written : goal.returns-in-Some-clause-written
 unfolding board_line_text
-returns-in-Is-clause-written c = rw (sym c.code_of.ensures ∙ c.in-Is.is) c.put_refresh.ensures.written
+returns-in-Some-clause-written c = rw (sym c.code_of.ensures ∙ c.in-Some.is) c.put_refresh.ensures.written
 
-pub returns-in-Bad-clause-written : goal.returns-in-Bad-clause-written
+pub returns-in-None-clause-written : goal.returns-in-None-clause-written
 unfolding board_line_text
-returns-in-Bad-clause-written c = rw (sym c.code_of.ensures ∙ c.in-Bad.is) c.put_reply.ensures.written
+returns-in-None-clause-written c = rw (sym c.code_of.ensures ∙ c.in-None.is) c.put_reply.ensures.written

@@ -3,8 +3,8 @@ use borrow.Author.Rules.{rules}
 use mathlib.Core.Path.{◌≡◌, sym, ◌∙◌}
 use Rattle.board_read.proofs.made.Goals as goal
 
-pub returns-in-Sound : goal.returns-in-Sound
-returns-in-Sound c = rw (sym c.judge.ensures ∙ c.in-Sound.is)
+pub returns-in-Ok : goal.returns-in-Ok
+returns-in-Ok c = rw (sym c.judge.ensures ∙ c.in-Ok.is)
 
-pub returns-in-Refused : goal.returns-in-Refused
-returns-in-Refused c = rw (sym c.judge.ensures ∙ c.in-Refused.is)
+pub returns-in-Err : goal.returns-in-Err
+returns-in-Err c = rw (sym c.judge.ensures ∙ c.in-Err.is)

@@ -120,7 +120,7 @@ loop-i-preserved c =
     let s = stepped (goal.at.loop-i-preserved c).After-step_under in
     let f = first-known (goal.at.loop-i-preserved c).After-first_by-first in
     next c.loop-i.invariant (omega arith) _ (opened (goal.at.loop-i-preserved c).Else-not-is_open) c.number_of-number.ensures.0 c.number_of-number.ensures.1
-    f c.first_after.ensures c.deepest_by-deepest.ensures (sym s ∙ c.in-Goes.is)
+    f c.first_after.ensures c.deepest_by-deepest.ensures (sym s ∙ c.in-Some.is)
 
 pub returns : goal.returns
 unfolding steps_from

@@ -5,12 +5,6 @@ use lib.Count.{ones-le}
 use Rattle.error_places.proofs.Bitmap.{both_runs}
 use Rattle.error_places.proofs.put_places.Goals as goal
 
-pub overflow_cast-past : goal.overflow_cast-past
-overflow_cast-past c = omega (arith, ones-le 8 c.args.value (omega arith))
-
-pub places_from-requires : goal.places_from-requires
-places_from-requires c = omega (arith, ones-le 8 c.args.value (omega arith))
-
 pub put_second-requires : goal.put_second-requires
 put_second-requires c =
     let v = c.args.value in

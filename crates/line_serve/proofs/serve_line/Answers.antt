@@ -1,49 +1,49 @@
 -- `line_serve::serve_line` meets its contract, by what the line asks. Assumes nothing.
-use mathlib.Core.Path.{sym, ◌∙◌}
+use Rattle.std.proofs.Common.{Some}
+use mathlib.Core.Path.{sym, ap, ◌∙◌}
 use lib.ListN.{length}
+use Rattle.line_request.specs.declared.Ask.{Ask}
 use Rattle.line_serve.proofs.Lines.{malformed, read_kept, malformed_outcome, read_outcome, write_outcome}
 use Rattle.line_serve.proofs.serve_line.Goals as goal
 
-pub ask_of-requires : goal.ask_of-requires
-ask_of-requires c = c.find_ends-ends.ensures
-
 pub read_asked-reply-requires : goal.read_asked-reply-requires
-read_asked-reply-requires c = (sym c.ask_of.ensures ∙ c.in-Read.is, c.requires, c.find_ends-ends.ensures)
+read_asked-reply-requires c =
+    (sym c.ask_of.ensures ∙ c.in-Some-Read.is ∙ ap (λ (k : Ask). Some k) c.in-Some-Read.field-0-is, c.requires)
 
 pub write_asked-reply-requires : goal.write_asked-reply-requires
-write_asked-reply-requires c = (sym c.ask_of.ensures ∙ c.in-Write.is, c.requires, c.find_ends-ends.ensures)
+write_asked-reply-requires c =
+    (sym c.ask_of.ensures ∙ c.in-Some-Write.is ∙ ap (λ (k : Ask). Some k) c.in-Some-Write.field-0-is, c.requires)
 
-pub returns-in-Malformed-clause-value : goal.returns-in-Malformed-clause-value
-returns-in-Malformed-clause-value c =
+pub returns-in-None : goal.returns-in-None
+returns-in-None c =
     let a = c.args in
-    malformed_outcome a.card a.arena.now a.line.now (length a.work.now) (sym c.ask_of.ensures ∙ c.in-Malformed.is)
+    let e = rw c.new-fields.ensures at (sym c.ask_of.ensures ∙ c.in-None.is) in
+    let m = malformed a.card a.arena.now a.work.now a.line.now a.bytes.now e in
+    record { value = malformed_outcome a.card a.arena.now a.line.now (length a.work.now) e; arena_after = m.1.0; work_after = m.1.1.0; bytes_after = m.1.1.1 }
 
-pub returns-in-Malformed-clause-arena_after : goal.returns-in-Malformed-clause-arena_after
-returns-in-Malformed-clause-arena_after c =
+pub returns-in-Some-Read : goal.returns-in-Some-Read
+returns-in-Some-Read c =
     let a = c.args in
-    (malformed a.card a.arena.now a.work.now a.line.now a.bytes.now (sym c.ask_of.ensures ∙ c.in-Malformed.is)).1.0
+    let z = c.well_formed.0.1.1.0.1.0.1 in
+    let l = c.new-fields.ensures in
+    let o = c.read_asked-reply.ensures in
+    let e = rw l at (sym c.ask_of.ensures ∙ c.in-Some-Read.is ∙ ap (λ (k : Ask). Some k) c.in-Some-Read.field-0-is) in
+    record {
+      value = read_outcome a.card a.arena.now a.line.now (length a.work.now) z e (rw l at o.value) c.length_read.ensures;
+      arena_after = read_kept a.card a.arena.now a.work.now a.line.now z e;
+      work_after = rw l at o.work_after;
+      bytes_after = rw l at o.bytes_after;
+    }
 
-pub returns-in-Malformed-clause-work_after : goal.returns-in-Malformed-clause-work_after
-returns-in-Malformed-clause-work_after c =
+pub returns-in-Some-Write : goal.returns-in-Some-Write
+returns-in-Some-Write c =
     let a = c.args in
-    (malformed a.card a.arena.now a.work.now a.line.now a.bytes.now (sym c.ask_of.ensures ∙ c.in-Malformed.is)).1.1.0
-
-pub returns-in-Malformed-clause-bytes_after : goal.returns-in-Malformed-clause-bytes_after
-returns-in-Malformed-clause-bytes_after c =
-    let a = c.args in
-    (malformed a.card a.arena.now a.work.now a.line.now a.bytes.now (sym c.ask_of.ensures ∙ c.in-Malformed.is)).1.1.1
-
-pub returns-in-Read-clause-value : goal.returns-in-Read-clause-value
-returns-in-Read-clause-value c =
-    let a = c.args in
-    read_outcome a.card a.arena.now a.line.now (length a.work.now) c.well_formed.0.1.1.0.1.0.1 (sym c.ask_of.ensures ∙ c.in-Read.is) c.read_asked-reply.ensures.value c.length_read.ensures
-
-pub returns-in-Read-clause-arena_after : goal.returns-in-Read-clause-arena_after
-returns-in-Read-clause-arena_after c =
-    let a = c.args in
-    read_kept a.card a.arena.now a.work.now a.line.now c.well_formed.0.1.1.0.1.0.1 (sym c.ask_of.ensures ∙ c.in-Read.is)
-
-pub returns-in-Write-clause-value : goal.returns-in-Write-clause-value
-returns-in-Write-clause-value c =
-    let a = c.args in
-    write_outcome a.card a.arena.now a.line.now (length a.work.now) (sym c.ask_of.ensures ∙ c.in-Write.is) c.write_asked-reply.ensures.value
+    let l = c.new-fields.ensures in
+    let o = c.write_asked-reply.ensures in
+    let e = rw l at (sym c.ask_of.ensures ∙ c.in-Some-Write.is ∙ ap (λ (k : Ask). Some k) c.in-Some-Write.field-0-is) in
+    record {
+      value = write_outcome a.card a.arena.now a.line.now (length a.work.now) e (rw l at o.value);
+      arena_after = rw l at o.arena_after;
+      work_after = rw l at o.work_after;
+      bytes_after = rw l at o.bytes_after;
+    }

@@ -13,8 +13,8 @@ returns-then-is_short c =
 
 pub returns-then-own-number : goal.returns-then-own-number
 returns-then-own-number c =
-    not_there _ _ _ _ (sym c.is_sound.ensures ∙ c.if-not-is_sound.false) (sym c.is_short.ensures ∙ c.if-is_short.false) c.row_of-own.ensures (omega arith)
+    not_there _ _ _ _ (sym c.is_sound.ensures ∙ c.if-not-is_sound.false) (sym c.is_short.ensures ∙ c.if-is_short.false) (rw c.records.ensures at c.row_of-own.ensures) (omega arith)
 
 pub returns : goal.returns
 returns c =
-    there _ _ _ _ (sym c.is_sound.ensures ∙ c.if-not-is_sound.false) (sym c.is_short.ensures ∙ c.if-is_short.false) c.row_of-own.ensures (omega arith)
+    there _ _ _ _ (sym c.is_sound.ensures ∙ c.if-not-is_sound.false) (sym c.is_short.ensures ∙ c.if-is_short.false) (rw c.records.ensures at c.row_of-own.ensures) (omega arith)

@@ -7,19 +7,19 @@ use Rattle.request_block.proofs.stored_block.Goals as goal
 pub overflow_add-result : goal.overflow_add-result
 overflow_add-result c =
     let a = c.args in
-    let f = found_there_lem _ _ _ _ c.find_block.ensures c.in-At.is in
+    let f = found_there_lem _ _ _ _ c.find_block.ensures c.in-Ok.is in
     omega (arith, place_inside a.card a.arena.now a.code a.number f.0 f.1 c.well_formed.0.1.1.0.1.0.1)
 
-pub slice_bounds-result-end-in-At : goal.slice_bounds-result-end-in-At
-slice_bounds-result-end-in-At c =
+pub slice_bounds-result-end-in-Ok : goal.slice_bounds-result-end-in-Ok
+slice_bounds-result-end-in-Ok c =
     let a = c.args in
-    let f = found_there_lem _ _ _ _ c.find_block.ensures c.in-At.is in
+    let f = found_there_lem _ _ _ _ c.find_block.ensures c.in-Ok.is in
     omega (arith, place_inside a.card a.arena.now a.code a.number f.0 f.1 c.well_formed.0.1.1.0.1.0.1)
 
-pub returns-in-Refused : goal.returns-in-Refused
-returns-in-Refused c = sym (stored-none _ _ _ _ (found_refused _ _ _ _ c.find_block.ensures c.in-Refused.is))
+pub returns-in-Err : goal.returns-in-Err
+returns-in-Err c = sym (stored-none _ _ _ _ (found_refused _ _ _ _ c.find_block.ensures c.in-Err.is))
 
-pub returns-in-At : goal.returns-in-At
-returns-in-At c =
-    let f = found_there_lem _ _ _ _ c.find_block.ensures c.in-At.is in
+pub returns-in-Ok : goal.returns-in-Ok
+returns-in-Ok c =
+    let f = found_there_lem _ _ _ _ c.find_block.ensures c.in-Ok.is in
     lent_block _ _ _ _ f.0 f.1

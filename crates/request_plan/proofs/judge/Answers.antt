@@ -7,9 +7,9 @@ use Rattle.request_plan.proofs.judge.Goals as goal
 pub returns-then-not-sound : goal.returns-then-not-sound
 returns-then-not-sound c = not_built _ _ _ _ c.if-not-sound.true
 
-pub returns-in-Refused : goal.returns-in-Refused
-returns-in-Refused c =
-    no_bounds _ _ _ _ c.if-not-sound.false c.bounds_judged.ensures c.in-Refused.is
+pub returns-in-Err : goal.returns-in-Err
+returns-in-Err c =
+    no_bounds _ _ _ _ c.if-not-sound.false c.bounds_judged.ensures c.in-Err.is
 
 pub returns : goal.returns
 returns c =

@@ -1,5 +1,6 @@
 -- `rules::element_by` meets its contract: each attribute is a case of the rule. Assumes nothing.
 use mathlib.Core.Path.{refl, sym}
+use mathlib.Core.Logic.{inl, inr}
 use borrow.Author.Rules.{rules}
 use Rattle.request_rules.specs.Rules.{element_by}
 use Rattle.request_rules.proofs.Lent.{cyclic_ends}
@@ -9,17 +10,9 @@ pub returns-in-RandomReadWrite : goal.returns-in-RandomReadWrite
 unfolding element_by
 returns-in-RandomReadWrite c = rw c.in-RandomReadWrite.is (record { value = refl; store_after = c.copy_block.ensures })
 
-pub returns-in-RandomReadOnly : goal.returns-in-RandomReadOnly
-unfolding element_by
-returns-in-RandomReadOnly c = rw c.in-RandomReadOnly.is (record { value = refl; store_after = refl })
-
 pub returns-in-CyclicReadWrite : goal.returns-in-CyclicReadWrite
 unfolding element_by
 returns-in-CyclicReadWrite c = rw c.in-CyclicReadWrite.is (let p = cyclic_ends c.args.number c.args.store.now c.cyclic_element.ensures in record { value = p.0; store_after = p.1 })
-
-pub returns-in-CyclicReadOnly : goal.returns-in-CyclicReadOnly
-unfolding element_by
-returns-in-CyclicReadOnly c = rw c.in-CyclicReadOnly.is (record { value = refl; store_after = refl })
 
 pub returns-in-PurseDirect : goal.returns-in-PurseDirect
 unfolding element_by
@@ -35,6 +28,12 @@ pub returns-in-PurseDecrement : goal.returns-in-PurseDecrement
 unfolding element_by
 returns-in-PurseDecrement c = rw c.in-PurseDecrement.is c.purse_in-in-PurseDecrement.ensures
 
-pub returns-in-PurseReadOnly : goal.returns-in-PurseReadOnly
+pub returns-in-RandomReadOnly : goal.returns-in-RandomReadOnly
 unfolding element_by
-returns-in-PurseReadOnly c = rw c.in-PurseReadOnly.is (record { value = refl; store_after = refl })
+returns-in-RandomReadOnly c = elim c.in-RandomReadOnly.is [
+  | inl e ↦ rw e (record { value = refl; store_after = refl })
+  | inr o ↦ elim o [
+    | inl e ↦ rw e (record { value = refl; store_after = refl })
+    | inr e ↦ rw e (record { value = refl; store_after = refl })
+  ]
+]

@@ -7,14 +7,14 @@ use Rattle.request_rules.specs.Rules.{element_by, on_store}
 use Rattle.request_rules.proofs.Lent.{store_lent}
 use Rattle.request_rules.proofs.element_on.Goals as goal
 
-pub returns-in-Defined : goal.returns-in-Defined
-returns-in-Defined c =
+pub returns-in-Some : goal.returns-in-Some
+returns-in-Some c =
     let a = c.args in
     let k = c.element_by in
     let p = store_lent a.row a.stage.now (element_by a.row.attribute a.row.limit a.number a.mode a.block.now) k.result k.new.store c.place_of-at.result c.place_of-at.ensures (omega arith) k.auto.store
-    (rw c.in-Defined.is (k.ensures.value, k.ensures.store_after)) in
+    (rw c.in-Some.is (k.ensures.value, k.ensures.store_after)) in
     record { value = p.0; stage_after = p.1 }
 
-pub returns-in-Undefined : goal.returns-in-Undefined
+pub returns-in-None : goal.returns-in-None
 unfolding on_store within back element_by
-returns-in-Undefined c = rw c.in-Undefined.is (record { value = refl; stage_after = refl })
+returns-in-None c = rw c.in-None.is (record { value = refl; stage_after = refl })

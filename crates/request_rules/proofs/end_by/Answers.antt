@@ -1,37 +1,31 @@
--- `rules::end_by` meets its contract: each attribute is a case of the rule. Assumes nothing.
-use mathlib.Core.Path.{refl}
+-- `rules::end_by` meets its contract: a cyclic store takes the run in, any other is left. Assumes nothing.
+use mathlib.Core.Path.{◌≡◌, refl}
+use mathlib.Core.List.{List}
+use Prim.Native.Nat.{ℕ}
 use borrow.Author.Rules.{rules}
+use Rattle.std.proofs.Common.{Some}
+use Rattle.service_code.specs.declared.code.ServiceAttribute.{ServiceAttribute}
+use Rattle.service_code.specs.declared.code.ServiceAttribute.TheVariants.{RandomReadWrite, RandomReadOnly, CyclicReadWrite, CyclicReadOnly, PurseDirect, PurseCashback, PurseDecrement, PurseReadOnly}
+use Rattle.answers.specs.Outcome.{passed}
 use Rattle.request_rules.specs.Rules.{end_by}
 use Rattle.request_rules.proofs.end_by.Goals as goal
+
+-- only the end of a cyclic run does something
+left : (a : ServiceAttribute) (run s : List ℕ) → (a ≡ CyclicReadWrite → ⊥) → end_by (Some a) run s ≡ passed s
+unfolding end_by
+left RandomReadWrite run s n = refl
+left RandomReadOnly run s n = refl
+left CyclicReadWrite run s n = absurd (n refl)
+left CyclicReadOnly run s n = refl
+left PurseDirect run s n = refl
+left PurseCashback run s n = refl
+left PurseDecrement run s n = refl
+left PurseReadOnly run s n = refl
 
 pub returns-in-CyclicReadWrite : goal.returns-in-CyclicReadWrite
 unfolding end_by
 returns-in-CyclicReadWrite c = rw c.in-CyclicReadWrite.is c.apply_cyclic_write.ensures
 
-pub returns-in-RandomReadWrite : goal.returns-in-RandomReadWrite
-unfolding end_by
-returns-in-RandomReadWrite c = rw c.in-RandomReadWrite.is (record { value = refl; store_after = refl })
-
-pub returns-in-RandomReadOnly : goal.returns-in-RandomReadOnly
-unfolding end_by
-returns-in-RandomReadOnly c = rw c.in-RandomReadOnly.is (record { value = refl; store_after = refl })
-
-pub returns-in-CyclicReadOnly : goal.returns-in-CyclicReadOnly
-unfolding end_by
-returns-in-CyclicReadOnly c = rw c.in-CyclicReadOnly.is (record { value = refl; store_after = refl })
-
-pub returns-in-PurseDirect : goal.returns-in-PurseDirect
-unfolding end_by
-returns-in-PurseDirect c = rw c.in-PurseDirect.is (record { value = refl; store_after = refl })
-
-pub returns-in-PurseCashback : goal.returns-in-PurseCashback
-unfolding end_by
-returns-in-PurseCashback c = rw c.in-PurseCashback.is (record { value = refl; store_after = refl })
-
-pub returns-in-PurseDecrement : goal.returns-in-PurseDecrement
-unfolding end_by
-returns-in-PurseDecrement c = rw c.in-PurseDecrement.is (record { value = refl; store_after = refl })
-
-pub returns-in-PurseReadOnly : goal.returns-in-PurseReadOnly
-unfolding end_by
-returns-in-PurseReadOnly c = rw c.in-PurseReadOnly.is (record { value = refl; store_after = refl })
+pub returns-in_default : goal.returns-in_default
+returns-in_default c =
+    rw (left c.args.attribute c.args.run.now c.args.store.now c.in_default.not-CyclicReadWrite) (record { value = refl; store_after = refl })

@@ -8,14 +8,14 @@ use Rattle.request_rules.specs.Rules.{end_by, on_store}
 use Rattle.request_rules.proofs.Lent.{store_lent}
 use Rattle.request_rules.proofs.end_on.Goals as goal
 
-pub returns-in-Defined : goal.returns-in-Defined
-returns-in-Defined c =
+pub returns-in-Some : goal.returns-in-Some
+returns-in-Some c =
     let a = c.args in
     let k = c.end_by in
     let p = store_lent a.row a.stage.now (end_by a.row.attribute a.run.now) k.result k.new.store c.place_of-at.result c.place_of-at.ensures (omega arith) k.auto.store
-    (rw c.in-Defined.is (k.ensures.value, k.ensures.store_after)) in
+    (rw c.in-Some.is (k.ensures.value, k.ensures.store_after)) in
     record { value = p.0; stage_after = p.1 }
 
-pub returns-in-Undefined : goal.returns-in-Undefined
+pub returns-in-None : goal.returns-in-None
 unfolding on_store within back end_by
-returns-in-Undefined c = rw c.in-Undefined.is (record { value = refl; stage_after = sym (put-part _ _ _) })
+returns-in-None c = rw c.in-None.is (record { value = refl; stage_after = sym (put-part _ _ _) })

@@ -11,7 +11,7 @@ pub refuse-requires : goal.refuse-requires
 refuse-requires g c =
     let a = c.args in
     let p = c.requires.text_len_bound in
-    take-refused a.text.now a.out.now a.words.now p.0 p.1 p.2 _ (sym c.in-Refused.is ∙ c.salvage.ensures.value)
+    take-refused a.text.now a.out.now a.words.now p.0 p.1 p.2 _ (sym c.in-Err.is ∙ c.salvage.ensures.value)
 
 pub show-requires : goal.show-requires
 show-requires g c =
@@ -19,18 +19,18 @@ show-requires g c =
     let p = c.requires.text_len_bound in
     let e = c.salvage.ensures in
     let k = c.salvage.auto in
-    let d = take_done a.text.now a.out.now a.words.now p.0 p.1 p.2 _ _ c.salvage.new.out c.salvage.new.report (sym c.in-Done.is ∙ e.value) e.out_after e.report_after in
+    let d = take_done a.text.now a.out.now a.words.now p.0 p.1 p.2 _ _ c.salvage.new.out c.salvage.new.report (sym c.in-Ok.is ∙ e.value) e.out_after e.report_after in
     record {
       flow_value = c.requires.flow_value;
       image_in_bounds = (omega (arith, d.first, k.out), omega (arith, p.1, k.out), omega (arith, d.second, k.report));
       out_value = (d.image, d.report);
     }
 
-pub returns-in-Refused : goal.returns-in-Refused
-returns-in-Refused g c =
+pub returns-in-Err : goal.returns-in-Err
+returns-in-Err g c =
     let a = c.args in
     let p = c.requires.text_len_bound in
     let t = a.text.now in
-    let q = sym c.in-Refused.is ∙ c.salvage.ensures.value in
+    let q = sym c.in-Err.is ∙ c.salvage.ensures.value in
     let e = take-refused t a.out.now a.words.now p.0 p.1 p.2 _ q in
     none-wrote a.flow c.closed.result (salvage_prints t) (prints_none t e) c.closed.ensures

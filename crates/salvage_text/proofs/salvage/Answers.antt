@@ -1,4 +1,5 @@
 -- Two passes, and what they say of the room. Assumes nothing.
+use Rattle.std.proofs.Common.{Option}
 use mathlib.Core.Path.{ap, ◌∙◌}
 use Rattle.salvage_walk.specs.declared.Extent.{Extent}
 use Rattle.salvage_text.specs.Text.{salvage_answer, landed_by, salvaged_text, reported_text}
@@ -12,6 +13,6 @@ returns c =
     let e = c.passes.ensures in
     record {
       value = c.answer_of.ensures ∙ ap salvage_answer e.value;
-      out_after = e.out_after ∙ ap (λ (x : Extent). landed_by x a.out.now (salvaged_text t)) e.value;
-      report_after = e.report_after ∙ ap (λ (x : Extent). landed_by x a.report.now (reported_text t)) e.value;
+      out_after = e.out_after ∙ ap (λ (x : Option Extent). landed_by x a.out.now (salvaged_text t)) e.value;
+      report_after = e.report_after ∙ ap (λ (x : Option Extent). landed_by x a.report.now (reported_text t)) e.value;
     }

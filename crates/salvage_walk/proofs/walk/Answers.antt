@@ -11,8 +11,8 @@ use Rattle.salvage_walk.proofs.Extents.{extent_fit, wrote_fit}
 use Rattle.salvage_walk.proofs.Walking.{turn_at, at_line, finished}
 use Rattle.salvage_walk.proofs.walk.Goals as goal
 
-pub returns-in_default : goal.returns-in_default
-returns-in_default c =
+pub returns-in_err-kept : goal.returns-in_err-kept
+returns-in_err-kept c =
     let a = c.args in
     let l = c.loop-at in
     let w = c.salvage_line-verdict in
@@ -24,11 +24,12 @@ returns-in_default c =
     a.write (image_at a.text.now z a.from) (report_at a.text.now a.lines z a.from) a.out.now a.report.now
     l.out l.report a.image a.said l.passed l.made l.told l.invariant.0 n (omega (arith, t.1)) in
     let k = c.keep in
-    let h = on.no_image_lem k.result k.new.out c.in_default.is k.ensures.value k.ensures.out_after in
-    record { value = h.0; wrote_if = h.1.0; wrote_if_2 = h.1.1 }
+    let h = on.no_image_lem k.result k.new.out c.in_err-kept.was k.ensures.value k.ensures.out_after in
+    let e = c.from_residual.ensures in
+    record { value = e ∙ h.0; wrote_if = rw e h.1.0; wrote_if_2 = rw e h.1.1 }
 
-pub returns-in_default-tell : goal.returns-in_default-tell
-returns-in_default-tell c =
+pub returns-in_err-noted : goal.returns-in_err-noted
+returns-in_err-noted c =
     let a = c.args in
     let l = c.loop-at in
     let w = c.salvage_line-verdict in
@@ -41,8 +42,9 @@ returns-in_default-tell c =
     l.out l.report a.image a.said l.passed l.made l.told l.invariant.0 n (omega (arith, t.1)) in
     let k = c.keep in
     let m = c.tell in
-    let h = on.no_report k.result m.result k.new.out m.new.report k.ensures.out_after c.in_default-tell.is m.ensures.value m.ensures.report_after in
-    record { value = h.0; wrote_if = h.1.0; wrote_if_2 = h.1.1 }
+    let h = on.no_report k.result m.result k.new.out m.new.report k.ensures.out_after c.in_err-noted.was m.ensures.value m.ensures.report_after in
+    let e = c.from_residual-in_err-noted.ensures in
+    record { value = e ∙ h.0; wrote_if = rw e h.1.0; wrote_if_2 = rw e h.1.1 }
 
 pub loop-at-preserved : goal.loop-at-preserved
 loop-at-preserved c =
@@ -58,7 +60,7 @@ loop-at-preserved c =
     l.out l.report a.image a.said l.passed l.made l.told l.invariant.0 n (omega (arith, t.1)) in
     let k = c.keep in
     let m = c.tell in (
-      on.on k.result m.result k.new.out m.new.report c.in-At.kept c.in-At-tell.noted c.in-At.is k.ensures.value k.ensures.out_after c.in-At-tell.is m.ensures.value m.ensures.report_after,
+      on.on k.result m.result k.new.out m.new.report c.in_ok-kept.kept c.in_ok-noted.noted c.in_ok-kept.was k.ensures.value k.ensures.out_after c.in_ok-noted.was m.ensures.value m.ensures.report_after,
       w.auto.arena ∙ l.invariant.1,
     )
 

@@ -1,28 +1,13 @@
--- `block::are_crew` meets its contract: the rest says what the whole says. Assumes nothing.
-use mathlib.Core.Path.{refl, sym, ◌∙◌}
-use native.Mathlib.Omega.{arith}
-use Rattle.board_lanes.proofs.BlockLaws.{crew_here, crew_low, crew_high, crew_end}
+-- What `all` says of the bytes is what the definition says. Assumes nothing.
+use Rattle.std.proofs.Common.{◌∙◌, rules, tests}
+use mathlib.Core.Bool.{◌&&◌}
+use lib.Dec.{leb}
+use Rattle.std.proofs.lemmas.Iterator.{YieldsList-from_slice}
+use Rattle.std.proofs.lemmas.Iterator.Search.{all_from_yields_List}
+use Rattle.board_lanes.proofs.BlockLaws.{crew_all}
 use Rattle.board_lanes.proofs.block.are_crew.Goals as goal
-
-pub returns-then-s-i-lt32 : goal.returns-then-s-i-lt32
-returns-then-s-i-lt32 c =
-    let a = c.args in
-    sym (c.loop-i.invariant ∙ crew_low a.s.now c.loop-i.i (omega arith) (omega arith))
-
-pub returns-then-s-i-gt126 : goal.returns-then-s-i-gt126
-returns-then-s-i-gt126 c =
-    let a = c.args in
-    sym (c.loop-i.invariant ∙ crew_high a.s.now c.loop-i.i (omega arith) (omega arith))
-
-pub loop-i-preserved : goal.loop-i-preserved
-loop-i-preserved c =
-    let a = c.args in
-    c.loop-i.invariant ∙ crew_here a.s.now c.loop-i.i (omega arith) (omega arith) (omega arith)
 
 pub returns : goal.returns
 returns c =
-    let a = c.args in
-    sym (c.loop-i.invariant ∙ crew_end a.s.now c.loop-i.i (omega arith))
-
-pub loop-i-init : goal.loop-i-init
-loop-i-init c = refl
+    all_from_yields_List (λ x. leb 0x20 x && leb x 0x7e) _ _ c.all.result c.all.ensures.ran (YieldsList-from_slice c.args.s.now cc) (λ x b q k. search (rules, tests))
+    ∙ crew_all c.args.s.now

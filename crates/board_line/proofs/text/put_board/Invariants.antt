@@ -12,7 +12,4 @@ use Rattle.board_line.proofs.text.put_board.Given as goal
 
 abbrev pub invariant-loop-k : goal.invariant-loop-k
 invariant-loop-k l =
-    (l.k ≤ 8) × (l.last ≤ l.at + 21 * l.k) × (length l.out ≡ length l.initial.out) × Written l.initial.out l.at (lanes_text 1 (lanes_from l.bytes l.k 0)) l.last l.out
-
-abbrev pub decreases-loop-k : goal.decreases-loop-k
-decreases-loop-k l = 8 - l.k
+    (l.last ≤ l.at + 21 * l.k) × (length l.out ≡ length l.initial.out) × Written l.initial.out l.at (lanes_text 1 (lanes_from l.bytes l.k 0)) l.last l.out

@@ -1,27 +1,23 @@
--- `spans::zero` meets its contract: after i turns i bytes are 0. Assumes nothing.
-use Prim.Native.Nat.{ℕ, ◌+◌, ◌<◌}
-use native.Mathlib.Omega.{arith}
-use mathlib.Core.Path.{◌≡◌, refl, sym, ◌∙◌}
-use mathlib.Core.List.{List}
-use lib.ListN.{set, replicate, length-set, length-replicate, get_or-replicate}
+-- `spans::zero` meets its contract: the part that comes back holds n zeros. Assumes nothing.
+use Rattle.std.proofs.Common.{◌≡◌, ◌+◌, ◌-◌, ◌≤◌, ℕ, List, length, take, drop, replicate, arith}
+use lib.Seq.{length-take-le}
+use lib.ListN.{length-drop, length-replicate}
+use borrow.Rule.Slice.PartMut.{put_mid}
 use Rattle.byte_parts.specs.Part.{put}
-use Rattle.byte_parts.proofs.Part.{put_zero, put_suc}
+use Rattle.byte_parts.proofs.Part.{put_lent}
 use Rattle.byte_parts.proofs.spans.zero.Goals as goal
 
--- A turn of the loop: one byte more is 0.
-zero_more
-    : (s : List ℕ) (at n i : ℕ) → i < n
-    → set (put s at i (replicate n 0)) (at + i) 0 ≡ put s at (i + 1) (replicate n 0)
-zero_more s at n i h = sym (put_suc s at i (replicate n 0) (simp length-replicate h) ∙ simp get_or-replicate)
-
-pub loop-i-init : goal.loop-i-init
-loop-i-init c = (omega arith, sym (put_zero _ _ _), refl)
-
-pub loop-i-preserved : goal.loop-i-preserved
-loop-i-preserved c =
-    let a = c.args in
-    let l = c.loop-i in
-    (omega arith, rw l.invariant.1 (zero_more a.s.now a.at a.n l.i (omega arith)), simp length-set (omega arith))
+-- What a fill of a part leaves in the whole.
+zeroed
+    : (d ys : List ℕ) (at n : ℕ) → at + n ≤ length d → ys ≡ replicate (length (take (at + n - at) (drop at d))) 0
+    → put_mid at (at + n - at) d ys ≡ put d at n (replicate n 0)
+zeroed d ys at n h e =
+    let k : at + n - at ≡ n = omega arith in
+    let l : length (take n (drop at d)) ≡ n = length-take-le n (drop at d) (simp length-drop (omega arith)) in
+    let f : ys ≡ replicate n 0 = rw (k, l) at e in
+    rw f (put_lent d at n (replicate n 0) h (length-replicate n 0))
 
 pub returns : goal.returns
-returns c = let e : c.loop-i.i ≡ c.args.n = omega arith in rw e at c.loop-i.invariant.1
+returns c =
+    let a = c.args in
+    zeroed a.s.now _ a.at a.n (omega arith) (c.fill.ensures.after (λ y e. e))

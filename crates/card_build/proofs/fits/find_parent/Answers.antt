@@ -1,18 +1,15 @@
 -- The parent by all nodes is the one by the nodes left, after those passed.
-use Rattle.std.proofs.Common.{refl, ◌∙◌, ◌<◌, arith}
+use Rattle.std.proofs.Common.{◌∙◌, ◌<◌, length, arith, rules}
 use Rattle.card_nodes.specs.Find.{parent_from}
 use Rattle.card_nodes.proofs.Scan.{done}
 use Rattle.card_nodes.proofs.Turns.{decides, leaves}
 use Rattle.card_build.proofs.fits.find_parent.Goals as goal
 use Rattle.card_build.proofs.fits.find_parent.Goals.{then-node-depth, else-node-depth}
 
-pub loop-i-init : goal.loop-i-init
-loop-i-init c = record { within = omega arith; all = omega arith; same = refl }
-
 pub loop-i-preserved : goal.loop-i-preserved
 loop-i-preserved c =
     let left = c.loop-i.invariant in
-    let lt : c.loop-i.i < c.taken-n.result = omega arith in
+    let lt : c.loop-i.i < length c.args.nodes.now = omega arith in
     elim c.if-node-depth.branch [
       | then-node-depth w ↦ decides _ _ _ left lt w.if-node-depth.true (w.found-is ∙ w.open_at-found.ensures)
       | else-node-depth w ↦ leaves _ _ _ left lt w.if-node-depth.false w.found-is

@@ -1,31 +1,24 @@
 -- The code tests in the definition's order, and reads the parent that the definition finds.
-use Rattle.std.proofs.Common.{ap, ◌∙◌, ◌<◌, arith, rules}
-use Rattle.card_nodes.proofs.Records.{Records}
-use Rattle.card_admit.specs.Admit.{agreed}
+use Rattle.std.proofs.Common.{ap, ◌∙◌, arith, rules}
+use Rattle.card_admit.specs.Admit.{agreed, placed_of}
 use Rattle.card_build.proofs.Judged.{parent-index, service_orphan, placed}
 use Rattle.card_build.proofs.fits.place_service.Goals as goal
-use Rattle.card_build.proofs.fits.place_service.Goals.{In-At}
-
--- the parent is one of the records
-inside : (c : In-At) → c.in-At.p < 64
-inside c =
-    let r : Records c.args.nodes c.args.count = record { all = search rules } in
-    parent-index r _ c.parent_at.ensures c.in-At.is
 
 pub returns-in_default : goal.returns-in_default
 returns-in_default c =
-    let r : Records c.args.nodes c.args.count = record { all = search rules } in
-    service_orphan r _ c.parent_at.ensures c.in_default.is _ _ _ _ _
+    let a = c.args in
+    service_orphan _ _ c.parent_at.ensures c.in_default.is _ _ _ _ _
+    ∙ ap (λ ns. agreed a.join a.blocks (placed_of ns a.used a.arena_len a.depth a.code a.blocks)) c.records-taken.ensures
 
-pub offset_bounds-nodes-p : goal.offset_bounds-nodes-p
-offset_bounds-nodes-p c = omega (arith, inside c)
+pub offset_bounds-taken-p : goal.offset_bounds-taken-p
+offset_bounds-taken-p c = omega (arith, parent-index _ _ c.parent_at.ensures c.in-Some.is)
 
-pub bounds-nodes-p : goal.bounds-nodes-p
-bounds-nodes-p c = inside c
+pub bounds-taken-p : goal.bounds-taken-p
+bounds-taken-p c = parent-index _ _ c.parent_at.ensures c.in-Some.is
 
 pub returns : goal.returns
 returns c =
     let a = c.args in
-    let r : Records a.nodes a.count = record { all = search rules } in
     c.given_under.ensures
-    ∙ ap (agreed a.join a.blocks) (placed r _ c.parent_at.ensures c.in-At.is _ _ _ _ _ c.first_of-first.ensures)
+    ∙ ap (agreed a.join a.blocks) (placed _ _ c.parent_at.ensures c.in-Some.is _ _ _ _ _ c.first_of-first.ensures)
+    ∙ ap (λ ns. agreed a.join a.blocks (placed_of ns a.used a.arena_len a.depth a.code a.blocks)) c.records-taken.ensures

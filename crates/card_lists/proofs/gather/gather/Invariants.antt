@@ -16,6 +16,3 @@ invariant-loop-i l =
     Left l.nodes l.count l.n (gathered_from (get_or l.nodes l.at root_node).depth l.first nothing_gathered (drop (l.at + 1) (take l.count l.nodes)))
     (λ (j : ℕ) (rest : List Node). gathered_from l.above.depth l.first l.held rest) l.i
     × (l.held.children < l.i)
-
-abbrev pub decreases-loop-i : goal.decreases-loop-i
-decreases-loop-i l = l.n - l.i

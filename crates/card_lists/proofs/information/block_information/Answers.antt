@@ -16,9 +16,9 @@ sound c = sym c.is_sound.ensures ∙ c.if-not-is_sound.false
 pub returns-then-not-is_sound : goal.returns-then-not-is_sound
 returns-then-not-is_sound c = c.refused.ensures ∙ info_unsound _ _ _ (sym c.is_sound.ensures ∙ c.if-not-is_sound.true)
 
-pub returns-in-Refused : goal.returns-in-Refused
-returns-in-Refused c =
-    c.refused-in-Refused.ensures ∙ info_refused _ _ _ (sound (goal.at.returns-in-Refused c).Else-not-is_sound) c.ahead.ensures c.in-Refused.is
+pub returns-in-Err : goal.returns-in-Err
+returns-in-Err c =
+    c.refused-in-Err.ensures ∙ info_refused _ _ _ (sound (goal.at.returns-in-Err c).Else-not-is_sound) c.ahead.ensures c.in-Err.is
 
 pub information_of-requires : goal.information_of-requires
 information_of-requires c =

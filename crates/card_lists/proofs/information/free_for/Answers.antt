@@ -10,12 +10,12 @@ pub returns-then-code-eq65535 : goal.returns-then-code-eq65535
 unfolding area_named
 returns-then-code-eq65535 c ns t = rw (eq-eqb _ _ c.if-code-eq65535.true)
 
-pub returns-in-At : goal.returns-in-At
+pub returns-in-Some : goal.returns-in-Some
 unfolding area_named
-returns-in-At c ns t =
-    rw (ne_eqb _ _ c.if-code-eq65535.false, sym (tags_area ns t _) ∙ sym c.area_at.ensures ∙ c.in-At.is)
+returns-in-Some c ns t =
+    rw (ne_eqb _ _ c.if-code-eq65535.false, sym (tags_area ns t _) ∙ sym c.area_at.ensures ∙ c.in-Some.is)
 
-pub returns-in-Nothing : goal.returns-in-Nothing
+pub returns-in-None : goal.returns-in-None
 unfolding area_named
-returns-in-Nothing c ns t =
-    rw (ne_eqb _ _ c.if-code-eq65535.false, sym (tags_area ns t _) ∙ sym c.area_at.ensures ∙ c.in-Nothing.is)
+returns-in-None c ns t =
+    rw (ne_eqb _ _ c.if-code-eq65535.false, sym (tags_area ns t _) ∙ sym c.area_at.ensures ∙ c.in-None.is)

@@ -14,6 +14,3 @@ use Rattle.card_lists.proofs.information.put_free.Given as goal
 abbrev pub invariant-loop-i : goal.invariant-loop-i
 invariant-loop-i l =
     (l.i ≤ length l.asked) × (length l.to ≡ length l.initial.to) × OfTags l.tags (λ ns. l.to ≡ put l.initial.to 0 l.i (map (free_for ns l.unused) l.asked))
-
-abbrev pub decreases-loop-i : goal.decreases-loop-i
-decreases-loop-i l = length l.asked - l.i

@@ -12,6 +12,3 @@ use Rattle.card_questions.proofs.keys.areas_tagged.Given as goal
 
 abbrev pub invariant-loop-i : goal.invariant-loop-i
 invariant-loop-i l = OfTags l.tags (λ ns. InList l.areas (area_list_of ns l.areas) (all_areas ns) l.i)
-
-abbrev pub decreases-loop-i : goal.decreases-loop-i
-decreases-loop-i l = length l.areas - l.i

@@ -2,9 +2,8 @@
 use Rattle.std.proofs.Common.{sym, ◌∙◌, arith, rules}
 use borrow.Author.Tests.{ne_eqb}
 use Rattle.byte_parts.proofs.Tests.{tests}
-use Rattle.card_nodes.proofs.Records.{Records, found_index_lem}
 use Rattle.card_questions.specs.Keys.{version_of}
-use Rattle.card_questions.proofs.Version.{found_version}
+use Rattle.card_questions.proofs.Version.{found_inside, found_version}
 use Rattle.card_questions.proofs.keys.key_version.Goals as goal
 
 pub returns-then-code-eq65535 : goal.returns-then-code-eq65535
@@ -12,37 +11,26 @@ unfolding version_of
 returns-then-code-eq65535 c = search tests
 
 pub offset_bounds-nodes-i : goal.offset_bounds-nodes-i
-offset_bounds-nodes-i c =
-    let r : Records c.args.nodes c.args.count = record { all = search rules } in
-    omega (arith, found_index_lem r _ c.find_service.ensures c.in-At.is)
+offset_bounds-nodes-i c = omega (arith, found_inside _ _ c.find_service.ensures c.in-Some.is)
 
 pub bounds-nodes-i : goal.bounds-nodes-i
-bounds-nodes-i c =
-    let r : Records c.args.nodes c.args.count = record { all = search rules } in
-    found_index_lem r _ c.find_service.ensures c.in-At.is
+bounds-nodes-i c = found_inside _ _ c.find_service.ensures c.in-Some.is
 
-pub offset_bounds-nodes-i-in-At-find_area : goal.offset_bounds-nodes-i-in-At-find_area
-offset_bounds-nodes-i-in-At-find_area c =
-    let r : Records c.args.nodes c.args.count = record { all = search rules } in
-    omega (arith, found_index_lem r _ c.find_area.ensures c.in-At-find_area.is)
+pub offset_bounds-nodes-i-in-Some-find_area : goal.offset_bounds-nodes-i-in-Some-find_area
+offset_bounds-nodes-i-in-Some-find_area c = omega (arith, found_inside _ _ c.find_area.ensures c.in-Some-find_area.is)
 
-pub bounds-nodes-i-in-At-find_area : goal.bounds-nodes-i-in-At-find_area
-bounds-nodes-i-in-At-find_area c =
-    let r : Records c.args.nodes c.args.count = record { all = search rules } in
-    found_index_lem r _ c.find_area.ensures c.in-At-find_area.is
+pub bounds-nodes-i-in-Some-find_area : goal.bounds-nodes-i-in-Some-find_area
+bounds-nodes-i-in-Some-find_area c = found_inside _ _ c.find_area.ensures c.in-Some-find_area.is
 
-pub returns-in-At : goal.returns-in-At
+pub returns-in-Some : goal.returns-in-Some
 unfolding version_of
-returns-in-At c =
-    let r : Records c.args.nodes c.args.count = record { all = search rules } in
-    rw (ne_eqb _ _ c.if-code-eq65535.false) (found_version r _ c.find_service.ensures c.in-At.is _ _)
+returns-in-Some c = rw (ne_eqb _ _ c.if-code-eq65535.false) (found_version _ _ c.find_service.ensures c.in-Some.is _ _)
 
-pub returns-in-At-find_area : goal.returns-in-At-find_area
+pub returns-in-Some-find_area : goal.returns-in-Some-find_area
 unfolding version_of
-returns-in-At-find_area c =
-    let r : Records c.args.nodes c.args.count = record { all = search rules } in
+returns-in-Some-find_area c =
     rw (ne_eqb _ _ c.if-code-eq65535.false, sym c.find_service.ensures ∙ c.in_default.is)
-    (found_version r _ c.find_area.ensures c.in-At-find_area.is _ _)
+    (found_version _ _ c.find_area.ensures c.in-Some-find_area.is _ _)
 
 pub returns : goal.returns
 unfolding version_of

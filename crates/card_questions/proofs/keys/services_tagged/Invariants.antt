@@ -10,9 +10,6 @@ use Rattle.card_questions.specs.Keys.{service_list_of}
 use Rattle.card_questions.proofs.Lists.{InList, rest_of, none_read, last-read, unknown, disorder, keyed_read, free-read}
 use Rattle.card_questions.proofs.keys.services_tagged.Given as goal
 
-abbrev pub invariant-loop-i : goal.invariant-loop-i
-invariant-loop-i l =
-    OfTags l.tags (λ ns. InList l.services (service_list_of ns l.services) (rest_of ns l.has_keyed l.seen_free) l.i)
-
-abbrev pub decreases-loop-i : goal.decreases-loop-i
-decreases-loop-i l = length l.services - l.i
+abbrev pub invariant-loop-code : goal.invariant-loop-code
+invariant-loop-code l =
+    OfTags l.tags (λ ns. InList l.services (service_list_of ns l.services) (rest_of ns l.has_keyed l.seen_free) l.code-index)

@@ -10,7 +10,4 @@ use Rattle.card_questions.proofs.Filled.{Filled, none_filled, one_filled, all-fi
 use Rattle.card_questions.proofs.table.column_of.Given as goal
 
 abbrev pub invariant-loop-i : goal.invariant-loop-i
-invariant-loop-i l = Filled (map (cell_of l.column) l.nodes) l.initial.cells l.cells l.i
-
-abbrev pub decreases-loop-i : goal.decreases-loop-i
-decreases-loop-i l = 64 - l.i
+invariant-loop-i l = Filled (map (cell_of l.column) l.node-items) l.initial.cells l.cells l.i

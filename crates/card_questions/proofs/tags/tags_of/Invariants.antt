@@ -10,7 +10,4 @@ use Rattle.card_questions.proofs.Filled.{Filled, none_filled, one_filled, all-fi
 use Rattle.card_questions.proofs.tags.tags_of.Given as goal
 
 abbrev pub invariant-loop-i : goal.invariant-loop-i
-invariant-loop-i l = Filled (map tag_of l.nodes) l.initial.tags l.tags l.i
-
-abbrev pub decreases-loop-i : goal.decreases-loop-i
-decreases-loop-i l = 64 - l.i
+invariant-loop-i l = Filled (map tag_of l.node-items) l.initial.tags l.tags l.i

@@ -13,6 +13,3 @@ use Rattle.card_questions.proofs.totals.put_totals_in.Given as goal
 abbrev pub invariant-loop-i : goal.invariant-loop-i
 invariant-loop-i l =
     (l.i ≤ length l.asked) × (length l.to ≡ length l.initial.to) × OfColumns l.tags l.depths l.seconds l.blocks (λ ns. l.to ≡ put l.initial.to 0 l.i (map (total_of ns) l.asked))
-
-abbrev pub decreases-loop-i : goal.decreases-loop-i
-decreases-loop-i l = length l.asked - l.i

@@ -6,12 +6,12 @@ use Rattle.handset.proofs.readers.judged.Goals as goal
 
 pub returns-then-both : goal.returns-then-both
 unfolding roomed
-returns-then-both c = rw (c.in-Done.is, sym c.both_fit-both.ensures ∙ c.if-both.true)
+returns-then-both c = rw (c.in-Ok.is, sym c.both_fit-both.ensures ∙ c.if-both.true)
 
-pub returns-in-Refused : goal.returns-in-Refused
+pub returns-in-Err : goal.returns-in-Err
 unfolding roomed
-returns-in-Refused c = rw c.in-Refused.is
+returns-in-Err c = rw c.in-Err.is
 
 pub returns-else-both : goal.returns-else-both
 unfolding roomed
-returns-else-both c = rw (c.in-Done.is, sym c.both_fit-both.ensures ∙ c.if-both.false)
+returns-else-both c = rw (c.in-Ok.is, sym c.both_fit-both.ensures ∙ c.if-both.false)

@@ -10,12 +10,12 @@ use Rattle.handset_bytes.specs.Field.{fields_put}
 use Rattle.handset_bytes.proofs.Writes.{limit-put}
 use Rattle.handset_bytes.proofs.node.write_limit.Goals as goal
 
-pub returns-in-Unlimited : goal.returns-in-Unlimited
+pub returns-in_default : goal.returns-in_default
 unfolding fields_put
-returns-in-Unlimited c = rw c.in-Unlimited.is
+returns-in_default c = rw c.in_default.is
 
-pub returns-in-Limited : goal.returns-in-Limited
-returns-in-Limited c =
+pub returns-in-Some : goal.returns-in-Some
+returns-in-Some c =
     limit-put _ _ _ _ _ _ _ _ _ (c.bits.ensures ∙ ap word_of (clean w32 _ (omega arith)))
-    (c.bits-in-Limited.ensures ∙ ap word_of (clean w32 _ (omega arith))) c.put_word.ensures c.put_word-in-Limited.ensures
-    c.in-Limited.is
+    (c.bits-in-Some.ensures ∙ ap word_of (clean w32 _ (omega arith))) c.put_word.ensures c.put_word-in-Some.ensures
+    c.in-Some.is

@@ -7,16 +7,16 @@ use Rattle.inspect_answer.proofs.message.put_message.Goals as goal
 
 pub slice_bounds-put_hex-end : goal.slice_bounds-put_hex-end
 slice_bounds-put_hex-end c =
-    omega (arith, rw c.in-Bytes.is at c.requires.0)
+    omega (arith, rw c.in-Ok.is at c.requires.0)
 
 pub put_hex-requires : goal.put_hex-requires
 put_hex-requires c =
     simp length-take (omega (arith, c.requires.1, c.requires.2))
 
-pub returns-in-Bytes-clause-written : goal.returns-in-Bytes-clause-written
-returns-in-Bytes-clause-written c =
-    rw c.in-Bytes.is (rw (sub-zero c.in-Bytes.n) at c.put_hex.ensures.written)
+pub returns-in-Ok-clause-written : goal.returns-in-Ok-clause-written
+returns-in-Ok-clause-written c =
+    rw c.in-Ok.is (rw (sub-zero c.in-Ok.n) at c.put_hex.ensures.written)
 
-pub returns-in-Refused-clause-written : goal.returns-in-Refused-clause-written
-returns-in-Refused-clause-written c =
-    rw c.in-Refused.is (c.put_refusal.ensures.written)
+pub returns-in-Err-clause-written : goal.returns-in-Err-clause-written
+returns-in-Err-clause-written c =
+    rw c.in-Err.is (c.put_refusal.ensures.written)

@@ -6,9 +6,9 @@ use Rattle.inspect_fields.proofs.line.read_bytes.Goals as goal
 
 pub put_field-requires : goal.put_field-requires
 put_field-requires c =
-    (c.requires.0, omega (arith, bytes-room c.args.line.now c.requires.1, c.requires.2), c.find_ends-ends.ensures)
+    rw c.new.ensures (c.requires.0, omega (arith, bytes-room c.args.line.now c.requires.1, c.requires.2))
 
 pub returns : goal.returns
 returns c =
-    let e = c.put_field.ensures in
-    (record { value = (omega (arith, e.value), omega (arith, e.value, bytes-room c.args.line.now c.requires.1)); bytes_after = e.bytes_after })
+    let many = rw c.new.ensures at c.put_field.ensures.value in
+    record { value = (omega (arith, many), omega (arith, many, bytes-room c.args.line.now c.requires.1)); bytes_after = rw c.new.ensures at c.put_field.ensures.bytes_after }

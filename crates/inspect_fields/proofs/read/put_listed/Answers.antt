@@ -4,13 +4,13 @@ use native.Mathlib.Omega.{arith}
 use Rattle.inspect_fields.specs.Fields.{read_list_fields}
 use Rattle.inspect_fields.proofs.read.put_listed.Goals as goal
 
-pub returns-in-Done : goal.returns-in-Done
+pub returns-in-Ok : goal.returns-in-Ok
 unfolding read_list_fields
-returns-in-Done c =
-    rw (← c.read_code_list-listed.ensures, c.in-Done.is)
+returns-in-Ok c =
+    rw (← c.read_code_list-listed.ensures, c.in-Ok.is)
     (record { written = c.put_code_list.ensures.written; upper_bound = c.put_code_list.ensures.upper_bound })
 
-pub returns-in-Refused : goal.returns-in-Refused
+pub returns-in-Err : goal.returns-in-Err
 unfolding read_list_fields
-returns-in-Refused c =
-    rw (← c.read_code_list-listed.ensures, c.in-Refused.is) (record { written = c.put_refusal.ensures.written; upper_bound = omega (arith, c.put_refusal.ensures.upper_bound) })
+returns-in-Err c =
+    rw (← c.read_code_list-listed.ensures, c.in-Err.is) (record { written = c.put_refusal.ensures.written; upper_bound = omega (arith, c.put_refusal.ensures.upper_bound) })

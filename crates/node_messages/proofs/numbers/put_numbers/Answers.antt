@@ -10,21 +10,17 @@ use Rattle.node_messages.proofs.NumberLaws.{put-number}
 use Rattle.node_messages.proofs.numbers.put_numbers.Goals as goal
 
 pub loop-i-init : goal.loop-i-init
-loop-i-init c = (omega arith, sym (put_zero _ _ _), refl)
+loop-i-init c = (sym (put_zero _ _ _), refl)
 
 pub loop-i-preserved : goal.loop-i-preserved
 loop-i-preserved c =
     let a = c.args in
-    let e = rw c.loop-i.invariant.1 at c.put_half.ensures in
+    let e = rw c.loop-i.invariant.0 at c.put_half.ensures in
     let p : c.put_half.new.s ≡ put a.out.now a.at (2 * (c.loop-i.i + 1)) (numbers_bytes a.numbers.now) =
     e ∙ put-number a.out.now a.at a.numbers.now c.loop-i.i (omega arith) in
-    (omega arith, p, rw p (length-put a.out.now a.at (2 * (c.loop-i.i + 1)) (numbers_bytes a.numbers.now)))
+    (p, rw p (length-put a.out.now a.at (2 * (c.loop-i.i + 1)) (numbers_bytes a.numbers.now)))
 
 pub returns : goal.returns
 returns c =
-    let a = c.args in
-    let e : c.loop-i.i ≡ length a.numbers.now = omega arith in
-    rw e at c.loop-i.invariant.1
-
-pub overflow_cast-numbers : goal.overflow_cast-numbers
-overflow_cast-numbers c = omega (arith, c.shared_slice_known-in-loop-i-1.given c.loop-i.i)
+    let e : c.loop-i.i ≡ length c.args.numbers.now = omega arith in
+    rw e at c.loop-i.invariant.0

@@ -1,7 +1,7 @@
 -- After i turns i numbers are read.
 use native.Mathlib.Omega.{arith}
 use native.Mathlib.Nat.{zero-add}
-use mathlib.Core.Path.{◌≡◌, refl, sym, ◌∙◌}
+use mathlib.Core.Path.{refl, sym, ◌∙◌}
 use lib.ListN.{drop, length-set}
 use Rattle.byte_parts.proofs.Part.{put_zero}
 use Rattle.byte_parts.proofs.Put.{put_next}
@@ -10,7 +10,7 @@ use Rattle.node_messages.proofs.NumberLaws.{length_in, in_from_lem}
 use Rattle.node_messages.proofs.numbers.read_numbers.Goals as goal
 
 pub loop-i-init : goal.loop-i-init
-loop-i-init c = (omega arith, sym (put_zero _ _ _), refl)
+loop-i-init c = (sym (put_zero _ _ _), refl)
 
 pub loop-i-preserved : goal.loop-i-preserved
 loop-i-preserved c =
@@ -20,10 +20,4 @@ loop-i-preserved c =
     let n = length_in a.n (drop a.at s) in
     let x = c.half.ensures ∙ sym (in_from_lem a.n s a.at i (omega arith)) in
     let e = rw (zero-add i) at (put_next a.to.now 0 (numbers_in a.n (drop a.at s)) i c.half.result (omega arith) x) in
-    (omega arith, rw c.loop-i.invariant.1 e, simp length-set (omega arith))
-
-pub returns : goal.returns
-returns c =
-    let a = c.args in
-    let e : c.loop-i.i ≡ a.n = omega arith in
-    rw e at c.loop-i.invariant.1
+    (rw c.loop-i.invariant.0 e, simp length-set (omega arith))

@@ -14,20 +14,20 @@ pub returns-in_default : goal.returns-in_default
 returns-in_default c = no_fault_lem _ _ _ _ _ _ c.unpack.ensures c.in_default.is
 
 pub bounds-table-e : goal.bounds-table-e
-bounds-table-e c = index_small _ _ (sym c.unpack.ensures ∙ c.in-Element.is)
+bounds-table-e c = index_small _ _ (sym c.unpack.ensures ∙ c.in-Some.is)
 
-pub returns-in-Failed : goal.returns-in-Failed
-returns-in-Failed c =
+pub returns-in-Err : goal.returns-in-Err
+returns-in-Err c =
     let t = c.args.table in
     let sixteen : length t.rows ≡ 16 = search rules in
-    let small = index_small _ _ (sym c.unpack.ensures ∙ c.in-Element.is) in
-    let checked = c.element_check.ensures ∙ named t.rows t.count c.args.write c.args.«open» c.in-Element.e _ sixteen small in
-    fault_told _ _ _ _ _ _ c.unpack.ensures c.in-Element.is checked c.in-Failed.is
+    let small = index_small _ _ (sym c.unpack.ensures ∙ c.in-Some.is) in
+    let checked = c.element_check.ensures ∙ named t.rows t.count c.args.write c.args.«open» c.in-Some.taken.element _ sixteen small in
+    fault_told _ _ _ _ _ _ c.unpack.ensures c.in-Some.is checked c.in-Err.is
 
 pub returns : goal.returns
 returns c =
     let t = c.args.table in
     let sixteen : length t.rows ≡ 16 = search rules in
-    let small = index_small _ _ (sym c.unpack.ensures ∙ c.in-Element.is) in
-    let checked = c.element_check.ensures ∙ named t.rows t.count c.args.write c.args.«open» c.in-Element.e _ sixteen small in
-    fault_none _ _ _ _ _ _ c.unpack.ensures c.in-Element.is checked c.in_default-element_check.is
+    let small = index_small _ _ (sym c.unpack.ensures ∙ c.in-Some.is) in
+    let checked = c.element_check.ensures ∙ named t.rows t.count c.args.write c.args.«open» c.in-Some.taken.element _ sixteen small in
+    fault_none _ _ _ _ _ _ c.unpack.ensures c.in-Some.is checked c.in_default-element_check.is

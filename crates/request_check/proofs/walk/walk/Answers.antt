@@ -1,4 +1,4 @@
--- The invariant: what the walk says of all elements is what it says of those that are left from `at`, the first of them number i.
+-- What the walk says of all elements is what it says of those that are left.
 use mathlib.Core.Path.{◌≡◌, sym, ◌∙◌}
 use Prim.Native.Nat.{◌-◌, ◌≤◌, ◌<◌}
 use native.Mathlib.Omega.{arith}
@@ -11,15 +11,15 @@ use Rattle.request_check.proofs.Walks.{walk-over, walk_short, walk_stops, walk_o
 use Rattle.request_check.proofs.walk.walk.Goals as goal
 
 pub loop-i-init : goal.loop-i-init
-loop-i-init c = (omega arith, rw sub-zero)
+loop-i-init c = rw sub-zero
 
 pub returns-in_default : goal.returns-in_default
 returns-in_default c =
     let l = c.loop-i in
-    sym (l.invariant.1 ∙ walk_short _ _ _ _ c.unpack.ensures _ (omega arith) c.in_default.is)
+    sym (l.invariant ∙ walk_short _ _ _ _ c.unpack.ensures _ (omega arith) c.in_default.is)
 
 pub bounds-list-at : goal.bounds-list-at
-bounds-list-at c = stands _ _ (sym c.unpack.ensures ∙ c.in-Element.is)
+bounds-list-at c = stands _ _ (sym c.unpack.ensures ∙ c.in-Some.is)
 
 pub bounds-bounds-head : goal.bounds-bounds-head
 bounds-bounds-head c = omega (arith, c.requires)
@@ -27,12 +27,12 @@ bounds-bounds-head c = omega (arith, c.requires)
 pub returns-then-bounds-head : goal.returns-then-bounds-head
 returns-then-bounds-head c =
     let l = c.loop-i in
-    sym (l.invariant.1 ∙ walk_stops _ _ _ _ c.unpack.ensures c.in-Element.is _ (omega arith) c.if-bounds-head.true)
+    sym (l.invariant ∙ walk_stops _ _ _ _ c.unpack.ensures c.in-Some.is _ (omega arith) c.if-bounds-head.true)
 
 pub loop-i-preserved : goal.loop-i-preserved
 loop-i-preserved c =
     let l = c.loop-i in
-    (omega arith, l.invariant.1 ∙ walk_on_lem _ _ _ _ c.unpack.ensures c.in-Element.is (omega arith) c.if-bounds-head.false)
+    l.invariant ∙ walk_on_lem _ _ _ _ c.unpack.ensures c.in-Some.is (omega arith) c.if-bounds-head.false
 
 pub returns : goal.returns
-returns c = sym (c.loop-i.invariant.1 ∙ walk-over _ _ _ _ _ (omega arith))
+returns c = sym (c.loop-i.invariant ∙ walk-over _ _ _ _ _ (omega arith))

@@ -6,25 +6,25 @@ use Rattle.request_serve.proofs.reading.copy_blocks.Goals as goal
 
 pub bounds-table-e : goal.bounds-table-e
 bounds-table-e c =
-    ready_small c.args.table c.well_formed.1.1.0.1.1.0.1.0.1 (ready_here c.loop-i.invariant c.unpack.ensures c.loop-i-test.true c.in-Element.is)
+    ready_small c.args.table c.well_formed.1.1.0.1.1.0.1.0.1 (ready_here c.loop-i.invariant c.unpack.ensures c.loop-i-test.true c.in-Some.is)
 
 pub copy_block-requires : goal.copy_block-requires
 copy_block-requires c =
     let k = c.loop-i.invariant in
     let n = k.long in
-    let r = ready_here k c.unpack.ensures c.loop-i-test.true c.in-Element.is in (
+    let r = ready_here k c.unpack.ensures c.loop-i-test.true c.in-Some.is in (
       omega arith,
-      inside k c.unpack.ensures c.loop-i-test.true c.in-Element.is (ready_row c.args.table c.well_formed.1.1.0.1.1.0.1.0.1 r _) c.block_at-from.ensures,
+      inside k c.unpack.ensures c.loop-i-test.true c.in-Some.is (ready_row c.args.table c.well_formed.1.1.0.1.1.0.1.0.1 r _) c.block_at-from.ensures,
     )
 
 pub loop-i-preserved : goal.loop-i-preserved
 loop-i-preserved c =
     let k = c.loop-i.invariant in
-    let r = ready_here k c.unpack.ensures c.loop-i-test.true c.in-Element.is in
-    turn k c.unpack.ensures c.loop-i-test.true c.in-Element.is (ready_row c.args.table c.well_formed.1.1.0.1.1.0.1.0.1 r _) c.block_at-from.ensures c.copy_block.ensures
+    let r = ready_here k c.unpack.ensures c.loop-i-test.true c.in-Some.is in
+    turn k c.unpack.ensures c.loop-i-test.true c.in-Some.is (ready_row c.args.table c.well_formed.1.1.0.1.1.0.1.0.1 r _) c.block_at-from.ensures c.copy_block.ensures
 
 pub returns-after-loop-i : goal.returns-after-loop-i
-returns-after-loop-i c = over c.loop-i.invariant c.loop-i-test.false
+returns-after-loop-i c = over c.loop-i.invariant (omega arith)
 
 pub returns-in_default : goal.returns-in_default
 returns-in_default c = cut c.loop-i.invariant c.unpack.ensures c.loop-i-test.true c.in_default.is

@@ -8,7 +8,7 @@ pub copy_blocks-requires : goal.copy_blocks-requires
 copy_blocks-requires c =
     let a = c.args in
     let s = c.settle-settled.ensures in
-    read_ready a.card a.arena.now a.out.now _ _ _ _ (sym (rw c.is_sound-sound.ensures at s.0) ∙ c.in-Fit.is) s.1.0 s.1.1 c.well_formed.0.1.1.0.1.0.1 c.in-Passed.is
+    read_ready a.card a.arena.now a.out.now _ _ _ _ (sym (rw c.is_sound-sound.ensures at s.0) ∙ c.in-Fit.is) s.1.0 s.1.1 c.well_formed.0.1.1.0.1.0.1 c.in-Ok.is
 
 pub returns-in-Refused : goal.returns-in-Refused
 returns-in-Refused c =
@@ -18,12 +18,12 @@ pub returns-in-ShortData : goal.returns-in-ShortData
 returns-in-ShortData c =
     unread _ (short _ _ _ (sym (rw c.is_sound-sound.ensures at c.settle-settled.ensures.0) ∙ c.in-ShortData.is))
 
-pub returns-in-Failed : goal.returns-in-Failed
-returns-in-Failed c =
+pub returns-in-Err : goal.returns-in-Err
+returns-in-Err c =
     let s = c.settle-settled.ensures in
-    read-failed _ _ _ _ _ _ _ (sym (rw c.is_sound-sound.ensures at s.0) ∙ c.in-Fit.is) s.1.0 s.1.1 c.in-Failed.is
+    read-failed _ _ _ _ _ _ _ (sym (rw c.is_sound-sound.ensures at s.0) ∙ c.in-Fit.is) s.1.0 s.1.1 c.in-Err.is
 
-pub returns-in-Passed : goal.returns-in-Passed
-returns-in-Passed c =
+pub returns-in-Ok : goal.returns-in-Ok
+returns-in-Ok c =
     let s = c.settle-settled.ensures in
-    read_done _ _ _ _ _ _ _ (sym (rw c.is_sound-sound.ensures at s.0) ∙ c.in-Fit.is) s.1.0 s.1.1 c.in-Passed.is c.copy_blocks.ensures
+    read_done _ _ _ _ _ _ _ (sym (rw c.is_sound-sound.ensures at s.0) ∙ c.in-Fit.is) s.1.0 s.1.1 c.in-Ok.is c.copy_blocks.ensures

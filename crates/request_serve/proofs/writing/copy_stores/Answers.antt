@@ -1,4 +1,5 @@
 -- The invariant: to copy the stores of the rows left is all that is left.
+use native.Mathlib.Omega.{arith}
 use Rattle.request_serve.proofs.Stores.{over, row_here, turn}
 use Rattle.request_serve.proofs.writing.copy_stores.Goals as goal
 
@@ -12,4 +13,4 @@ loop-i-preserved c =
 
 pub returns : goal.returns
 returns c =
-    over c.args.table c.well_formed.1.1.0.1.1.0.1.0.1 c.requires.0 c.loop-i.invariant c.loop-i-test.false
+    over c.args.table c.well_formed.1.1.0.1.1.0.1.0.1 c.requires.0 c.loop-i.invariant (omega arith)

@@ -8,32 +8,19 @@ use Rattle.rule_purse.specs.Purse.{inside_of}
 use Rattle.rule_purse.proofs.Range.{under, above}
 use Rattle.rule_purse.proofs.fields.inside.Goals as goal
 
-pub returns-then-v-lt0 : goal.returns-then-v-lt0
+pub returns-else-v-ge0 : goal.returns-else-v-ge0
 unfolding inside_of
-returns-then-v-lt0 c =
+returns-else-v-ge0 c =
     let k = clean w64 c.args.v c.ranges.v.sfits in
-    rw c.in-Unlimited.is (under (pos 0) (pos 4294967295) c.args.v (rw k at c.if-v-lt0.true))
+    rw (c.in-None.is, k) (under (pos 0) (pos 4294967295) c.args.v (rw k at c.if-v-ge0.false))
 
-pub returns-else-v-lt0 : goal.returns-else-v-lt0
+pub returns-then-v-ge0 : goal.returns-then-v-ge0
 unfolding inside_of
-returns-else-v-lt0 c =
+returns-then-v-ge0 c =
     let k = clean w64 c.args.v c.ranges.v.sfits in
-    rw (c.in-Unlimited.is, k)
-    (above (pos 0) (pos 4294967295) c.args.v (lit< tt) (lit< tt) (rw k at c.if-v-lt0.false))
+    rw (c.in-None.is, k)
+    (above (pos 0) (pos 4294967295) c.args.v (lit< tt) (lit< tt) (rw k at c.if-v-ge0.true))
 
-pub returns-then-v-lower : goal.returns-then-v-lower
+pub returns-in-Some : goal.returns-in-Some
 unfolding inside_of
-returns-then-v-lower c =
-    let m = c.in-Limited in
-    let k = clean w64 c.args.v c.ranges.v.sfits in
-    let kl = widened m.lower (omega arith) in
-    rw m.is (under m.lower m.upper c.args.v (rw (k, kl) at c.if-v-lower.true))
-
-pub returns-else-v-lower : goal.returns-else-v-lower
-unfolding inside_of
-returns-else-v-lower c =
-    let m = c.in-Limited in
-    let k = clean w64 c.args.v c.ranges.v.sfits in
-    let kl = widened m.lower (omega arith) in
-    rw (m.is, k, widened m.upper (omega arith))
-    (above m.lower m.upper c.args.v (omega arith) (omega arith) (rw (k, kl) at c.if-v-lower.false))
+returns-in-Some c = rw c.in-Some.is (rw (clean w64 c.args.v c.ranges.v.sfits) at c.between.ensures)

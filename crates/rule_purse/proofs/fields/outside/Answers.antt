@@ -3,10 +3,10 @@ use mathlib.Core.Path.{refl}
 use Rattle.rule_purse.specs.Purse.{outside_of}
 use Rattle.rule_purse.proofs.fields.outside.Goals as goal
 
-pub returns-in-Unlimited : goal.returns-in-Unlimited
+pub returns-in-None : goal.returns-in-None
 unfolding outside_of
-returns-in-Unlimited c = rw c.in-Unlimited.is refl
+returns-in-None c = rw c.in-None.is refl
 
-pub returns-in-Limited : goal.returns-in-Limited
+pub returns-in-Some : goal.returns-in-Some
 unfolding outside_of
-returns-in-Limited c = rw c.in-Limited.is refl
+returns-in-Some c = rw c.in-Some.is refl

@@ -3,10 +3,10 @@ use mathlib.Core.Path.{refl}
 use Rattle.rule_purse.specs.Purse.{stored_of}
 use Rattle.rule_purse.proofs.fields.stored_of.Goals as goal
 
-pub returns-in-Inside : goal.returns-in-Inside
+pub returns-in-Some : goal.returns-in-Some
 unfolding stored_of
-returns-in-Inside c = rw c.in-Inside.is refl
+returns-in-Some c = rw c.in-Some.is refl
 
-pub returns-in-Outside : goal.returns-in-Outside
+pub returns-in-None : goal.returns-in-None
 unfolding stored_of
-returns-in-Outside c = rw (c.in-Outside.is, c.outside.ensures) refl
+returns-in-None c = rw (c.in-None.is, c.outside.ensures) refl

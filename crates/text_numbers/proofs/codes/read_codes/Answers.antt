@@ -25,8 +25,5 @@ loop-i-preserved c =
     let e = rw (zero-add i) at (put_next a.out.now 0 (codes_of s) i c.code_at.result (omega arith) c.code_at.ensures) in
     (omega arith, omega arith, rw c.loop-i.invariant.2 e, simp length-set (omega arith))
 
-pub returns-then-s-i-clause-value : goal.returns-then-s-i-clause-value
-returns-then-s-i-clause-value c = omega (arith, length-codes c.args.s.now)
-
 pub returns-clause-value : goal.returns-clause-value
 returns-clause-value c = omega (arith, length-codes c.args.s.now)

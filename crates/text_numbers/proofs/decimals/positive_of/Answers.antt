@@ -1,20 +1,12 @@
--- `decimals::positive_of` meets its contract: each arm says which variant it is in. Assumes nothing.
+-- `decimals::positive_of` meets its contract: what 32 bits with a sign hold is given. Assumes nothing.
 use mathlib.Core.Path.{sym, ap, ◌∙◌}
-use mir.Syntax.{w32}
-use mir.Facts.{to_z-of_z}
-use Rattle.text_numbers.specs.declared.decimals.Signed.TheVariants.{Is}
 use Rattle.text_numbers.specs.Decimal.{positive}
-use Rattle.text_numbers.proofs.DecimalLaws.{positive_is, positive-bad}
+use Rattle.text_numbers.proofs.DecimalLaws.{positive_from}
 use Rattle.text_numbers.proofs.decimals.positive_of.Goals as goal
 
-pub returns-in_default : goal.returns-in_default
+pub returns-in_err-n : goal.returns-in_err-n
 unfolding positive
-returns-in_default c = sym (ap positive c.in_default.is)
-
-pub returns-then-k-ge2147483648 : goal.returns-then-k-ge2147483648
-returns-then-k-ge2147483648 c = sym (ap positive c.in-Is.is ∙ positive-bad c.in-Is.k c.if-k-ge2147483648.true)
+returns-in_err-n c = c.from_residual.ensures ∙ sym (ap positive c.in_err-n.was)
 
 pub returns : goal.returns
-returns c =
-    ap Is (to_z-of_z {w = w32} record { sfits = c.plus.type_inv } ∙ c.plus.ensures)
-    ∙ sym (ap positive c.in-Is.is ∙ positive_is c.in-Is.k c.if-k-ge2147483648.false)
+returns c = c.ok.ensures.value ∙ positive_from c.in_ok-n.field-0 c.try_from.result c.try_from.ensures ∙ sym (ap positive c.in_ok-n.was)

@@ -12,22 +12,22 @@ pub returns-then-n-most : goal.returns-then-n-most
 returns-then-n-most c =
     let a = c.args in
     let s = a.s.now in
-    let i = c.loop-i.i in
-    let e = c.loop-i.invariant.1 ∙ spelt_here 10 s i c.loop-i.n (omega arith) in
-    let g = spelt_least (drop (i + 1) s) (c.loop-i.n * 10 + digit_of (get_or s i 0)) in
+    let i = c.loop-x.x-index in
+    let e = c.loop-x.invariant.1 ∙ spelt_here 10 s i c.loop-x.n (omega arith) in
+    let g = spelt_least (drop (i + 1) s) (c.loop-x.n * 10 + digit_of (get_or s i 0)) in
     let h : a.most < spelt 10 0 s = omega (arith, c.digit.ensures) in
     sym (up_to-bad a.most (spelt 10 0 s) h)
 
-pub loop-i-preserved : goal.loop-i-preserved
-loop-i-preserved c =
+pub loop-x-preserved : goal.loop-x-preserved
+loop-x-preserved c =
     let s = c.args.s.now in
-    (omega arith, rw c.digit.ensures (c.loop-i.invariant.1 ∙ spelt_here 10 s c.loop-i.i c.loop-i.n (omega arith)))
+    (omega arith, rw c.digit.ensures (c.loop-x.invariant.1 ∙ spelt_here 10 s c.loop-x.x-index c.loop-x.n (omega arith)))
 
 pub returns : goal.returns
 returns c =
     let a = c.args in
-    let e = c.loop-i.invariant.1 ∙ spelt-end 10 a.s.now c.loop-i.i c.loop-i.n (omega arith) in
-    rw e (sym (up_to_is_lem a.most c.loop-i.n c.loop-i.invariant.0))
+    let e = c.loop-x.invariant.1 ∙ spelt-end 10 a.s.now c.loop-x.x-index c.loop-x.n (omega arith) in
+    rw e (sym (up_to_is_lem a.most c.loop-x.n c.loop-x.invariant.0))
 
-pub loop-i-init : goal.loop-i-init
-loop-i-init c = (omega arith, refl)
+pub loop-x-init : goal.loop-x-init
+loop-x-init c = (omega arith, refl)

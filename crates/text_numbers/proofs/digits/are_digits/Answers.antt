@@ -4,15 +4,15 @@ use native.Mathlib.Omega.{arith}
 use Rattle.text_numbers.proofs.DigitLaws.{digits_with, digits-end, and-true}
 use Rattle.text_numbers.proofs.digits.are_digits.Goals as goal
 
-pub loop-i-preserved : goal.loop-i-preserved
-loop-i-preserved c =
+pub loop-x-preserved : goal.loop-x-preserved
+loop-x-preserved c =
     let a = c.args in
-    c.loop-i.invariant ∙ rw c.with_digit-all.ensures (digits_with a.base a.s.now c.loop-i.i c.loop-i.all (omega arith))
+    c.loop-x.invariant ∙ rw c.with_digit-all.ensures (digits_with a.base a.s.now c.loop-x.x-index c.loop-x.all (omega arith))
 
 pub returns : goal.returns
 returns c =
     let a = c.args in
-    sym (c.loop-i.invariant ∙ rw (digits-end a.base a.s.now c.loop-i.i (omega arith)) (and-true c.loop-i.all))
+    sym (c.loop-x.invariant ∙ rw (digits-end a.base a.s.now c.loop-x.x-index (omega arith)) (and-true c.loop-x.all))
 
-pub loop-i-init : goal.loop-i-init
-loop-i-init c = refl
+pub loop-x-init : goal.loop-x-init
+loop-x-init c = refl

@@ -5,8 +5,5 @@ use lib.ListN.{length, drop}
 use Rattle.text_numbers.specs.Digit.{digits}
 use Rattle.text_numbers.proofs.digits.are_digits.Given as goal
 
-abbrev pub invariant-loop-i : goal.invariant-loop-i
-invariant-loop-i l = digits l.base l.s ≡ (l.all && digits l.base (drop l.i l.s))
-
-abbrev pub decreases-loop-i : goal.decreases-loop-i
-decreases-loop-i l = length l.s - l.i
+abbrev pub invariant-loop-x : goal.invariant-loop-x
+invariant-loop-x l = digits l.base l.s ≡ (l.all && digits l.base (drop l.x-index l.s))

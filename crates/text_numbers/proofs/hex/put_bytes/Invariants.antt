@@ -7,6 +7,3 @@ use Rattle.text_numbers.proofs.hex.put_bytes.Given as goal
 
 abbrev pub invariant-loop-i : goal.invariant-loop-i
 invariant-loop-i l = (l.i ≤ l.n) × (l.out ≡ put l.initial.out l.at l.i (unhex l.s)) × (length l.out ≡ length l.initial.out)
-
-abbrev pub decreases-loop-i : goal.decreases-loop-i
-decreases-loop-i l = l.n - l.i

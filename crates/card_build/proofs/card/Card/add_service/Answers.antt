@@ -1,5 +1,5 @@
 -- The code asks in the definition's order; an accepted service finds its blocks free, and its depth fits.
-use Rattle.std.proofs.Common.{◌≡◌, refl, sym, ◌∙◌, leb, length, arith}
+use Rattle.std.proofs.Common.{◌≡◌, refl, sym, ◌∙◌, leb, length, arith, Result}
 use Rattle.card_admit.specs.declared.Placed.{Placed}
 use Rattle.card_admit.specs.Admit.{placed_of, agreed}
 use Rattle.card_admit.proofs.Counts.{agreed-stored}
@@ -8,7 +8,8 @@ use Rattle.card_build.specs.Grow.{ahead_of_service}
 use Rattle.card_build.proofs.Accepted.{Fits, service-accepted}
 use Rattle.card_build.proofs.Answers.{grew, Clear, service-clear, service-ahead, service-refused, service-stored, arena-after, arena-kept}
 use Rattle.card_build.proofs.card.Card.add_service.Goals as goal
-use Rattle.card_build.proofs.card.Card.add_service.Goals.{After-ahead, After-place_service, In-Store}
+use Rattle.card_build.proofs.card.Card.add_service.Goals.{After-ahead, After-place_service, In-Ok}
+use Rattle.answers.specs.declared.refusal.Refusal.{Refusal}
 
 -- what is ahead, of the card and the arena
 told : (c : After-ahead) →
@@ -24,39 +25,39 @@ clear c =
     service-clear a.self (length a.arena.now) a.depth a.code a.blocks a.version t c.in_default.is
 
 -- where the service was placed
-placed : (c : After-place_service) {p : Placed} → c.place_service.result ≡ p →
+placed : (c : After-place_service) {p : Result Placed Refusal} → c.place_service.result ≡ p →
     let a = c.args in
     agreed a.self.system.join a.blocks (placed_of (nodes_of a.self) a.self.used (length a.arena.now) a.depth a.code a.blocks) ≡ p
 placed c e = sym c.place_service.ensures ∙ e
 
 -- its blocks are free, and the depth fits
-fits : (c : In-Store) → Clear (length c.args.arena.now) c.args.self.used c.args.self.count →
-    Fits c.args.depth c.args.self.used (length c.args.arena.now) c.in-Store.after
+fits : (c : In-Ok) → Clear (length c.args.arena.now) c.args.self.used c.args.self.count →
+    Fits c.args.depth c.args.self.used (length c.args.arena.now) c.in-Ok.field-0.used
 fits c clear =
     let a = c.args in
     let e =
     agreed-stored a.self.system.join a.blocks
-    (placed_of (nodes_of a.self) a.self.used (length a.arena.now) a.depth a.code a.blocks) (sym c.place_service.ensures ∙ c.in-Store.is) in
+    (placed_of (nodes_of a.self) a.self.used (length a.arena.now) a.depth a.code a.blocks) (sym c.place_service.ensures ∙ c.in-Ok.is) in
     service-accepted _ _ _ _ _ _ e clear.long
 
-pub returns-in-Refused-clause-value : goal.returns-in-Refused-clause-value
-returns-in-Refused-clause-value c =
-    c.refuse.ensures ∙ service-ahead _ _ _ _ _ _ (told (goal.at.returns-in-Refused-clause-value c).After-ahead) c.in-Refused.is
+pub returns-in-Err-clause-value : goal.returns-in-Err-clause-value
+returns-in-Err-clause-value c =
+    c.refuse.ensures ∙ service-ahead _ _ _ _ _ _ (told (goal.at.returns-in-Err-clause-value c).After-ahead) c.in-Err.is
 
-pub returns-in-Refused-clause-arena_after : goal.returns-in-Refused-clause-arena_after
-returns-in-Refused-clause-arena_after c =
-    arena-kept _ _ (service-ahead _ _ _ _ _ _ (told (goal.at.returns-in-Refused-clause-arena_after c).After-ahead) c.in-Refused.is) refl
+pub returns-in-Err-clause-arena_after : goal.returns-in-Err-clause-arena_after
+returns-in-Err-clause-arena_after c =
+    arena-kept _ _ (service-ahead _ _ _ _ _ _ (told (goal.at.returns-in-Err-clause-arena_after c).After-ahead) c.in-Err.is) refl
 
 pub zero_blocks-requires : goal.zero_blocks-requires
 zero_blocks-requires c =
     let at = goal.at.zero_blocks-requires c in
-    let f = fits at.In-Store (clear at.After-place_service) in
+    let f = fits at.In-Ok (clear at.After-place_service) in
     (f.grows, omega arith)
 
 pub overflow_cast-depth : goal.overflow_cast-depth
 overflow_cast-depth c =
     let at = goal.at.overflow_cast-depth c in
-    let f = fits at.In-Store (clear at.After-place_service) in
+    let f = fits at.In-Ok (clear at.After-place_service) in
     omega arith
 
 pub next_record-requires : goal.next_record-requires
@@ -65,26 +66,26 @@ next_record-requires c = (clear (goal.at.next_record-requires c).After-place_ser
 pub grow-requires : goal.grow-requires
 grow-requires c = (clear (goal.at.grow-requires c).After-place_service).free
 
-pub returns-in-Refused-place_service-clause-value : goal.returns-in-Refused-place_service-clause-value
-returns-in-Refused-place_service-clause-value c =
-    let at = goal.at.returns-in-Refused-place_service-clause-value c in
-    c.refuse-in-Refused-place_service.ensures
-    ∙ service-refused _ _ _ _ _ _ (told at.After-ahead) c.in_default.is (placed at.After-place_service c.in-Refused-place_service.is)
+pub returns-in-Err-place_service-clause-value : goal.returns-in-Err-place_service-clause-value
+returns-in-Err-place_service-clause-value c =
+    let at = goal.at.returns-in-Err-place_service-clause-value c in
+    c.refuse-in-Err-place_service.ensures
+    ∙ service-refused _ _ _ _ _ _ (told at.After-ahead) c.in_default.is (placed at.After-place_service c.in-Err-place_service.is)
 
-pub returns-in-Refused-place_service-clause-arena_after : goal.returns-in-Refused-place_service-clause-arena_after
-returns-in-Refused-place_service-clause-arena_after c =
-    let at = goal.at.returns-in-Refused-place_service-clause-arena_after c in
+pub returns-in-Err-place_service-clause-arena_after : goal.returns-in-Err-place_service-clause-arena_after
+returns-in-Err-place_service-clause-arena_after c =
+    let at = goal.at.returns-in-Err-place_service-clause-arena_after c in
     arena-kept _ _
-    (service-refused _ _ _ _ _ _ (told at.After-ahead) c.in_default.is (placed at.After-place_service c.in-Refused-place_service.is)) refl
+    (service-refused _ _ _ _ _ _ (told at.After-ahead) c.in_default.is (placed at.After-place_service c.in-Err-place_service.is)) refl
 
-pub returns-in-Store-clause-value : goal.returns-in-Store-clause-value
-returns-in-Store-clause-value c =
-    let at = goal.at.returns-in-Store-clause-value c in
+pub returns-in-Ok-clause-value : goal.returns-in-Ok-clause-value
+returns-in-Ok-clause-value c =
+    let at = goal.at.returns-in-Ok-clause-value c in
     grew c.args.self _ _ c.grow.ensures c.next_record.ensures
-    ∙ service-stored _ _ _ _ _ _ (told at.After-ahead) c.in_default.is (placed at.After-place_service c.in-Store.is)
+    ∙ service-stored _ _ _ _ _ _ (told at.After-ahead) c.in_default.is (placed at.After-place_service c.in-Ok.is)
 
-pub returns-in-Store-clause-arena_after : goal.returns-in-Store-clause-arena_after
-returns-in-Store-clause-arena_after c =
-    let at = goal.at.returns-in-Store-clause-arena_after c in
+pub returns-in-Ok-clause-arena_after : goal.returns-in-Ok-clause-arena_after
+returns-in-Ok-clause-arena_after c =
+    let at = goal.at.returns-in-Ok-clause-arena_after c in
     c.zero_blocks.ensures
-    ∙ arena-after _ _ (service-stored _ _ _ _ _ _ (told at.After-ahead) c.in_default.is (placed at.After-place_service c.in-Store.is))
+    ∙ arena-after _ _ (service-stored _ _ _ _ _ _ (told at.After-ahead) c.in_default.is (placed at.After-place_service c.in-Ok.is))

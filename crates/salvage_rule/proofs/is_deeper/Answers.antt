@@ -1,8 +1,0 @@
-use borrow.Author.Rules.{rules}
-use Rattle.salvage_rule.proofs.is_deeper.Goals as goal
-
-pub returns-in-Area : goal.returns-in-Area
-returns-in-Area c = rw (c.in-Below.is, c.in-Area.is)
-
-pub returns-in-Service : goal.returns-in-Service
-returns-in-Service c = rw (c.in-Below.is, c.in-Service.is)
