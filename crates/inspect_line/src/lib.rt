@@ -157,10 +157,12 @@ fn question_line(
     let lines = replay_line::one_more(replay.lines);
     let lent = inspect.lent;
     let room = inspect.room;
+    // ahead of the answer: behind it the card would be copied once more
+    let counted = numbered_to(replay, lines);
     let last = put_question(question, card, arena, lent, room, lines, line, out, at);
     Looked {
         inspect: Inspect {
-            replay: numbered_to(replay, lines),
+            replay: counted,
             room: room_after(question, room),
             lent: lent_after(question, lent),
         },

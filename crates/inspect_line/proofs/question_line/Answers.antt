@@ -8,6 +8,6 @@ returns c =
     let a = c.args in
     let e = c.one_more-lines.ensures in
     record {
-      arena_value = question_seen_lem a.inspect a.question a.arena.now e c.numbered_to.ensures c.room_after.ensures c.lent_after.ensures;
+      arena_value = question_seen_lem a.inspect a.question a.arena.now e c.numbered_to-counted.ensures c.room_after.ensures c.lent_after.ensures;
       written = rw e at c.put_question-last.ensures;
     }
