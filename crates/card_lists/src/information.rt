@@ -118,6 +118,9 @@ pub fn put_block_information(
     ensures out_after { out.new ≡ blocks_out card (length arena.now) asked.now out.old }
 {
     let told = block_information(card, arena, asked);
-    told.answer?;
-    information::put_information(told.told, out)
+    // no `?`, which has no arm that a wrong program could change
+    match told.answer {
+        Err(refusal) => Err(refusal),
+        Ok(()) => information::put_information(told.told, out),
+    }
 }

@@ -77,6 +77,9 @@ pub fn put_code_list(card: Card, parent: u16, packet: u32, out: &mut [u8]) -> Re
     ensures out_after { out.new ≡ code_list_out card parent packet out.old }
 {
     let asked = code_list(card, parent, packet);
-    asked.answer?;
-    code_list::put_code_list(asked.list, out)
+    // no `?`, which has no arm that a wrong program could change
+    match asked.answer {
+        Err(refusal) => Err(refusal),
+        Ok(()) => code_list::put_code_list(asked.list, out),
+    }
 }
