@@ -81,9 +81,9 @@ fn element_by(
         ServiceAttribute::PurseDecrement => {
             purse_in(store, block, PurseOperation::Decrement, limit, number)
         }
-        ServiceAttribute::RandomReadOnly
-        | ServiceAttribute::CyclicReadOnly
-        | ServiceAttribute::PurseReadOnly => Err(Fault::ReadOnly),
+        // an arm of its own, so that a wrong program can change it alone
+        ServiceAttribute::RandomReadOnly => Err(Fault::ReadOnly),
+        ServiceAttribute::CyclicReadOnly | ServiceAttribute::PurseReadOnly => Err(Fault::ReadOnly),
     }
 }
 

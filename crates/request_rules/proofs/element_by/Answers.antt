@@ -1,7 +1,6 @@
 -- `rules::element_by` meets its contract: each attribute is a case of the rule. Assumes nothing.
 use mathlib.Core.Path.{refl, sym}
 use mathlib.Core.Logic.{inl, inr}
-use borrow.Author.Rules.{rules}
 use Rattle.request_rules.specs.Rules.{element_by}
 use Rattle.request_rules.proofs.Lent.{cyclic_ends}
 use Rattle.request_rules.proofs.element_by.Goals as goal
@@ -30,10 +29,11 @@ returns-in-PurseDecrement c = rw c.in-PurseDecrement.is c.purse_in-in-PurseDecre
 
 pub returns-in-RandomReadOnly : goal.returns-in-RandomReadOnly
 unfolding element_by
-returns-in-RandomReadOnly c = elim c.in-RandomReadOnly.is [
+returns-in-RandomReadOnly c = rw c.in-RandomReadOnly.is (record { value = refl; store_after = refl })
+
+pub returns-in-CyclicReadOnly : goal.returns-in-CyclicReadOnly
+unfolding element_by
+returns-in-CyclicReadOnly c = elim c.in-CyclicReadOnly.is [
   | inl e ↦ rw e (record { value = refl; store_after = refl })
-  | inr o ↦ elim o [
-    | inl e ↦ rw e (record { value = refl; store_after = refl })
-    | inr e ↦ rw e (record { value = refl; store_after = refl })
-  ]
+  | inr e ↦ rw e (record { value = refl; store_after = refl })
 ]
