@@ -57,12 +57,12 @@ pub fn judge_area(
 ) -> Result<(), Refusal>
     ensures { result ≡ area_judged (take count nodes) depth code end }
 {
-    let taken = count::records(&nodes, count);
+    let nodes = count::records(&nodes, count);
     // 21
-    let Some(parent) = parent_at(taken, depth) else {
+    let Some(parent) = parent_at(nodes, depth) else {
         return Err(Refusal::NoParent);
     };
-    let above = taken[parent];
+    let above = nodes[parent];
     card_admit::area_under(above, code, end)
 }
 
@@ -110,6 +110,7 @@ pub fn place_service(
         return Err(Refusal::NoParent);
     };
     let above = taken[p];
-    let first = first_of(taken, code);
+    // lent again, so that a wrong program can change either search alone
+    let first = first_of(count::records(&nodes, count), code);
     given_under(above, first, join, used, arena_len, code, blocks)
 }
