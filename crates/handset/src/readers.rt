@@ -47,7 +47,9 @@ fn fill(numbers: &[u16], n: usize, to: &mut [u16])
     requires { (n ≤ length numbers.now) × (n ≤ length to.old) }
     ensures { to.new ≡ put to.old 0 n numbers.now }
 {
-    to[0..n].copy_from_slice(&numbers[0..n]);
+    for i in 0..n {
+        to[i] = numbers[i];
+    }
 }
 
 // Reads a code list. Code and end of each area go to the front of `areas`, the codes of the services to the front of `services`;

@@ -1,23 +1,30 @@
--- The part that comes back holds the first n numbers.
-use Rattle.std.proofs.Common.{◌≡◌, ◌∙◌, ◌+◌, ◌-◌, ◌≤◌, ℕ, List, length, take, drop, arith}
-use lib.Seq.{length-take-le}
-use borrow.Rule.Slice.PartMut.{put_mid}
+-- After i turns i numbers stand in front.
+use Prim.Native.Nat.{ℕ, ◌+◌, ◌<◌}
+use native.Mathlib.Nat.{zero-add}
+use native.Mathlib.Omega.{arith}
+use mathlib.Core.Path.{◌≡◌, refl, sym}
+use mathlib.Core.List.{List}
+use lib.ListN.{length, set, get_or, length-set}
 use Rattle.byte_parts.specs.Part.{put}
-use Rattle.byte_parts.proofs.Part.{put_lent, put-take}
+use Rattle.byte_parts.proofs.Part.{put_zero}
+use Rattle.byte_parts.proofs.Put.{put_next}
 use Rattle.handset.proofs.readers.fill.Goals as goal
 
--- nothing less
-less_nothing : (n : ℕ) → n - 0 ≡ n
-less_nothing n = omega arith
+-- One number more, if it is the next one.
+one_more : (d s to : List ℕ) (i : ℕ) {j : ℕ} → i < length s → to ≡ put d 0 i s → j ≡ i → set to j (get_or s j 0) ≡ put d 0 (i + 1) s
+one_more d s to i h k e =
+    let n = rw (zero-add i) at (put_next d 0 s i (get_or s i 0) h refl) in
+    rw (e, k) n
 
--- What a copy to the front of a list leaves in the whole.
-filled : (d s ys : List ℕ) (n : ℕ) → n ≤ length d → n ≤ length s → ys ≡ take (n - 0) s → put_mid 0 (n - 0) d ys ≡ put d 0 n s
-filled d s ys n hd hs e =
-    let f : ys ≡ take n s = rw (less_nothing n) at e in
-    let k : 0 + n - 0 ≡ n = omega arith in
-    rw (less_nothing n) (rw k at (put_lent d 0 n ys (omega arith) (rw f (length-take-le n s hs))) ∙ rw f (put-take d 0 n s))
+pub loop-i-init : goal.loop-i-init
+loop-i-init c = (omega arith, sym (put_zero _ _ _), refl)
+
+pub loop-i-preserved : goal.loop-i-preserved
+loop-i-preserved c =
+    let a = c.args in
+    (omega arith, one_more _ a.numbers.now _ c.loop-i.i (omega arith) c.loop-i.invariant.1 (omega arith), simp length-set (omega arith))
 
 pub returns : goal.returns
 returns c =
-    let a = c.args in
-    filled a.to.now a.numbers.now _ a.n (omega arith) (omega arith) c.copy_from_slice.ensures.after
+    let e : c.loop-i.i ≡ c.args.n = omega arith in
+    rw e at c.loop-i.invariant.1
