@@ -57,7 +57,8 @@ fn minus(k: u32) -> i32
 fn positive_of(n: Option<u32>) -> Option<i32>
     ensures { result ≡ positive n }
 {
-    i32::try_from(n?).ok()
+    let k = n?;
+    i32::try_from(k).ok()
 }
 
 // Gives the negative of what was read after a sign, if 32 bits hold it. Of 0 there is none: `-0` is malformed.
