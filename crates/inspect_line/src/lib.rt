@@ -157,7 +157,7 @@ fn question_line(
     let lines = replay_line::one_more(replay.lines);
     let lent = inspect.lent;
     let room = inspect.room;
-    // ahead of the answer: behind it the card would be copied once more
+    // ahead of the answer: behind it its place would be zeroed first, and the card copied twice more
     let counted = numbered_to(replay, lines);
     let last = put_question(question, card, arena, lent, room, lines, line, out, at);
     Looked {
